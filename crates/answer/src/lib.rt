@@ -1,0 +1,100 @@
+// The answers of the calls: a finding, or a refusal with its number and places.
+ghost use mathlib.Core.Path.{_≡_};
+ghost use Rattle.answer.specs.Answer.{placed, refusalAt};
+
+// A refusal: the number of the question that was answered no, and two places, zero unless named.
+pub struct Refusal {
+    pub number: u16,
+    pub first: usize,
+    pub second: usize,
+}
+
+// The questions of document 01.
+impl Refusal {
+    pub const IMAGE_SIZE: u16 = 1;
+
+    pub const COUNTS: u16 = 2;
+
+    pub const DIRECTORY: u16 = 3;
+
+    pub const INITIAL: u16 = 4;
+
+    pub const GOAL: u16 = 5;
+
+    pub const BLOCK_COUNTS: u16 = 6;
+
+    pub const BLOCK_LITERALS: u16 = 7;
+
+    pub const CLAUSE_WORDS: u16 = 8;
+
+    pub const CLAUSE_ROW: u16 = 9;
+
+    pub const CLAUSE_FALSE: u16 = 10;
+
+    pub const CLAUSE_NOT_KEPT: u16 = 11;
+
+    pub const LIMITS: u16 = 12;
+
+    pub const BUFFERS: u16 = 13;
+
+    pub const OUT_OF_ROWS: u16 = 14;
+
+    pub const OUT_OF_ROUNDS: u16 = 15;
+
+    pub const TARGET: u16 = 16;
+
+    pub const FDR_IMAGE: u16 = 17;
+
+    pub const STATE: u16 = 18;
+
+    pub const OPERATOR_NUMBER: u16 = 19;
+
+    pub const PRECONDITION: u16 = 20;
+
+    pub const CONFLICT: u16 = 21;
+
+    pub const OMITTED_NONE: u16 = 22;
+
+    pub const NOT_CODABLE: u16 = 23;
+
+    // A refusal with both places zero.
+    pub fn of(number: u16) -> Refusal
+        ensures { λ r. ⌜ placed r ≡ refusalAt number 0 0 ⌝ }
+    {
+        Refusal {
+            number: number,
+            first: 0,
+            second: 0,
+        }
+    }
+
+    // A refusal at a first place.
+    pub fn at(number: u16, first: usize) -> Refusal
+        ensures { λ r. ⌜ placed r ≡ refusalAt number first 0 ⌝ }
+    {
+        Refusal {
+            number: number,
+            first: first,
+            second: 0,
+        }
+    }
+}
+
+// The answer of a call whose finding holds nothing.
+pub enum Verdict {
+    Fine,
+    Refused(Refusal),
+}
+
+// The answer of a test: whether something holds.
+pub enum Tested {
+    Holds,
+    Fails,
+    Refused(Refusal),
+}
+
+// The answer of a call whose finding is a number: steps, variables or words.
+pub enum Counted {
+    Count(usize),
+    Refused(Refusal),
+}

@@ -1,0 +1,58 @@
+-- Two kinds of steps that answer alike in related states do so for every list of numbers. Assumes nothing.
+use mathlib.Core.List.{List, [], _∷_}
+use mathlib.Core.Path.{_≡_, refl, ap}
+use Prim.Native.Nat.{ℕ, suc}
+use Rattle.definitions.specs.Answer.{Refusal, Answer, finding, refused, verdict, outcome, stateAfter}
+use Rattle.definitions.specs.StepLists.{runFrom, refusedAfter, walk, verdicts}
+
+module _ (next : List ℕ → ℕ → Answer (List ℕ)) (s : List ℕ) (k i : ℕ) (is : List ℕ) where
+  pub run-found : (s′ : List ℕ) → next s i ≡ finding s′ → runFrom next s k (i ∷ is) ≡ runFrom next s′ (suc k) is
+  unfolding runFrom outcome
+  run-found s′ e = rw (e, runFrom)
+
+  pub run-refused : (r : Refusal) → next s i ≡ refused r → runFrom next s k (i ∷ is) ≡ outcome (refused (refusedAfter k r)) s
+  unfolding runFrom outcome
+  run-refused r e = rw (e, runFrom)
+
+-- R relates the states of the two
+module _ (R : List ℕ → List ℕ → Type 0) where
+  pub data Alike : Answer (List ℕ) → Answer (List ℕ) → Type 0 where
+    both-found : {s v : List ℕ} → R s v → Alike (finding s) (finding v)
+    both-refused : (r : Refusal) → Alike (refused r) (refused r)
+
+  alike-verdict : {a b : Answer (List ℕ)} → Alike a b → verdict a ≡ verdict b
+  unfolding verdict
+  alike-verdict (both-found x) = refl
+  alike-verdict (both-refused r) = refl
+
+  alike-state : {s v : List ℕ} {a b : Answer (List ℕ)} → R s v → Alike a b → R (stateAfter s a) (stateAfter v b)
+  unfolding stateAfter
+  alike-state x (both-found y) = y
+  alike-state x (both-refused r) = x
+
+  module _ (f g : List ℕ → ℕ → Answer (List ℕ)) (alike : (s v : List ℕ) → R s v → (i : ℕ) → Alike (f s i) (g v i)) where
+    pub walk-alike : (is s v : List ℕ) → R s v → R (walk f s is) (walk g v is)
+    unfolding walk
+    walk-alike [] s v x = x
+    walk-alike (i ∷ is) s v x = walk-alike is (stateAfter s (f s i)) (stateAfter v (g v i)) (alike-state x (alike s v x i))
+
+    pub verdicts-alike : (is s v : List ℕ) → R s v → verdicts f s is ≡ verdicts g v is
+    unfolding verdicts
+    verdicts-alike [] s v x = refl
+    verdicts-alike (i ∷ is) s v x =
+        rw (
+          alike-verdict (alike s v x i),
+          verdicts-alike is (stateAfter s (f s i)) (stateAfter v (g v i)) (alike-state x (alike s v x i)),
+        )
+
+    -- list runs: the same answer, and related states
+    pub run-alike : (is s v : List ℕ) (k : ℕ) → R s v → (runFrom f s k is .answer ≡ runFrom g v k is .answer) × R (runFrom f s k is .lent) (runFrom g v k is .lent)
+    unfolding runFrom outcome
+    run-alike [] s v k x = (refl, x)
+    run-alike (i ∷ is) s v k x = go (alike s v x i) refl refl (λ s v x. run-alike is s v (suc k) x)
+      where
+        go : {a b : Answer (List ℕ)} → Alike a b → f s i ≡ a → g v i ≡ b
+            → ((s v : List ℕ) → R s v → (runFrom f s (suc k) is .answer ≡ runFrom g v (suc k) is .answer) × R (runFrom f s (suc k) is .lent) (runFrom g v (suc k) is .lent))
+            → (runFrom f s k (i ∷ is) .answer ≡ runFrom g v k (i ∷ is) .answer) × R (runFrom f s k (i ∷ is) .lent) (runFrom g v k (i ∷ is) .lent)
+        go (both-found {s = s′} {v = v′} y) p q rec = rw (run-found f s k i is s′ p, run-found g v k i is v′ q) (rec s′ v′ y)
+        go (both-refused r) p q rec = rw (run-refused f s k i is r p, run-refused g v k i is r q) (refl, x)

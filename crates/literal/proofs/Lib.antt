@@ -1,0 +1,2 @@
+pub mod Ascends
+pub mod Complement
