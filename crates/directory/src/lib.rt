@@ -1,0 +1,35 @@
+// The directory of an image: pairs (offset, length) that name its parts.
+ghost use mathlib.Core.Path.{_≡_};
+ghost use Prim.Native.Nat.{_≤_};
+ghost use Rattle.definitions.specs.Image.{directory, part};
+ghost use Rattle.directory.specs.Directory.{Lies};
+
+// Whether the image has a right directory of `pairs` pairs.
+pub fn is_directory(image: &[u16], pairs: usize) -> bool
+    requires { ⌜ pairs ≤ 1028 ⌝ }
+    ensures { λ r. ⌜ r ≡ directory (now (image .entry)) pairs ⌝ }
+{
+    let mut at = 2 + 2 * pairs;
+    if image.len() < at {
+        return false;
+    }
+    let mut i: usize = 0;
+    while i < pairs {
+        if literal::wide(image[2 + 2 * i]) != at {
+            return false;
+        }
+        at = at + literal::wide(image[3 + 2 * i]);
+        i += 1;
+    }
+    at == image.len()
+}
+
+// The part that pair `i` names.
+pub fn part(image: &[u16], i: usize) -> &[u16]
+    requires { ⌜ Lies (now image) i ⌝ }
+    ensures { λ r. ⌜ now r ≡ part (now (image .entry)) i ⌝ }
+{
+    let start = literal::wide(image[2 + 2 * i]);
+    let end = start + literal::wide(image[3 + 2 * i]);
+    &image[start..end]
+}
