@@ -1,6 +1,7 @@
 // The answers of the calls: a finding, or a refusal with its number and places.
 ghost use mathlib.Core.Path.{_≡_};
-ghost use Rattle.answer.specs.Answer.{placed, refusalAt};
+ghost use Rattle.definitions.specs.Answer.{refused};
+ghost use Rattle.answer.specs.Answer.{refusalAt, verdictAnswer};
 
 // A refusal: the number of the question that was answered no, and two places, zero unless named.
 pub struct Refusal {
@@ -56,28 +57,6 @@ impl Refusal {
     pub const OMITTED_NONE: u16 = 22;
 
     pub const NOT_CODABLE: u16 = 23;
-
-    // A refusal with both places zero.
-    pub fn of(number: u16) -> Refusal
-        ensures { λ r. ⌜ placed r ≡ refusalAt number 0 0 ⌝ }
-    {
-        Refusal {
-            number: number,
-            first: 0,
-            second: 0,
-        }
-    }
-
-    // A refusal at a first place.
-    pub fn at(number: u16, first: usize) -> Refusal
-        ensures { λ r. ⌜ placed r ≡ refusalAt number first 0 ⌝ }
-    {
-        Refusal {
-            number: number,
-            first: first,
-            second: 0,
-        }
-    }
 }
 
 // The answer of a call whose finding holds nothing.
@@ -97,4 +76,22 @@ pub enum Tested {
 pub enum Counted {
     Count(usize),
     Refused(Refusal),
+}
+
+// The refusal of a question, with both places zero.
+pub fn refuse(number: u16) -> Verdict
+    ensures { λ r. ⌜ verdictAnswer r ≡ refused (refusalAt number 0 0) ⌝ }
+{
+    refuse_at(number, 0)
+}
+
+// The refusal of a question at a first place.
+pub fn refuse_at(number: u16, first: usize) -> Verdict
+    ensures { λ r. ⌜ verdictAnswer r ≡ refused (refusalAt number first 0) ⌝ }
+{
+    Verdict::Refused(Refusal {
+        number: number,
+        first: first,
+        second: 0,
+    })
 }

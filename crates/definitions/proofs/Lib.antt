@@ -1,6 +1,7 @@
 pub mod Examples
 pub mod Checks
 pub mod ListLaws
+pub mod Walks
 pub mod LiteralLaws
 pub mod ClosureSound
 pub mod ClosureLeast

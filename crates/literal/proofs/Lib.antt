@@ -1,2 +1,3 @@
 pub mod Ascends
 pub mod Complement
+pub mod Truth

@@ -2,8 +2,9 @@
 ghost use mathlib.Core.Path.{_≡_};
 ghost use mathlib.Core.Bool.{_&&_};
 ghost use Prim.Native.Nat.{_<_, _≤_};
+ghost use lib.ListN.{getD};
 ghost use Rattle.definitions.specs.Lists.{ascending};
-ghost use Rattle.definitions.specs.Literal.{complement, allBelow, literalList};
+ghost use Rattle.definitions.specs.Literal.{complement, allBelow, literalList, trueIn, allTrue};
 ghost use Rattle.literal.specs.Literal.{literalOf};
 
 // A literal: twice its atom if the atom is true, one more if it is false.
@@ -85,6 +86,36 @@ pub fn is_literal_list(words: &[u16], atoms: usize) -> bool
             return false;
         }
         from = x / 2 * 2 + 2;
+        i += 1;
+    }
+    true
+}
+
+// The byte of an atom in a state, zero for an atom outside it.
+fn value(state: &[u8], atom: usize) -> u8
+    ensures { λ r. ⌜ r ≡ getD (now (state .entry)) atom 0 ⌝ }
+{
+    if atom < state.len() { state[atom] } else { 0 }
+}
+
+// Whether a literal is true in a state.
+pub fn is_true(state: &[u8], l: usize) -> bool
+    ensures { λ r. ⌜ r ≡ trueIn (now (state .entry)) l ⌝ }
+{
+    let x = value(state, l / 2);
+    if l % 2 == 0 { x == 1 } else { x == 0 }
+}
+
+// Whether all literals of a list are true in a state.
+pub fn all_true(state: &[u8], literals: &[u16]) -> bool
+    ensures { λ r. ⌜ r ≡ allTrue (now (state .entry)) (now (literals .entry)) ⌝ }
+{
+    let mut i: usize = 0;
+    while i < literals.len() {
+        let holds = is_true(state, wide(literals[i]));
+        if !holds {
+            return false;
+        }
         i += 1;
     }
     true
