@@ -1,0 +1,122 @@
+// The block of one operator: its precondition, then its effect rows.
+ghost use mathlib.Core.Path.{_≡_};
+ghost use mathlib.Core.Bool.{true, _&&_};
+ghost use Prim.Native.Nat.{_+_, _-_, _≤_, _<_};
+ghost use lib.ListN.{length, take, drop};
+ghost use Rattle.definitions.specs.Answer.{verdict};
+ghost use Rattle.definitions.specs.Image.{rowRight, rowsOf, readOperator};
+ghost use Rattle.answer.specs.Answer.{verdictAnswer};
+ghost use Rattle.task.specs.Walk.{row, rowsVerdict, blockParses, operatorIn, parsesAt};
+ghost use Rattle.task.specs.Post.{RowRead, BlockRead};
+
+fn both(a: bool, b: bool) -> bool
+    ensures { λ r. ⌜ r ≡ (a && b) ⌝ }
+{
+    if a { b } else { false }
+}
+
+fn is_row(effect: usize, conditions: &[u16], n: usize) -> bool
+    requires { ⌜ n ≤ 1024 ⌝ }
+    ensures { λ r. ⌜ r ≡ rowRight n (row effect (now (conditions .entry))) ⌝ }
+{
+    if 2 * n <= effect {
+        return false;
+    }
+    literal::is_literal_list(conditions, n)
+}
+
+// Questions 6 and 7 of operator `i`, whose `rows` rows begin at `from`, where `precondition` says whether its precondition is right.
+fn check_rows(
+    block: &[u16],
+    from: usize,
+    rows: usize,
+    precondition: bool,
+    n: usize,
+    i: usize,
+) -> answer::Verdict
+    requires { ⌜ (n ≤ 1024) × (from ≤ length (now block)) ⌝ }
+    ensures { λ r. ⌜ verdictAnswer r ≡ rowsVerdict n i precondition (rowsOf rows (drop from (now (block .entry)))) ⌝ }
+{
+    let mut at = from;
+    let mut left = rows;
+    let mut right = precondition;
+    while 0 < left {
+        if block.len() - at < 2 {
+            return answer::refuse_at(answer::Refusal::BLOCK_COUNTS, i);
+        }
+        let effect = literal::wide(block[at]);
+        let count = literal::wide(block[at + 1]);
+        let start = at + 2;
+        if block.len() - start < count {
+            return answer::refuse_at(answer::Refusal::BLOCK_COUNTS, i);
+        }
+        let end = start + count;
+        let ok = is_row(effect, &block[start..end], n);
+        right = both(right, ok);
+        at = end;
+        left -= 1;
+    }
+    if at < block.len() {
+        return answer::refuse_at(answer::Refusal::BLOCK_COUNTS, i);
+    }
+    if right {
+        answer::Verdict::Fine
+    } else {
+        answer::refuse_at(answer::Refusal::BLOCK_LITERALS, i)
+    }
+}
+
+// Questions 6 and 7 of operator `i`, by its block, in a task of `n` atoms.
+pub fn check(block: &[u16], n: usize, i: usize) -> answer::Verdict
+    requires { ⌜ n ≤ 1024 ⌝ }
+    ensures { λ r. ⌜ verdictAnswer r ≡ verdict (readOperator n i (now (block .entry))) ⌝ }
+{
+    if block.len() < 1 {
+        return answer::refuse_at(answer::Refusal::BLOCK_COUNTS, i);
+    }
+    let count = literal::wide(block[0]);
+    let end = count + 1;
+    if block.len() <= end {
+        return answer::refuse_at(answer::Refusal::BLOCK_COUNTS, i);
+    }
+    let precondition = literal::is_literal_list(&block[1..end], n);
+    let rows = literal::wide(block[end]);
+    check_rows(block, end + 1, rows, precondition, n, i)
+}
+
+// Where the precondition of a block ends, and its number of rows, which begin behind the word at that end.
+pub struct BlockHead {
+    pub end: usize,
+    pub rows: usize,
+}
+
+pub fn head(block: &[u16]) -> BlockHead
+    requires { ⌜ blockParses (now block) ≡ true ⌝ }
+    ensures { λ r. ⌜ BlockRead (now (block .entry)) (operatorIn (now (block .entry))) (r .end) (r .rows) ⌝ }
+{
+    let end = literal::wide(block[0]) + 1;
+    BlockHead {
+        end: end,
+        rows: literal::wide(block[end]),
+    }
+}
+
+// A row of a block: its effect, and where its conditions begin and end. The next row begins at their end.
+pub struct RowPart {
+    pub effect: usize,
+    pub from: usize,
+    pub end: usize,
+}
+
+// The row at `at`, where `left` rows are left.
+pub fn row(block: &[u16], at: usize, left: usize) -> RowPart
+    requires { ⌜ (parsesAt (now block) at left ≡ true) × (0 < left) ⌝ }
+    ensures { λ r. ⌜ RowRead (now (block .entry)) at left (r .effect) (r .from) (r .end) ⌝ }
+{
+    let from = at + 2;
+    RowPart {
+        effect: literal::wide(block[at]),
+        from: from,
+        end: from + literal::wide(block[at + 1]),
+    }
+}
