@@ -45,6 +45,14 @@ pub positive-odd : (a : ℕ) → positive (2 * a + 1) ≡ false
 unfolding positive
 positive-odd a = ne-eqb ((2 * a + 1) % 2) 0 (omega arith)
 
+pub complement-even : (a : ℕ) → complement (2 * a) ≡ 2 * a + 1
+unfolding complement
+complement-even a = rw (positive-even a, complement)
+
+pub complement-odd : (a : ℕ) → complement (2 * a + 1) ≡ 2 * a
+unfolding complement
+complement-odd a = rw (positive-odd a, complement) (omega arith)
+
 -- 2a is true exactly if atom a is 1, 2a+1 if it is 0
 pub true-even : (s : List ℕ) (a : ℕ) → trueIn s (2 * a) ≡ eqb (getD s a 0) 1
 unfolding trueIn

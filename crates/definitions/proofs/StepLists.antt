@@ -1,8 +1,12 @@
--- Two kinds of steps that answer alike in related states do so for every list of numbers. Assumes nothing.
+-- List runs by their steps, and: two kinds of steps that answer alike in related states do so for every list of numbers. Assumes nothing.
 use mathlib.Core.List.{List, [], _∷_}
-use mathlib.Core.Path.{_≡_, refl, ap}
-use Prim.Native.Nat.{ℕ, suc}
-use Rattle.definitions.specs.Answer.{Refusal, Answer, finding, refused, verdict, outcome, stateAfter}
+use mathlib.Core.Path.{_≡_, refl, sym, ap, _∙_}
+use Prim.Native.Nat.{ℕ, suc, _+_, _≤_, _<_}
+use native.Mathlib.Numerals.{add-one}
+use native.Mathlib.Omega.{arith}
+use lib.ListN.{length, getD, drop, drop-of-length-le}
+use lib.Seq.{drop-cons}
+use Rattle.definitions.specs.Answer.{Refusal, Answer, finding, refused, verdict, Outcome, outcome, stateAfter, becomes}
 use Rattle.definitions.specs.StepLists.{runFrom, refusedAfter, walk, verdicts}
 
 module _ (next : List ℕ → ℕ → Answer (List ℕ)) (s : List ℕ) (k i : ℕ) (is : List ℕ) where
@@ -56,3 +60,38 @@ module _ (R : List ℕ → List ℕ → Type 0) where
             → (runFrom f s k (i ∷ is) .answer ≡ runFrom g v k (i ∷ is) .answer) × R (runFrom f s k (i ∷ is) .lent) (runFrom g v k (i ∷ is) .lent)
         go (both-found {s = s′} {v = v′} y) p q rec = rw (run-found f s k i is s′ p, run-found g v k i is v′ q) (rec s′ v′ y)
         go (both-refused r) p q rec = rw (run-refused f s k i is r p, run-refused g v k i is r q) (refl, x)
+
+-- no refusal is a finding
+refused-found : {A : Type 0} (r : Refusal) (a : A) → _≡_ {A = Answer A} (refused r) (finding a) → ⊥
+refused-found r a e = let z : _≡_ {A = ℕ} 0 1 = cc in omega arith
+
+-- ---- the walk of a list run, by the outcome of its next step
+module _ (next : List ℕ → ℕ → Answer (List ℕ)) (s s′ : List ℕ) (k i o : ℕ) (os : List ℕ) (inside : i < length os) (eo : o ≡ getD os i 0) where
+  at-step : runFrom next s k (drop i os) ≡ runFrom next s k (o ∷ drop (i + 1) os)
+  at-step = rw (add-one, drop-cons os i 0 inside, ← eo)
+
+  pub run-on : outcome (finding tt) s′ ≡ becomes s (next s o) → runFrom next s k (drop i os) ≡ runFrom next s′ (k + 1) (drop (i + 1) os)
+  unfolding outcome becomes runFrom verdict stateAfter
+  run-on e = at-step ∙ go (next s o) refl e
+    where
+      go : (a : Answer (List ℕ)) → next s o ≡ a → outcome (finding tt) s′ ≡ becomes s a → runFrom next s k (o ∷ drop (i + 1) os) ≡ runFrom next s′ (k + 1) (drop (i + 1) os)
+      go (finding v) ea e =
+          let es : s′ ≡ v = ap (λ (x : Outcome (Unit {0})). x .lent) e in
+          rw (ea, runFrom, es, add-one k)
+      go (refused r) ea e = absurd (refused-found r tt (sym (ap (λ (x : Outcome (Unit {0})). x .answer) e)))
+
+  pub run-stop : (r : Refusal) → outcome (refused r) s′ ≡ becomes s (next s o) → outcome (refused (refusedAfter k r)) s′ ≡ runFrom next s k (drop i os)
+  unfolding outcome becomes runFrom verdict stateAfter
+  run-stop r e = go (next s o) refl e ∙ sym at-step
+    where
+      go : (a : Answer (List ℕ)) → next s o ≡ a → outcome (refused r) s′ ≡ becomes s a → outcome (refused (refusedAfter k r)) s′ ≡ runFrom next s k (o ∷ drop (i + 1) os)
+      go (finding v) ea e = absurd (refused-found r tt (ap (λ (x : Outcome (Unit {0})). x .answer) e))
+      go (refused q) ea e =
+          let es : s′ ≡ s = ap (λ (x : Outcome (Unit {0})). x .lent) e in
+          let z : _≡_ {A = Answer (Unit {0})} (refused r) (refused q) = ap (λ (x : Outcome (Unit {0})). x .answer) e in
+          let er : r ≡ q = cc in
+          rw (ea, runFrom, es, er)
+
+pub run-end : (next : List ℕ → ℕ → Answer (List ℕ)) (s : List ℕ) (k : ℕ) (os : List ℕ) (i : ℕ) → length os ≤ i → outcome (finding k) s ≡ runFrom next s k (drop i os)
+unfolding runFrom
+run-end next s k os i h = rw (drop-of-length-le os {i = i} h)

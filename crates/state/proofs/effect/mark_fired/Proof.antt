@@ -1,0 +1,98 @@
+-- `state::effect::mark_fired`: the marks of all rows are those of the rows that are left, added to the marks so far.
+use Prim.Native.Nat.{ℕ}
+use mathlib.Core.Path.{_≡_, refl, sym, ap, _∙_}
+use mathlib.Core.Bool.{true}
+use mathlib.Core.List.{List}
+use native.Mathlib.Omega.{arith}
+use lib.ListN.{length}
+use Rattle.definitions.specs.Image.{Row}
+use Rattle.definitions.specs.Step.{fires}
+use Rattle.task.specs.Walk.{operatorIn, parsesAt, rowsAt}
+use Rattle.task.proofs.Blocks.{rows-none}
+use Rattle.state.specs.Marks.{markFired}
+use Rattle.state.proofs.Marks.{fired-turn, fired-end}
+use borrow.Author.Needs.{needs}
+use Rattle.state.proofs.effect.mark_fired.Statement.{statement}
+use Rattle.state.proofs.effect.mark_fired.Tie as tie
+
+abbrev Inv-loop : tie.InvT-loop
+Inv-loop block state marks₀ at₀ left₀ marks at left = (length marks ≡ length marks₀) × ((parsesAt block at left ≡ true) × (markFired state (operatorIn block .rows) marks₀ ≡ markFired state (rowsAt block at left) marks))
+
+abbrev μ-loop : tie.MeasureT-loop
+μ-loop block state marks₀ at₀ left₀ marks at left = left
+
+head-requires : tie.Need-head-requires Inv-loop μ-loop
+head-requires c κs = search needs
+
+add-at : tie.Need-add-at Inv-loop μ-loop
+add-at c = search needs
+
+loop-holds : tie.Need-loop-holds Inv-loop μ-loop
+loop-holds c =
+    let h = c .before .head .ensures in
+    let a = c .before .before .before .before .before .args in
+    (refl, (h .parses, ap (λ (rs : List Row). markFired (a .state .now) rs (a .marks .now)) (sym (h .rows))))
+
+row-requires : tie.Need-row-requires Inv-loop μ-loop
+row-requires c κs = (c .before .loop .inv .1 .0, omega arith)
+
+mul-all-true : tie.Need-mul-all-true Inv-loop μ-loop
+mul-all-true c = omega (arith, c .row .ensures .low, c .row .ensures .high)
+
+sub-all-true : tie.Need-sub-all-true Inv-loop μ-loop
+sub-all-true c = c .row .ensures .low
+
+part-all-true-start : tie.Need-part-all-true-start Inv-loop μ-loop
+part-all-true-start c = c .row .ensures .low
+
+part-all-true-end : tie.Need-part-all-true-end Inv-loop μ-loop
+part-all-true-end c = c .row .ensures .high
+
+all-true-requires : tie.Need-all-true-requires Inv-loop μ-loop
+all-true-requires c κs = search needs
+
+mark-if-requires : tie.Need-mark-if-requires Inv-loop μ-loop
+mark-if-requires c κs = search needs
+
+sub-left : tie.Need-sub-left Inv-loop μ-loop
+sub-left c = search needs
+
+loop-less : tie.Need-loop-less Inv-loop μ-loop
+loop-less c = search needs
+
+loop-again : tie.Need-loop-again Inv-loop μ-loop
+unfolding fires
+loop-again c =
+    let l = c .before .before .before .before .before .before .before .before .loop in
+    let r = c .before .before .before .before .before .before .row .ensures in
+    (omega (arith, c .before .before .mark-if .kept .1 .0), (r .next, l .inv .1 .1 ∙ fired-turn _ _ _ _ _ _ _ (r .row) (c .before .before .before .before .all-true .ensures) (c .before .before .mark-if .ensures)))
+
+same-length : tie.Need-same-length Inv-loop μ-loop
+same-length c = c .before .loop .inv .0
+
+returns : tie.Need-returns Inv-loop μ-loop
+returns c =
+    let l = c .before .loop in
+    sym (l .inv .1 .1 ∙ fired-end _ _ _ (rows-none _ (l .at) (l .left) (omega arith)))
+
+pub mark-fired-spec : {M : Type 1} → statement M
+mark-fired-spec =
+    tie.close
+    (tie.spec
+    Inv-loop
+    μ-loop
+    head-requires
+    add-at
+    loop-holds
+    row-requires
+    mul-all-true
+    sub-all-true
+    part-all-true-start
+    part-all-true-end
+    all-true-requires
+    mark-if-requires
+    sub-left
+    loop-less
+    loop-again
+    same-length
+    returns)

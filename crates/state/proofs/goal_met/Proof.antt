@@ -1,0 +1,50 @@
+use mathlib.Core.Path.{_≡_, sym, ap, _∙_}
+use Rattle.definitions.specs.Answer.{finding}
+use Rattle.answer.specs.Answer.{placed, verdictAnswer}
+use Rattle.state.specs.Post.{stateAnswer}
+use Rattle.state.proofs.Calls.{standing, goal-rest, goal-refused}
+use borrow.Author.Needs.{needs}
+use Rattle.state.proofs.goal_met.Statement.{statement}
+use Rattle.state.proofs.goal_met.Tie as tie
+
+fine : (c : tie.After-enum-told) → finding tt ≡ stateAnswer (c .before .before .before .before .before .args .image .now) (c .before .before .before .before .before .args .state .now)
+fine c = ap verdictAnswer (sym (c .enum-told .given .1)) ∙ c .before .before .read-state .ensures
+
+read-state-requires : tie.Need-read-state-requires
+read-state-requires c κs = search needs
+
+enum-known-reading : tie.Need-enum-known-reading
+enum-known-reading c = search needs
+
+enum-told : tie.Need-enum-told
+enum-told c = search needs
+
+goal-requires : tie.Need-goal-requires
+goal-requires c κs = standing _ _ (fine c) .reads
+
+all-true-requires : tie.Need-all-true-requires
+all-true-requires c κs = search needs
+
+returns : tie.Need-returns
+returns c =
+    let f = c .before .reading .given in
+    goal-refused _ _ (placed (f .0 .0)) (ap verdictAnswer (sym (f .1)) ∙ c .before .before .before .read-state .ensures)
+
+returns-2 : tie.Need-returns-2
+returns-2 c = ap finding (sym (c .if1 .taken)) ∙ goal-rest _ _ (fine (c .before .before .before)) _ _ (c .before .before .goal .ensures) (c .before .all-true .ensures)
+
+returns-3 : tie.Need-returns-3
+returns-3 c = ap finding (sym (c .if1 .left)) ∙ goal-rest _ _ (fine (c .before .before .before)) _ _ (c .before .before .goal .ensures) (c .before .all-true .ensures)
+
+pub goal-met-spec : {M : Type 1} → statement M
+goal-met-spec =
+    tie.close
+    (tie.spec
+    read-state-requires
+    enum-known-reading
+    enum-told
+    goal-requires
+    all-true-requires
+    returns
+    returns-2
+    returns-3)
