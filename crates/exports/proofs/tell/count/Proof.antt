@@ -1,0 +1,30 @@
+use mathlib.Core.Path.{sym, ap, _∙_}
+use Rattle.answer.specs.Answer.{countAnswer}
+use Rattle.answer.specs.declared.Counted.{Counted}
+use Rattle.exports.specs.Told.{toldCount}
+use borrow.Author.Needs.{needs}
+use Rattle.exports.proofs.tell.count.Statement.{statement}
+use Rattle.exports.proofs.tell.count.Tie as tie
+
+enum-known-c : tie.Need-enum-known-c
+enum-known-c c = search needs
+
+finding-requires : tie.Need-finding-requires
+finding-requires c κs = search needs
+
+enum-known-c-2 : tie.Need-enum-known-c-2
+enum-known-c-2 c = search needs
+
+refusal-requires : tie.Need-refusal-requires
+refusal-requires c κs = search needs
+
+returns : tie.Need-returns
+returns c = c .finding .ensures ∙ ap (λ (k : Counted). toldCount (countAnswer k)) (sym (c .before .before .before .before .c .given .1))
+
+returns-2 : tie.Need-returns-2
+returns-2 c = c .refusal .ensures ∙ ap (λ (k : Counted). toldCount (countAnswer k)) (sym (c .before .before .before .before .c2 .given .1))
+
+pub count-spec : {M : Type 1} → statement M
+count-spec =
+    tie.close
+    (tie.spec enum-known-c finding-requires enum-known-c-2 refusal-requires returns returns-2)

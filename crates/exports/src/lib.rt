@@ -1,0 +1,71 @@
+// The C interface. Each call returns 0 for a finding, else the number of the refusal; `first` and `second` receive the
+// finding's values or the places, zero unless named. A slice passes as a pointer and a length.
+ghost use mathlib.Core.Path.{_≡_};
+ghost use Rattle.definitions.specs.Answer.{verdict, stateAfter};
+ghost use Rattle.definitions.specs.Image.{readTask};
+ghost use Rattle.definitions.specs.Step.{stepTask, goalTask, startTask, runTask};
+ghost use Rattle.exports.specs.Told.{told, toldVerdict, toldTest, toldCount};
+
+mod tell; // tell.rt: answers as numbers
+
+// Reads a task image: questions 1 to 7.
+#[no_mangle]
+pub extern "C" fn kb_read(image: &[u16], first: &mut u64, second: &mut u64) -> u32
+    ensures { λ r. ⌜ told r (now (first .exit)) (now (second .exit)) ≡ toldVerdict (verdict (readTask (now (image .entry)))) ⌝ }
+{
+    tell::verdict(task::read(image), first, second)
+}
+
+// Sets a state to the initial one: 1 to 7, the length of 18.
+#[no_mangle]
+pub extern "C" fn kb_task_initial(
+    image: &[u16],
+    state: &mut [u8],
+    first: &mut u64,
+    second: &mut u64,
+) -> u32
+    ensures { λ r. ⌜ (told r (now (first .exit)) (now (second .exit)) ≡ toldVerdict (verdict (startTask (now (image .entry)) (now (state .entry))))) × (now (state .exit) ≡ stateAfter (now (state .entry)) (startTask (now (image .entry)) (now (state .entry)))) ⌝ }
+{
+    tell::verdict(state::set_initial(image, state), first, second)
+}
+
+// A step in the lent state: 1 to 7, 18 to 21.
+#[no_mangle]
+pub extern "C" fn kb_task_step(
+    image: &[u16],
+    state: &mut [u8],
+    operator: u16,
+    first: &mut u64,
+    second: &mut u64,
+) -> u32
+    ensures { λ r. ⌜ (told r (now (first .exit)) (now (second .exit)) ≡ toldVerdict (verdict (stepTask (now (image .entry)) (now (state .entry)) operator))) × (now (state .exit) ≡ stateAfter (now (state .entry)) (stepTask (now (image .entry)) (now (state .entry)) operator)) ⌝ }
+{
+    tell::verdict(state::step(image, state, operator), first, second)
+}
+
+// The goal test: 1 to 7, 18. `first` is 1 if the goal is met, 0 if it is not.
+#[no_mangle]
+pub extern "C" fn kb_task_goal(
+    image: &[u16],
+    state: &[u8],
+    first: &mut u64,
+    second: &mut u64,
+) -> u32
+    ensures { λ r. ⌜ told r (now (first .exit)) (now (second .exit)) ≡ toldTest (goalTask (now (image .entry)) (now (state .entry))) ⌝ }
+{
+    tell::test(state::goal_met(image, state), first, second)
+}
+
+// A list run in the lent state: 1 to 7 and 18 once, then 19 to 21 at each operator. `first` is the number of steps.
+#[no_mangle]
+pub extern "C" fn kb_task_run(
+    image: &[u16],
+    state: &mut [u8],
+    list: &[u16],
+    first: &mut u64,
+    second: &mut u64,
+) -> u32
+    ensures { λ r. ⌜ (told r (now (first .exit)) (now (second .exit)) ≡ toldCount (runTask (now (image .entry)) (now (state .entry)) (now (list .entry)) .answer)) × (now (state .exit) ≡ runTask (now (image .entry)) (now (state .entry)) (now (list .entry)) .lent) ⌝ }
+{
+    tell::count(state::run(image, state, list), first, second)
+}

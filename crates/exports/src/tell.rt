@@ -1,0 +1,48 @@
+// Answers as numbers: the number of the question, 0 for a finding, and two values or places.
+ghost use mathlib.Core.Path.{_≡_};
+ghost use Rattle.answer.specs.Answer.{placed, verdictAnswer, testAnswer, countAnswer};
+ghost use Rattle.exports.specs.Told.{told, toldRefusal, toldVerdict, toldTest, toldCount};
+
+fn finding(value: usize, first: &mut u64, second: &mut u64) -> u32
+    ensures { λ r. ⌜ told r (now (first .exit)) (now (second .exit)) ≡ told 0 value 0 ⌝ }
+{
+    *first = value as u64;
+    *second = 0;
+    0
+}
+
+fn refusal(f: answer::Refusal, first: &mut u64, second: &mut u64) -> u32
+    ensures { λ r. ⌜ told r (now (first .exit)) (now (second .exit)) ≡ toldRefusal (placed f) ⌝ }
+{
+    *first = f.first as u64;
+    *second = f.second as u64;
+    f.number as u32
+}
+
+pub fn verdict(v: answer::Verdict, first: &mut u64, second: &mut u64) -> u32
+    ensures { λ r. ⌜ told r (now (first .exit)) (now (second .exit)) ≡ toldVerdict (verdictAnswer v) ⌝ }
+{
+    match v {
+        answer::Verdict::Fine => finding(0, first, second),
+        answer::Verdict::Refused(f) => refusal(f, first, second),
+    }
+}
+
+pub fn test(t: answer::Tested, first: &mut u64, second: &mut u64) -> u32
+    ensures { λ r. ⌜ told r (now (first .exit)) (now (second .exit)) ≡ toldTest (testAnswer t) ⌝ }
+{
+    match t {
+        answer::Tested::Holds => finding(1, first, second),
+        answer::Tested::Fails => finding(0, first, second),
+        answer::Tested::Refused(f) => refusal(f, first, second),
+    }
+}
+
+pub fn count(c: answer::Counted, first: &mut u64, second: &mut u64) -> u32
+    ensures { λ r. ⌜ told r (now (first .exit)) (now (second .exit)) ≡ toldCount (countAnswer c) ⌝ }
+{
+    match c {
+        answer::Counted::Count(k) => finding(k, first, second),
+        answer::Counted::Refused(f) => refusal(f, first, second),
+    }
+}
