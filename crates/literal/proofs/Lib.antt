@@ -1,3 +1,3 @@
 pub mod Ascends
-pub mod Complement
+pub mod LastBit
 pub mod Truth

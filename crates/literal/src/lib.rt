@@ -50,6 +50,15 @@ pub fn wide(x: u16) -> usize
     x as usize
 }
 
+// The complement of a literal that is used as an index.
+pub fn complement(l: usize) -> usize
+    requires { ⌜ l < 65535 ⌝ }
+    ensures { λ r. ⌜ r ≡ complement l ⌝ }
+{
+    let c = (Literal { code: l as u16 }).complement();
+    wide(c.code)
+}
+
 // Whether the words are strictly ascending atoms below `atoms`.
 pub fn is_atom_list(words: &[u16], atoms: usize) -> bool
     ensures { λ r. ⌜ r ≡ (ascending (now (words .entry)) && allBelow atoms (now (words .entry))) ⌝ }

@@ -1,12 +1,12 @@
 -- Laws of the calls: the questions in turn, and the steps of a list. Assumes nothing.
 use mathlib.Core.Path.{_≡_, refl, sym, ap, _∙_}
 use mathlib.Core.List.{List}
-use mathlib.Core.Bool.{Bool, true, false, _&&_}
+use mathlib.Core.Bool.{Bool, true, false, cond, not, _&&_}
 use Prim.Native.Nat.{ℕ, _*_, _≤_, _<_}
 use lib.ListN.{length, drop, replicate}
 use lib.Dec.{ltb, eqb}
-use borrow.Author.Tests.{lt-ltb, le-ltb, eq-eqb, ne-eqb, eqb-true}
-use Rattle.definitions.specs.Lists.{any, all, below}
+use borrow.Author.Tests.{lt-ltb, le-ltb, eq-eqb, ne-eqb, eqb-true, not-true, not-false}
+use Rattle.definitions.specs.Lists.{all}
 use Rattle.definitions.specs.Answer.{Refusal, Answer, finding, refused, verdict, outcome, stateAfter, becomes, ask, askAt, _>>=_}
 use Rattle.definitions.specs.StepLists.{runFrom, notRun}
 use Rattle.definitions.specs.Literal.{allTrue, allBelow, isState}
@@ -18,9 +18,9 @@ use Rattle.answer.specs.Answer.{refusalAt}
 use Rattle.task.specs.Reads.{taskOf, Reads}
 use Rattle.task.specs.Walk.{operatorIn}
 use Rattle.task.proofs.Questions.{reads}
-use Rattle.state.specs.Marks.{markFired, bothMarked, changed}
+use Rattle.state.specs.Marks.{markFired, changed, unmarked, Settled}
 use Rattle.state.specs.Post.{stateAnswer, Standing}
-use Rattle.state.proofs.Marks.{marks-conflict, marks-result}
+use Rattle.state.proofs.Marks.{marks-conflict, marks-result, marks-gone}
 
 -- ---- question 18
 pub state-long : (n : ℕ) (s : List ℕ) → (length s ≡ n → ⊥) → false ≡ isState n s
@@ -150,15 +150,21 @@ module _ (t : Task) (s : List ℕ) (i : ℕ) where
       at-done h = rw (lt-ltb i (length (t .operators)) q19, q20, h)
 
       -- by the marks of the operator
-      module _ (right : operatorRight (t .atoms) (operatorAt t i) ≡ true) (size : length s ≡ t .atoms) (m : List ℕ) (em : m ≡ markFired s (operatorAt t i .rows) (replicate (2 * t .atoms) 0)) (n : ℕ) (en : n ≡ length s) (r : Bool) (er : r ≡ any (bothMarked m) (below n)) where
-        conflict-is : r ≡ conflict (effects s (operatorAt t i))
-        conflict-is = er ∙ ap (λ (k : ℕ). any (bothMarked m) (below k)) (en ∙ size) ∙ marks-conflict (t .atoms) s (operatorAt t i) m em right
+      module _ (right : operatorRight (t .atoms) (operatorAt t i) ≡ true) (size : length s ≡ t .atoms) (m : List ℕ) (em : m ≡ markFired s (operatorAt t i .rows) (replicate (2 * t .atoms) 0)) (s′ : List ℕ) (done : Bool) (settled : Settled m (operatorAt t i .rows) s s′ done) where
+        conflict-is : done ≡ not (conflict (effects s (operatorAt t i)))
+        conflict-is = settled .answer ∙ ap not (marks-conflict (t .atoms) s (operatorAt t i) m em right)
 
-        pub step-21 : r ≡ true → outcome (refused (refusalAt 21 0 0)) s ≡ becomes s (step t s i)
-        step-21 h = at-21 (sym conflict-is ∙ h)
+        pub step-21 : done ≡ false → outcome (refused (refusalAt 21 0 0)) s′ ≡ becomes s (step t s i)
+        step-21 h =
+            ap (outcome (refused (refusalAt 21 0 0))) (settled .state ∙ ap (λ (b : Bool). cond b (changed m (operatorAt t i .rows) s) s) h)
+            ∙ at-21 (not-false (conflict (effects s (operatorAt t i))) (sym conflict-is ∙ h))
 
-        pub step-done : r ≡ false → (s′ : List ℕ) → s′ ≡ changed m 0 s → outcome (finding tt) s′ ≡ becomes s (step t s i)
-        step-done h s′ e = ap (outcome (finding tt)) (e ∙ marks-result (t .atoms) s (operatorAt t i) m em size) ∙ at-done (sym conflict-is ∙ h)
+        pub step-done : done ≡ true → outcome (finding tt) s′ ≡ becomes s (step t s i)
+        step-done h =
+            let calm = not-true (conflict (effects s (operatorAt t i))) (sym conflict-is ∙ h) in
+            ap (outcome (finding tt))
+            (settled .state ∙ ap (λ (b : Bool). cond b (changed m (operatorAt t i .rows) s) s) h ∙ marks-result (t .atoms) s (operatorAt t i) m em right calm size)
+            ∙ at-done calm
 
 -- the tests of a block, by the code's own values
 module _ (t : Task) (s : List ℕ) (i : ℕ) (b : List ℕ) (eo : operatorIn b ≡ operatorAt t i) where
@@ -167,3 +173,9 @@ module _ (t : Task) (s : List ℕ) (i : ℕ) (b : List ℕ) (eo : operatorIn b �
 
   pub marks-test : (m m′ : List ℕ) → m ≡ replicate (2 * t .atoms) 0 → m′ ≡ markFired s (operatorIn b .rows) m → m′ ≡ markFired s (operatorAt t i .rows) (replicate (2 * t .atoms) 0)
   marks-test m m′ em e = rw (← eo, ← em) e
+
+  pub gone-test : (m m₁ m₂ : List ℕ) → m ≡ replicate (2 * t .atoms) 0 → m₁ ≡ markFired s (operatorIn b .rows) m → m₂ ≡ unmarked (operatorIn b .rows) m₁ → m₂ ≡ m
+  gone-test m m₁ m₂ em e₁ e₂ = e₂ ∙ rw (e₁, em) (marks-gone s (operatorIn b .rows) (2 * t .atoms))
+
+  pub settled-test : (m s′ : List ℕ) (done : Bool) → Settled m (operatorIn b .rows) s s′ done → Settled m (operatorAt t i .rows) s s′ done
+  settled-test m s′ done h = rw eo at h

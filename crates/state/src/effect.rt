@@ -1,11 +1,12 @@
-// The effects of one operator in a state: a mark for each literal, set where a row with that effect fires.
+// The effects of one operator in a state: a mark for each literal, set where a row with that effect fires. Only marks of the
+// operator's effects are touched, so a step takes the time of its rows, however many atoms there are.
 ghost use mathlib.Core.Path.{_≡_};
 ghost use mathlib.Core.Bool.{true};
-ghost use Prim.Native.Nat.{_+_, _*_, _≤_, _<_};
-ghost use lib.ListN.{length};
-ghost use Rattle.definitions.specs.Lists.{any, below};
+ghost use Prim.Native.Nat.{_≤_};
+ghost use lib.ListN.{length, set};
+ghost use Rattle.definitions.specs.Closure.{has};
 ghost use Rattle.task.specs.Walk.{blockParses, operatorIn};
-ghost use Rattle.state.specs.Marks.{markIf, markFired, bothMarked, newValue, changed};
+ghost use Rattle.state.specs.Marks.{markIf, markFired, bothMarked, conflictIn, makeTrue, changed, unmarked, Settled};
 
 // Sets mark `l`, if `fires`.
 pub fn mark_if(fires: bool, marks: &mut [u8], l: usize)
@@ -35,54 +36,110 @@ pub fn mark_fired(block: &[u16], state: &[u8], marks: &mut [u8])
     }
 }
 
-fn both_marked(marks: &[u8], atom: usize) -> bool
-    requires { ⌜ 2 * atom + 1 < length (now marks) ⌝ }
-    ensures { λ r. ⌜ r ≡ bothMarked (now (marks .entry)) atom ⌝ }
+fn is_marked(marks: &[u8], l: usize) -> bool
+    ensures { λ r. ⌜ r ≡ has (now (marks .entry)) l ⌝ }
 {
-    if marks[2 * atom] == 1 {
-        marks[2 * atom + 1] == 1
+    if l < marks.len() {
+        marks[l] == 1
     } else {
         false
     }
 }
 
-// Whether one of `atoms` atoms is both added and deleted.
-pub fn conflict(marks: &[u8], atoms: usize) -> bool
-    requires { ⌜ 2 * atoms ≤ length (now marks) ⌝ }
-    ensures { λ r. ⌜ r ≡ any (bothMarked (now (marks .entry))) (below atoms) ⌝ }
+// Whether a literal and its complement are both marked.
+fn both_marked(marks: &[u8], l: usize) -> bool
+    requires { ⌜ length (now marks) ≤ 2048 ⌝ }
+    ensures { λ r. ⌜ r ≡ bothMarked (now (marks .entry)) l ⌝ }
 {
-    let mut a: usize = 0;
-    while a < atoms {
-        let both = both_marked(marks, a);
+    let marked = is_marked(marks, l);
+    if !marked {
+        return false;
+    }
+    is_marked(marks, literal::complement(l))
+}
+
+// Whether an effect of a block is marked with its complement: an atom is both added and deleted.
+fn conflict(block: &[u16], marks: &[u8]) -> bool
+    requires { ⌜ (blockParses (now block) ≡ true) × (length (now marks) ≤ 2048) ⌝ }
+    ensures { λ r. ⌜ r ≡ conflictIn (now (marks .entry)) (operatorIn (now (block .entry)) .rows) ⌝ }
+{
+    let head = task::block::head(block);
+    let mut at = head.end + 1;
+    let mut left = head.rows;
+    while 0 < left {
+        let row = task::block::row(block, at, left);
+        let both = both_marked(marks, row.effect);
         if both {
             return true;
         }
-        a += 1;
+        at = row.end;
+        left -= 1;
     }
     false
 }
 
-fn new_value(marks: &[u8], atom: usize, x: u8) -> u8
-    requires { ⌜ 2 * atom + 1 < length (now marks) ⌝ }
-    ensures { λ r. ⌜ r ≡ newValue (now (marks .entry)) atom x ⌝ }
+// Makes a literal true, if `marked`.
+fn make_true(marked: bool, state: &mut [u8], l: usize)
+    ensures { λ _. ⌜ now (state .exit) ≡ makeTrue marked (now (state .entry)) l ⌝ }
 {
-    if marks[2 * atom] == 1 {
-        return 1;
+    let a = l / 2;
+    if marked {
+        if a < state.len() {
+            state[a] = (1 - l % 2) as u8;
+        }
     }
-    if marks[2 * atom + 1] == 1 {
-        return 0;
-    }
-    x
 }
 
-// Makes the marked literals true.
-pub fn change(marks: &[u8], state: &mut [u8])
-    requires { ⌜ 2 * length (now state) ≤ length (now marks) ⌝ }
-    ensures { λ _. ⌜ now (state .exit) ≡ changed (now (marks .entry)) 0 (now (state .entry)) ⌝ }
+// Makes the marked effects of a block true.
+fn change(block: &[u16], marks: &[u8], state: &mut [u8])
+    requires { ⌜ blockParses (now block) ≡ true ⌝ }
+    ensures { λ _. ⌜ now (state .exit) ≡ changed (now (marks .entry)) (operatorIn (now (block .entry)) .rows) (now (state .entry)) ⌝ }
 {
-    let mut a: usize = 0;
-    while a < state.len() {
-        state[a] = new_value(marks, a, state[a]);
-        a += 1;
+    let head = task::block::head(block);
+    let mut at = head.end + 1;
+    let mut left = head.rows;
+    while 0 < left {
+        let row = task::block::row(block, at, left);
+        let effect = row.effect;
+        make_true(is_marked(marks, effect), state, effect);
+        at = row.end;
+        left -= 1;
+    }
+}
+
+// Makes the marked effects of a block true, unless they are in conflict.
+pub fn settle(block: &[u16], marks: &[u8], state: &mut [u8]) -> bool
+    requires { ⌜ (blockParses (now block) ≡ true) × (length (now marks) ≤ 2048) ⌝ }
+    ensures { λ r. ⌜ Settled (now (marks .entry)) (operatorIn (now (block .entry)) .rows) (now (state .entry)) (now (state .exit)) r ⌝ }
+{
+    let both = conflict(block, marks);
+    if both {
+        return false;
+    }
+    change(block, marks, state);
+    true
+}
+
+fn clear_mark(marks: &mut [u8], l: usize)
+    ensures { λ _. ⌜ now (marks .exit) ≡ set (now (marks .entry)) l 0 ⌝ }
+{
+    if l < marks.len() {
+        marks[l] = 0;
+    }
+}
+
+// Clears the marks of the effects of a block.
+pub fn unmark(block: &[u16], marks: &mut [u8])
+    requires { ⌜ blockParses (now block) ≡ true ⌝ }
+    ensures { λ _. ⌜ now (marks .exit) ≡ unmarked (operatorIn (now (block .entry)) .rows) (now (marks .entry)) ⌝ }
+{
+    let head = task::block::head(block);
+    let mut at = head.end + 1;
+    let mut left = head.rows;
+    while 0 < left {
+        let row = task::block::row(block, at, left);
+        clear_mark(marks, row.effect);
+        at = row.end;
+        left -= 1;
     }
 }

@@ -50,7 +50,7 @@ pub fn read_state(image: &[u16], state: &[u8]) -> answer::Verdict
     }
 }
 
-// A step in a task's state, with the marks of its literals all zero: questions 19 to 21.
+// A step in a task's state, with marks for its literals that are all zero before and behind it: questions 19 to 21.
 fn step_marked(
     image: &[u16],
     state: &mut [u8],
@@ -58,7 +58,7 @@ fn step_marked(
     marks: &mut [u8],
 ) -> answer::Verdict
     requires { ⌜ Standing (now image) (now state) × (now marks ≡ replicate (2 * taskOf (now image) .atoms) 0) ⌝ }
-    ensures { λ r. ⌜ outcome (verdictAnswer r) (now (state .exit)) ≡ becomes (now (state .entry)) (step (taskOf (now (image .entry))) (now (state .entry)) operator) ⌝ }
+    ensures { λ r. ⌜ (outcome (verdictAnswer r) (now (state .exit)) ≡ becomes (now (state .entry)) (step (taskOf (now (image .entry))) (now (state .entry)) operator)) × (now (marks .exit) ≡ now (marks .entry)) ⌝ }
 {
     if task::operators(image) <= operator {
         return answer::refuse(answer::Refusal::OPERATOR_NUMBER);
@@ -71,13 +71,13 @@ fn step_marked(
         return answer::refuse(answer::Refusal::PRECONDITION);
     }
     effect::mark_fired(block, state, marks);
-    let atoms = state.len();
-    let conflict = effect::conflict(marks, atoms);
-    if conflict {
-        return answer::refuse(answer::Refusal::CONFLICT);
+    let done = effect::settle(block, marks, state);
+    effect::unmark(block, marks);
+    if done {
+        answer::Verdict::Fine
+    } else {
+        answer::refuse(answer::Refusal::CONFLICT)
     }
-    effect::change(marks, state);
-    answer::Verdict::Fine
 }
 
 // A step in a task's state: questions 19 to 21.
@@ -101,14 +101,14 @@ pub fn step(image: &[u16], state: &mut [u8], operator: u16) -> answer::Verdict
     }
 }
 
-// The steps of a list in a task's state: questions 19 to 21 at each operator in turn.
-fn run_read(image: &[u16], state: &mut [u8], list: &[u16]) -> answer::Counted
-    requires { ⌜ Standing (now image) (now state) ⌝ }
+// The steps of a list in a task's state, with marks for its literals that are all zero: questions 19 to 21 at each operator in turn.
+fn run_marked(image: &[u16], state: &mut [u8], list: &[u16], marks: &mut [u8]) -> answer::Counted
+    requires { ⌜ Standing (now image) (now state) × (now marks ≡ replicate (2 * taskOf (now image) .atoms) 0) ⌝ }
     ensures { λ r. ⌜ outcome (countAnswer r) (now (state .exit)) ≡ runFrom (step (taskOf (now (image .entry)))) (now (state .entry)) 0 (now (list .entry)) ⌝ }
 {
     let mut steps: usize = 0;
     while steps < list.len() {
-        let stepped = step_read(image, state, list[steps]);
+        let stepped = step_marked(image, state, literal::wide(list[steps]), marks);
         match stepped {
             answer::Verdict::Refused(f) => {
                 return answer::Counted::Refused(answer::Refusal {
@@ -122,6 +122,16 @@ fn run_read(image: &[u16], state: &mut [u8], list: &[u16]) -> answer::Counted
         steps += 1;
     }
     answer::Counted::Count(steps)
+}
+
+// The steps of a list in a task's state: questions 19 to 21 at each operator in turn.
+fn run_read(image: &[u16], state: &mut [u8], list: &[u16]) -> answer::Counted
+    requires { ⌜ Standing (now image) (now state) ⌝ }
+    ensures { λ r. ⌜ outcome (countAnswer r) (now (state .exit)) ≡ runFrom (step (taskOf (now (image .entry)))) (now (state .entry)) 0 (now (list .entry)) ⌝ }
+{
+    let mut marks = [0u8; 2048];
+    let count = 2 * task::atoms(image);
+    run_marked(image, state, list, &mut marks[..count])
 }
 
 // A list run, done in the lent state. A refused one keeps the steps that it took.

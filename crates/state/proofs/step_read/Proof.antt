@@ -40,7 +40,7 @@ same-length c = search needs
 returns : tie.Need-returns
 returns c =
     let a = c .before .before .before .before .before .before .before .before .before .before .args in
-    c .before .before .before .step-marked .ensures ∙ ap (λ (i : ℕ). becomes (a .state .now) (step (taskOf (a .image .now)) (a .state .now) i)) (c .before .before .before .before .before .wide .ensures .0)
+    c .before .before .before .step-marked .ensures .0 ∙ ap (λ (i : ℕ). becomes (a .state .now) (step (taskOf (a .image .now)) (a .state .now) i)) (c .before .before .before .before .before .wide .ensures .0)
 
 pub step-read-spec : {M : Type 1} → statement M
 step-read-spec =

@@ -1,4 +1,4 @@
-use Rattle.literal.proofs.Complement.{even, odd}
+use Rattle.literal.proofs.LastBit.{even, odd}
 use borrow.Author.Needs.{needs}
 use Rattle.literal.proofs.Literal.complement.Statement.{statement}
 use Rattle.literal.proofs.Literal.complement.Tie as tie

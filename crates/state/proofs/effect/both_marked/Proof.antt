@@ -1,37 +1,29 @@
-use Rattle.state.proofs.Marks.{both-marked, not-both-marked}
+use mathlib.Core.Path.{_≡_, sym, ap, _∙_}
+use Prim.Native.Nat.{ℕ}
+use native.Mathlib.Omega.{arith}
+use borrow.Author.Tests.{not-true, not-false}
+use Rattle.definitions.specs.Closure.{has}
+use Rattle.state.proofs.Marks.{both-off, both-on, has-low}
 use borrow.Author.Needs.{needs}
 use Rattle.state.proofs.effect.both_marked.Statement.{statement}
 use Rattle.state.proofs.effect.both_marked.Tie as tie
 
-mul-if1 : tie.Need-mul-if1
-mul-if1 c = search needs
-
-shared-slice-read-if1 : tie.Need-shared-slice-read-if1
-shared-slice-read-if1 c = search needs
-
-mul-result : tie.Need-mul-result
-mul-result c = search needs
-
-add-result : tie.Need-add-result
-add-result c = search needs
-
-shared-slice-read-result : tie.Need-shared-slice-read-result
-shared-slice-read-result c = search needs
+is-marked-requires : tie.Need-is-marked-requires
+is-marked-requires c κs = search needs
 
 returns : tie.Need-returns
-returns c = both-marked _ _ (c .before .if1 .taken)
+returns c = both-off _ _ (sym (c .before .is-marked .ensures) ∙ not-true _ (c .if1 .taken))
+
+complement-requires : tie.Need-complement-requires
+complement-requires c κs = omega (arith, has-low (c .before .before .before .args .marks .now) (c .before .before .before .args .l) (sym (c .before .is-marked .ensures) ∙ not-false _ (c .if1 .left)), c .before .before .before .pre)
+
+is-marked-requires-2 : tie.Need-is-marked-requires-2
+is-marked-requires-2 c κs = search needs
 
 returns-2 : tie.Need-returns-2
-returns-2 c = not-both-marked _ _ (c .if1 .left)
+returns-2 c = both-on _ _ _ (sym (c .before .before .before .is-marked .ensures) ∙ not-false _ (c .before .before .if1 .left)) (c .is-marked2 .ensures ∙ ap (has _) (c .before .complement .ensures))
 
 pub both-marked-spec : {M : Type 1} → statement M
 both-marked-spec =
     tie.close
-    (tie.spec
-    mul-if1
-    shared-slice-read-if1
-    mul-result
-    add-result
-    shared-slice-read-result
-    returns
-    returns-2)
+    (tie.spec is-marked-requires returns complement-requires is-marked-requires-2 returns-2)

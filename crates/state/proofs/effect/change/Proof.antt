@@ -1,51 +1,65 @@
--- `state::effect::change`: the state that the marks make is what is done and what is left of it.
-use Prim.Native.Nat.{_≤_, _-_, _+_}
-use mathlib.Core.Path.{_≡_, refl, sym, _∙_}
-use mathlib.Core.List.{_++_}
+-- `state::effect::change`: the change by all rows is that by the rows that are left, of the state so far.
+use Prim.Native.Nat.{ℕ}
+use mathlib.Core.Path.{_≡_, refl, sym, ap, _∙_}
+use mathlib.Core.Bool.{true}
+use mathlib.Core.List.{List}
 use native.Mathlib.Omega.{arith}
-use lib.ListN.{length, take, drop, length-set}
+use lib.ListN.{length}
+use Rattle.definitions.specs.Image.{Row}
+use Rattle.task.specs.Walk.{operatorIn, parsesAt, rowsAt}
+use Rattle.task.proofs.Blocks.{rows-none}
 use Rattle.state.specs.Marks.{changed}
-use Rattle.state.proofs.Marks.{changed-on, changed-end}
+use Rattle.state.proofs.Marks.{changed-turn, changed-end}
 use borrow.Author.Needs.{needs}
 use Rattle.state.proofs.effect.change.Statement.{statement}
 use Rattle.state.proofs.effect.change.Tie as tie
 
 abbrev Inv-loop : tie.InvT-loop
-Inv-loop marks state₀ a₀ state a = (a ≤ length state) × ((length state ≡ length state₀) × (changed marks 0 state₀ ≡ take a state ++ changed marks a (drop a state)))
+Inv-loop block marks state₀ at₀ left₀ state at left = (length state ≡ length state₀) × ((parsesAt block at left ≡ true) × (changed marks (operatorIn block .rows) state₀ ≡ changed marks (rowsAt block at left) state))
 
 abbrev μ-loop : tie.MeasureT-loop
-μ-loop marks state₀ a₀ state a = length state₀ - a
+μ-loop block marks state₀ at₀ left₀ state at left = left
+
+head-requires : tie.Need-head-requires Inv-loop μ-loop
+head-requires c κs = search needs
+
+add-at : tie.Need-add-at Inv-loop μ-loop
+add-at c = search needs
 
 loop-holds : tie.Need-loop-holds Inv-loop μ-loop
-loop-holds c = (omega arith, (refl, refl))
+loop-holds c =
+    let h = c .before .head .ensures in
+    let a = c .before .before .before .before .before .args in
+    (refl, (h .parses, ap (λ (rs : List Row). changed (a .marks .now) rs (a .state .now)) (sym (h .rows))))
 
-slice-read-new-value : tie.Need-slice-read-new-value Inv-loop μ-loop
-slice-read-new-value c = search needs
+row-requires : tie.Need-row-requires Inv-loop μ-loop
+row-requires c κs = (c .before .loop .inv .1 .0, omega arith)
 
-new-value-requires : tie.Need-new-value-requires Inv-loop μ-loop
-new-value-requires c κs = search needs
+is-marked-requires : tie.Need-is-marked-requires Inv-loop μ-loop
+is-marked-requires c κs = search needs
 
-slice-write-state : tie.Need-slice-write-state Inv-loop μ-loop
-slice-write-state c = search needs
+make-true-requires : tie.Need-make-true-requires Inv-loop μ-loop
+make-true-requires c κs = search needs
 
-add-a : tie.Need-add-a Inv-loop μ-loop
-add-a c = search needs
+sub-left : tie.Need-sub-left Inv-loop μ-loop
+sub-left c = search needs
 
 loop-less : tie.Need-loop-less Inv-loop μ-loop
 loop-less c = search needs
 
 loop-again : tie.Need-loop-again Inv-loop μ-loop
 loop-again c =
-    let l = c .before .before .before .loop in
-    (simp length-set (omega arith), (simp length-set (l .inv .1 .0), l .inv .1 .1 ∙ changed-on _ (l .state) (l .a) _ (c .before .before .loop-test .taken) (c .new-value .ensures)))
+    let l = c .before .before .before .before .before .before .before .loop in
+    let r = c .before .before .before .before .before .row .ensures in
+    (omega (arith, c .before .before .make-true .kept .1 .0), (r .next, l .inv .1 .1 ∙ changed-turn _ _ _ _ (r .row) _ _ _ (c .before .before .before .before .is-marked .ensures) (c .before .before .make-true .ensures)))
 
 same-length : tie.Need-same-length Inv-loop μ-loop
-same-length c = search needs
+same-length c = c .before .loop .inv .0
 
 returns : tie.Need-returns Inv-loop μ-loop
 returns c =
     let l = c .before .loop in
-    sym (l .inv .1 .1 ∙ changed-end _ (l .state) (l .a) (c .loop-test .left))
+    sym (l .inv .1 .1 ∙ changed-end _ _ (rows-none _ (l .at) (l .left) (omega arith)) _)
 
 pub change-spec : {M : Type 1} → statement M
 change-spec =
@@ -53,11 +67,13 @@ change-spec =
     (tie.spec
     Inv-loop
     μ-loop
+    head-requires
+    add-at
     loop-holds
-    slice-read-new-value
-    new-value-requires
-    slice-write-state
-    add-a
+    row-requires
+    is-marked-requires
+    make-true-requires
+    sub-left
     loop-less
     loop-again
     same-length

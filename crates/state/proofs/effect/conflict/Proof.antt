@@ -1,50 +1,59 @@
--- `state::effect::conflict`: the test of all atoms is the test of those that are left.
-use Prim.Native.Nat.{_≤_, _-_, _+_}
-use mathlib.Core.Path.{_≡_, refl, sym, _∙_}
+-- `state::effect::conflict`: the test of all rows is that of the rows that are left.
+use mathlib.Core.Path.{_≡_, refl, sym, ap, _∙_}
+use mathlib.Core.Bool.{true}
 use native.Mathlib.Omega.{arith}
-use Rattle.definitions.specs.Lists.{any, below, range}
-use Rattle.definitions.proofs.Walks.{below-left, range-any-found, range-any-on, range-any-end}
-use Rattle.state.specs.Marks.{bothMarked}
+use Rattle.task.specs.Walk.{operatorIn, parsesAt, rowsAt}
+use Rattle.task.proofs.Blocks.{rows-none}
+use Rattle.state.specs.Marks.{conflictIn}
+use Rattle.state.proofs.Marks.{conflict-found, conflict-on, conflict-end}
 use borrow.Author.Needs.{needs}
 use Rattle.state.proofs.effect.conflict.Statement.{statement}
 use Rattle.state.proofs.effect.conflict.Tie as tie
 
 abbrev Inv-loop : tie.InvT-loop
-Inv-loop marks atoms a₀ a = (a ≤ atoms) × (any (bothMarked marks) (below atoms) ≡ any (bothMarked marks) (range a (atoms - a)))
+Inv-loop block marks at₀ left₀ at left = (parsesAt block at left ≡ true) × (conflictIn marks (operatorIn block .rows) ≡ conflictIn marks (rowsAt block at left))
 
 abbrev μ-loop : tie.MeasureT-loop
-μ-loop marks atoms a₀ a = atoms - a
+μ-loop block marks at₀ left₀ at left = left
+
+head-requires : tie.Need-head-requires Inv-loop μ-loop
+head-requires c κs = search needs
+
+add-at : tie.Need-add-at Inv-loop μ-loop
+add-at c = search needs
 
 loop-holds : tie.Need-loop-holds Inv-loop μ-loop
-loop-holds c = (omega arith, below-left (any (bothMarked _)) _)
+loop-holds c =
+    let h = c .before .head .ensures in
+    (h .parses, ap (conflictIn _) (sym (h .rows)))
+
+row-requires : tie.Need-row-requires Inv-loop μ-loop
+row-requires c κs = (c .before .loop .inv .0, omega arith)
 
 both-marked-requires : tie.Need-both-marked-requires Inv-loop μ-loop
 both-marked-requires c κs = search needs
 
 returns : tie.Need-returns Inv-loop μ-loop
 returns c =
-    let l = c .before .before .before .loop in
-    let s = c .before .before .before .before .before in
-    sym (l .inv .1 ∙ range-any-found (bothMarked (s .args .marks .now)) (l .a) (s .args .atoms - l .a) (s .args .atoms - (l .a + 1)) (omega arith) (sym (c .before .both-marked .ensures) ∙ c .if1 .taken))
+    let l = c .before .before .before .before .loop in
+    sym (l .inv .1 ∙ conflict-found _ _ _ _ (c .before .before .row .ensures .row) _ (c .before .both-marked .ensures) (c .if1 .taken))
 
-add-a : tie.Need-add-a Inv-loop μ-loop
-add-a c = search needs
+sub-left : tie.Need-sub-left Inv-loop μ-loop
+sub-left c = search needs
 
 loop-less : tie.Need-loop-less Inv-loop μ-loop
 loop-less c = search needs
 
 loop-again : tie.Need-loop-again Inv-loop μ-loop
 loop-again c =
-    let l = c .before .before .before .loop in
-    let s = c .before .before .before .before .before in (
-      omega arith,
-      l .inv .1 ∙ range-any-on (bothMarked (s .args .marks .now)) (l .a) (s .args .atoms - l .a) (s .args .atoms - (l .a + 1)) (omega arith) (sym (c .before .both-marked .ensures) ∙ c .if1 .left),
-    )
+    let l = c .before .before .before .before .loop in
+    let r = c .before .before .row .ensures in
+    (r .next, l .inv .1 ∙ conflict-on _ _ _ _ (r .row) _ (c .before .both-marked .ensures) (c .if1 .left))
 
 returns-2 : tie.Need-returns-2 Inv-loop μ-loop
 returns-2 c =
     let l = c .before .loop in
-    sym (l .inv .1 ∙ range-any-end (bothMarked _) (l .a) (c .before .before .before .args .atoms - l .a) (omega arith))
+    sym (l .inv .1 ∙ conflict-end _ _ (rows-none _ (l .at) (l .left) (omega arith)))
 
 pub conflict-spec : {M : Type 1} → statement M
 conflict-spec =
@@ -52,10 +61,13 @@ conflict-spec =
     (tie.spec
     Inv-loop
     μ-loop
+    head-requires
+    add-at
     loop-holds
+    row-requires
     both-marked-requires
     returns
-    add-a
+    sub-left
     loop-less
     loop-again
     returns-2)

@@ -1,0 +1,75 @@
+-- `state::effect::unmark`: the marks without all rows' effects are those so far without the effects of the rows that are left.
+use mathlib.Core.Path.{_≡_, refl, sym, ap, _∙_}
+use mathlib.Core.Bool.{true}
+use mathlib.Core.List.{List}
+use native.Mathlib.Omega.{arith}
+use lib.ListN.{length}
+use Rattle.definitions.specs.Image.{Row}
+use Rattle.task.specs.Walk.{operatorIn, parsesAt, rowsAt}
+use Rattle.task.proofs.Blocks.{rows-none}
+use Rattle.state.specs.Marks.{unmarked}
+use Rattle.state.proofs.Marks.{unmarked-turn, unmarked-end}
+use borrow.Author.Needs.{needs}
+use Rattle.state.proofs.effect.unmark.Statement.{statement}
+use Rattle.state.proofs.effect.unmark.Tie as tie
+
+abbrev Inv-loop : tie.InvT-loop
+Inv-loop block marks₀ at₀ left₀ marks at left = (length marks ≡ length marks₀) × ((parsesAt block at left ≡ true) × (unmarked (operatorIn block .rows) marks₀ ≡ unmarked (rowsAt block at left) marks))
+
+abbrev μ-loop : tie.MeasureT-loop
+μ-loop block marks₀ at₀ left₀ marks at left = left
+
+head-requires : tie.Need-head-requires Inv-loop μ-loop
+head-requires c κs = search needs
+
+add-at : tie.Need-add-at Inv-loop μ-loop
+add-at c = search needs
+
+loop-holds : tie.Need-loop-holds Inv-loop μ-loop
+loop-holds c =
+    let h = c .before .head .ensures in
+    let a = c .before .before .before .before .args in
+    (refl, (h .parses, ap (λ (rs : List Row). unmarked rs (a .marks .now)) (sym (h .rows))))
+
+row-requires : tie.Need-row-requires Inv-loop μ-loop
+row-requires c κs = (c .before .loop .inv .1 .0, omega arith)
+
+clear-mark-requires : tie.Need-clear-mark-requires Inv-loop μ-loop
+clear-mark-requires c κs = search needs
+
+sub-left : tie.Need-sub-left Inv-loop μ-loop
+sub-left c = search needs
+
+loop-less : tie.Need-loop-less Inv-loop μ-loop
+loop-less c = search needs
+
+loop-again : tie.Need-loop-again Inv-loop μ-loop
+loop-again c =
+    let l = c .before .before .before .before .before .before .loop in
+    let r = c .before .before .before .before .row .ensures in
+    (omega (arith, c .before .before .clear-mark .kept .0), (r .next, l .inv .1 .1 ∙ unmarked-turn _ _ _ _ (r .row) _ (c .before .before .clear-mark .ensures)))
+
+same-length : tie.Need-same-length Inv-loop μ-loop
+same-length c = c .before .loop .inv .0
+
+returns : tie.Need-returns Inv-loop μ-loop
+returns c =
+    let l = c .before .loop in
+    sym (l .inv .1 .1 ∙ unmarked-end _ _ (rows-none _ (l .at) (l .left) (omega arith)))
+
+pub unmark-spec : {M : Type 1} → statement M
+unmark-spec =
+    tie.close
+    (tie.spec
+    Inv-loop
+    μ-loop
+    head-requires
+    add-at
+    loop-holds
+    row-requires
+    clear-mark-requires
+    sub-left
+    loop-less
+    loop-again
+    same-length
+    returns)
