@@ -1,0 +1,43 @@
+//! Synthesis of structured tasks with n = 3.
+
+use compare::exports::{self, Reply};
+use compare::sources::Synthesized;
+use inputs::structured;
+use inputs::task::TaskSpec;
+use reference::synthesis::{synthesize, MOST_ROWS};
+
+use crate::timing::Bench;
+
+/// The clause buffer, the work buffer and the marks.
+type Lent = (Vec<u16>, Vec<u16>, Vec<u8>);
+
+pub fn run(bench: &Bench) {
+    one(bench, "gripper 14", &structured::gripper(14, 2, 2));
+    one(bench, "blocks 7", &structured::blocks(7));
+    one(bench, "ring 100", &structured::ring(100));
+    one(bench, "briefcase 10 4", &structured::briefcase(10, 4));
+    one(bench, "transport 3 8 5", &structured::transport(3, 8, 5));
+}
+
+fn one(bench: &Bench, name: &str, task: &TaskSpec) {
+    let image = task.image();
+    let found = Synthesized::new(image.clone(), 3).rows.len();
+    let lent: Lent = (
+        vec![0; 3 * MOST_ROWS],
+        vec![0; 3 * MOST_ROWS],
+        vec![0; 2048],
+    );
+    bench.compare(
+        &format!("synthesis {name} n=3, {found} rows found"),
+        1,
+        &lent,
+        |(rows, work, marks)| {
+            let reply = exports::synthesize(&image, 3, 65535, rows, work, marks);
+            (reply, rows.clone())
+        },
+        |(rows, work, marks)| {
+            let reply: Reply = synthesize(&image, 3, 65535, rows, work, marks).into();
+            (reply, rows.clone())
+        },
+    );
+}

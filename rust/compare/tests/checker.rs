@@ -1,0 +1,189 @@
+//! One clause under one operator, and the checker.
+//!
+//! Document 01 leaves open which places refusals 10 and 11 name; this
+//! comparison asks for the lowest, as the reference gives them.
+#![cfg(feature = "checker")]
+
+use compare::exports::{self, Reply};
+use compare::sources::{marks_length, Synthesized};
+use compare::{Guarded, Tally};
+use inputs::clauses::{self, FILL};
+use inputs::fixed::kept_cases;
+use inputs::{damage, state, Rng};
+use reference::{checker, kept};
+
+const LEAST: usize = 50;
+
+type Words = Guarded<u16>;
+type Bytes = Guarded<u8>;
+
+fn damaged_now_and_then(rng: &mut Rng, image: &[u16]) -> Vec<u16> {
+    let mut image = image.to_vec();
+    if rng.chance(12) {
+        damage::task_image(rng, &mut image);
+    }
+    image
+}
+
+/// Compares a call of kb_kept; what the marks hold afterwards is open.
+fn compare_kept(tally: &mut Tally, lent: (Words, Words, Words, Bytes), operator: u16) -> Reply {
+    type Lent = (Words, Words, Words, Bytes);
+    let reference = |(image, set, clause, marks): &mut Lent| {
+        let marks_lent = marks.lend_mut();
+        let answer = kept::kept(
+            image.lend(),
+            set.lend(),
+            clause.lend(),
+            operator,
+            marks_lent,
+        );
+        marks.forget();
+        answer.into()
+    };
+    let library = |(image, set, clause, marks): &mut Lent| {
+        let marks_lent = marks.lend_mut();
+        let reply = exports::kept(
+            image.lend(),
+            set.lend(),
+            clause.lend(),
+            operator,
+            marks_lent,
+        );
+        marks.forget();
+        reply
+    };
+    tally.compare(operator, lent, reference, library).0
+}
+
+/// Clause words of all kinds, or a very small set.
+fn random_set(rng: &mut Rng, source: &Synthesized) -> Vec<u16> {
+    if rng.chance(50) {
+        source.clause_words(rng)
+    } else {
+        clauses::words(&clauses::random_set(rng, source.atoms(), 2))
+    }
+}
+
+/// A clause of the set, a random one, or words that are not one right row.
+fn random_clause(rng: &mut Rng, source: &Synthesized) -> Vec<u16> {
+    let mut clause = match rng.place(source.rows.len()) {
+        Some(place) if rng.chance(50) => source.rows[place].to_vec(),
+        _ => clauses::random_row(rng, source.atoms()).to_vec(),
+    };
+    match rng.below(20) {
+        0 => clauses::damage(rng, source.atoms(), &mut clause),
+        1 => clause = clauses::words(&source.rows),
+        _ => {}
+    }
+    clause
+}
+
+#[test]
+fn kept_under_one_operator() {
+    let rng = &mut Rng::new(201);
+    let mut tally = Tally::new("kb_kept");
+    let mut answers = [0; 2];
+    while !tally.is_full() {
+        let source = Synthesized::random(rng);
+        let operators = usize::from(source.image[1]);
+        for _ in 0..8 {
+            let image = damaged_now_and_then(rng, &source.image);
+            let lent = (
+                Guarded::new(&image),
+                Guarded::new(&random_set(rng, &source)),
+                Guarded::new(&random_clause(rng, &source)),
+                Guarded::new(&vec![rng.word() as u8; marks_length(rng, source.atoms())]),
+            );
+            let operator = state::operator(rng, operators);
+            let reply = compare_kept(&mut tally, lent, operator);
+            if reply.number == 0 {
+                answers[reply.first as usize] += 1;
+            }
+        }
+    }
+    falsifying_rows(rng, &mut tally, &mut answers);
+    println!("kb_kept: not kept and kept {answers:?}");
+    assert!(answers.iter().all(|&count| count > 1_000));
+    tally.finish(LEAST, &[0, 1, 2, 3, 4, 5, 6, 7, 8, 9, 13, 19]);
+}
+
+/// Operators most of whose rows make a literal of the clause false.
+fn falsifying_rows(rng: &mut Rng, tally: &mut Tally, answers: &mut [usize; 2]) {
+    for _ in 0..20_000 {
+        let (task, clause) = clauses::falsifying_task(rng);
+        let atoms = usize::from(task.atoms);
+        let set = clauses::random_set(rng, atoms, 2);
+        let lent = (
+            Guarded::new(&task.image()),
+            Guarded::new(&clauses::words(&set)),
+            Guarded::new(&clause),
+            Guarded::new(&vec![0; 2 * atoms]),
+        );
+        let reply = compare_kept(tally, lent, 0);
+        answers[reply.first as usize] += 1;
+    }
+}
+
+/// The misreadings of "Kept clauses", with the answers written down.
+#[test]
+fn kept_cases_as_written_down() {
+    for case in kept_cases() {
+        let mut marks = vec![0; 2 * usize::from(case.image[0])];
+        let reply = exports::kept(&case.image, &case.clauses, &case.clause, 0, &mut marks);
+        let expected = Reply::finding(u64::from(case.kept), 0);
+        assert_eq!(reply, expected, "{}", case.name);
+    }
+}
+
+/// Compares a call of kb_check; what the marks hold afterwards is open.
+fn compare_check(tally: &mut Tally, lent: (Words, Words, Bytes)) {
+    type Lent = (Words, Words, Bytes);
+    let reference = |(image, set, marks): &mut Lent| {
+        let answer = checker::check(image.lend(), set.lend(), marks.lend_mut());
+        marks.forget();
+        answer.into()
+    };
+    let library = |(image, set, marks): &mut Lent| {
+        let reply = exports::check(image.lend(), set.lend(), marks.lend_mut());
+        marks.forget();
+        reply
+    };
+    tally.compare((), lent, reference, library);
+}
+
+#[test]
+fn check() {
+    let rng = &mut Rng::new(202);
+    let mut tally = Tally::new("kb_check");
+    while !tally.is_full() {
+        let source = Synthesized::random(rng);
+        for _ in 0..5 {
+            let image = damaged_now_and_then(rng, &source.image);
+            let marks = vec![rng.word() as u8; marks_length(rng, source.atoms())];
+            compare_check(
+                &mut tally,
+                (
+                    Guarded::new(&image),
+                    Guarded::new(&source.clause_words(rng)),
+                    Guarded::new(&marks),
+                ),
+            );
+        }
+    }
+    tally.finish(LEAST, &[0, 1, 2, 3, 4, 5, 6, 7, 8, 9, 10, 11, 13]);
+}
+
+/// Document 01's ring and its answers.
+#[test]
+fn check_the_ring() {
+    let image = inputs::structured::ring(3).image();
+    let check = |rows: &[u16]| {
+        let reply = exports::check(&image, rows, &mut [0; 6]);
+        (reply.number, reply.first, reply.second)
+    };
+    assert_eq!(check(&[2, FILL, FILL]), (10, 0, 0));
+    assert_eq!(check(&[0, FILL, FILL]), (11, 0, 0));
+    assert_eq!(check(&[1, 3, FILL]), (11, 0, 2));
+    let found = Synthesized::new(image.clone(), 3);
+    assert_eq!(check(&clauses::words(&found.rows)), (0, 0, 0));
+}

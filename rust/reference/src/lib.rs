@@ -1,0 +1,24 @@
+//! An independent implementation of document 01, "Ground invariants and
+//! finite-domain cards", written from that document alone.
+//!
+//! Every public call works on lent slices as the C interface does and asks
+//! document 01's questions in their order; the first "no" is the refusal.
+
+pub mod answer;
+pub mod card;
+pub mod checker;
+pub mod clause;
+pub mod closure;
+pub mod coding;
+mod directory;
+pub mod fdr;
+pub mod groups;
+pub mod kept;
+pub mod literal;
+pub mod naive;
+pub mod reencoding;
+pub mod state;
+pub mod synthesis;
+pub mod task;
+
+pub use answer::{Answer, Refusal};
