@@ -23,3 +23,4 @@ pub mod ImageSize
 pub mod FdrValid
 pub mod FromAtoms
 pub mod Demand3
+pub mod AcceptedHolds

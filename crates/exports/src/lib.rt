@@ -1,9 +1,11 @@
 // The C interface. Each call returns 0 for a finding, else the number of the refusal; `first` and `second` receive the
 // finding's values or the places, zero unless named. A slice passes as a pointer and a length.
 ghost use mathlib.Core.Path.{_≡_};
+ghost use lib.ListN.{length};
 ghost use Rattle.definitions.specs.Answer.{verdict, stateAfter};
 ghost use Rattle.definitions.specs.Image.{readTask};
 ghost use Rattle.definitions.specs.Step.{stepTask, goalTask, startTask, runTask};
+ghost use Rattle.definitions.specs.Checker.{check, keeps};
 ghost use Rattle.exports.specs.Told.{told, toldVerdict, toldTest, toldCount};
 
 mod tell; // tell.rt: answers as numbers
@@ -68,4 +70,38 @@ pub extern "C" fn kb_task_run(
     ensures { λ r. ⌜ (told r (now (first .exit)) (now (second .exit)) ≡ toldCount (runTask (now (image .entry)) (now (state .entry)) (now (list .entry)) .answer)) × (now (state .exit) ≡ runTask (now (image .entry)) (now (state .entry)) (now (list .entry)) .lent) ⌝ }
 {
     tell::count(state::run(image, state, list), first, second)
+}
+
+// Whether the clauses keep a clause under an operator: 1 to 9, then 8 and 9 for the clause alone, 19, 13. `first` is 1 if kept, 0 if not.
+#[no_mangle]
+pub extern "C" fn kb_kept(
+    image: &[u16],
+    clauses: &[u16],
+    clause: &[u16],
+    operator: u16,
+    marks: &mut [u8],
+    first: &mut u64,
+    second: &mut u64,
+) -> u32
+    ensures { λ r. ⌜ told r (now (first .exit)) (now (second .exit)) ≡ toldTest (keeps (now (image .entry)) (now (clauses .entry)) (now (clause .entry)) operator (length (now (marks .entry)))) ⌝ }
+{
+    tell::test(
+        judge::kept(image, clauses, clause, operator, marks),
+        first,
+        second,
+    )
+}
+
+// The checker: 1 to 9, 13, 10, 11.
+#[no_mangle]
+pub extern "C" fn kb_check(
+    image: &[u16],
+    clauses: &[u16],
+    marks: &mut [u8],
+    first: &mut u64,
+    second: &mut u64,
+) -> u32
+    ensures { λ r. ⌜ told r (now (first .exit)) (now (second .exit)) ≡ toldVerdict (verdict (check (now (image .entry)) (now (clauses .entry)) (length (now (marks .entry))))) ⌝ }
+{
+    tell::verdict(checker::accept(image, clauses, marks), first, second)
 }

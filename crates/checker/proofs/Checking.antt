@@ -1,0 +1,95 @@
+-- The checker's questions in turn. Assumes nothing.
+use mathlib.Core.Bool.{Bool, true, false}
+use mathlib.Core.Option.{Option, none, some}
+use mathlib.Core.Path.{_≡_, refl, sym, _∙_, ap}
+use mathlib.Core.List.{List}
+use Prim.Native.Nat.{ℕ, _+_, _*_, _≤_, _<_}
+use native.Mathlib.Numerals.{add-one}
+use lib.Dec.{leb}
+use lib.ListN.{length, getD, drop, drop-of-length-le}
+use borrow.Author.Tests.{le-leb, lt-leb}
+use Rattle.definitions.specs.Lists.{firstFail}
+use Rattle.definitions.specs.Answer.{Refusal, Answer, finding, refused, refuse, verdict, ask, askAt, _>>=_}
+use Rattle.definitions.specs.Literal.{holdsIn}
+use Rattle.definitions.specs.Image.{Task, initialState, readTask}
+use Rattle.definitions.specs.Clauses.{readClauses}
+use Rattle.definitions.specs.Checker.{askTrue, askKept, accept, Accepted, check}
+use Rattle.definitions.proofs.Walks.{left-here}
+use Rattle.answer.specs.Answer.{refusalAt}
+use Rattle.clause.specs.Rows.{clausesOf}
+use Rattle.clause.proofs.ReadLaws.{verdict-refused, read-fine}
+use Rattle.task.specs.Reads.{taskOf, Reads}
+use Rattle.task.proofs.Questions.{reads}
+use Rattle.checker.specs.Search.{falseAnswer, Read}
+
+-- ---- the walk to the first element that fails
+module _ {A : Type 0} (p : A → Bool) (xs : List A) (i : ℕ) where
+  pub first-left : (d x : A) → x ≡ getD xs i d → i < length xs → p x ≡ false → firstFail p i (drop i xs) ≡ some i
+  unfolding firstFail
+  first-left d x at inside h = rw (left-here xs i d x at inside, firstFail, h)
+
+  pub first-on : (d x : A) → x ≡ getD xs i d → i < length xs → p x ≡ true → firstFail p i (drop i xs) ≡ firstFail p (i + 1) (drop (i + 1) xs)
+  unfolding firstFail
+  first-on d x at inside h = ap (firstFail p i) (left-here xs i d x at inside) ∙ rw (h, firstFail, add-one)
+
+  pub first-end : length xs ≤ i → firstFail p i (drop i xs) ≡ none
+  unfolding firstFail
+  first-end past = rw (drop-of-length-le xs {i = i} past)
+
+-- question 10, of a place or none
+pub false-at : (x : Option ℕ) (i : ℕ) → x ≡ some i → refused (refusalAt 10 i 0) ≡ falseAnswer x
+unfolding falseAnswer refuse
+false-at x i h = rw h
+
+pub false-none : (x : Option ℕ) → x ≡ none → finding tt ≡ falseAnswer x
+unfolding falseAnswer
+false-none x h = rw h
+
+pub false-true : (t : Task) (C : List (List ℕ)) (s : List ℕ) → s ≡ initialState t → falseAnswer (firstFail (holdsIn s) 0 C) ≡ askTrue t C
+unfolding falseAnswer askTrue
+false-true t C s h = rw h (go (firstFail (holdsIn (initialState t)) 0 C))
+  where
+    go : (x : Option ℕ) → falseAnswer x ≡ elim x [ none ↦ finding tt | some i ↦ refuse 10 i 0 ]
+    go none = refl
+    go (some i) = refl
+
+-- ---- the questions in turn
+module _ (w c : List ℕ) (marks : ℕ) where
+  pub check-task : (r : Refusal) → refused r ≡ verdict (readTask w) → refused r ≡ verdict (check w c marks)
+  unfolding check _>>=_ verdict
+  check-task r h = rw (verdict-refused (readTask w) r (sym h))
+
+  pub check-set : (n : ℕ) → Reads w → n ≡ taskOf w .atoms → (r : Refusal) → refused r ≡ verdict (readClauses n c) → refused r ≡ verdict (check w c marks)
+  unfolding check _>>=_ verdict
+  check-set n task atoms r h = rw (task .found, verdict-refused (readClauses (taskOf w .atoms) c) r (sym (rw atoms at h)))
+
+  module _ (n : ℕ) (read : Read w c n) where
+    set′ : readClauses (taskOf w .atoms) c ≡ finding (clausesOf c)
+    set′ = rw (read .atoms) at (read .clauses .read)
+
+    pub check-marks : marks < 2 * n → refused (refusalAt 13 0 0) ≡ verdict (check w c marks)
+    unfolding check _>>=_ ask askAt verdict
+    check-marks h = rw (read .task .found, set′, lt-leb (2 * taskOf w .atoms) marks (rw (read .atoms) at h))
+
+    module _ (room : 2 * n ≤ marks) where
+      room′ : leb (2 * taskOf w .atoms) marks ≡ true
+      room′ = le-leb (2 * taskOf w .atoms) marks (rw (read .atoms) at room)
+
+      pub check-initial : (r : Refusal) → refused r ≡ askTrue (taskOf w) (clausesOf c) → refused r ≡ verdict (check w c marks)
+      unfolding check accept _>>=_ ask askAt verdict
+      check-initial r h = rw (read .task .found, set′, room′, sym h)
+
+      pub check-kept : finding tt ≡ askTrue (taskOf w) (clausesOf c) → (a : Answer (Unit {0})) → a ≡ askKept (taskOf w) (clausesOf c) 0 (clausesOf c) → a ≡ verdict (check w c marks)
+      unfolding check accept _>>=_ ask askAt verdict
+      check-kept h a e = e ∙ rw (read .task .found, set′, room′, sym h) (go (askKept (taskOf w) (clausesOf c) 0 (clausesOf c)))
+        where
+          x : Accepted
+          x = record { task = taskOf w; clauses = clausesOf c }
+
+          go : (a : Answer (Unit {0})) → a ≡ verdict (a >>= λ _. finding x)
+          go (finding tt) = refl
+          go (refused r) = refl
+
+-- what both readings tell
+pub read-both : (w c : List ℕ) (n : ℕ) → finding tt ≡ verdict (readTask w) → (n ≡ taskOf w .atoms) × (n ≤ 1024) → finding tt ≡ verdict (readClauses n c) → Read w c n
+read-both w c n task atoms set = record { task = reads w task; atoms = atoms .0; few = atoms .1; clauses = read-fine n c tt (sym set) }

@@ -1,0 +1,90 @@
+-- `checker::check_true`: the first clause that is false is the first of those that are left.
+use denote.Ref.{now}
+use Prim.Native.Nat.{_≤_, _<_, _-_}
+use mathlib.Core.Path.{_≡_, refl, sym, _∙_}
+use mathlib.Core.List.{[]}
+use native.Mathlib.Omega.{arith}
+use lib.ListN.{drop}
+use borrow.Author.Tests.{not-true, not-false}
+use Rattle.definitions.specs.Lists.{firstFail}
+use Rattle.definitions.specs.Literal.{holdsIn}
+use Rattle.clause.specs.Rows.{rowCount, clausesOf}
+use Rattle.clause.proofs.RowLaws.{clauses-length}
+use Rattle.judge.proofs.Rows.{clause-read}
+use Rattle.checker.proofs.Checking.{first-left, first-on, first-end, false-at, false-none}
+use borrow.Author.Needs.{needs}
+use Rattle.checker.proofs.check_true.Statement.{statement}
+use Rattle.checker.proofs.check_true.Tie as tie
+
+abbrev Inv-loop : tie.InvT-loop
+Inv-loop clauses state count i₀ i = (i ≤ count) × (count ≡ rowCount clauses) × (firstFail (holdsIn state) 0 (clausesOf clauses) ≡ firstFail (holdsIn state) i (drop i (clausesOf clauses)))
+
+abbrev μ-loop : tie.MeasureT-loop
+μ-loop clauses state count i₀ i = count - i
+
+rows-requires : tie.Need-rows-requires Inv-loop μ-loop
+rows-requires c κs = search needs
+
+loop-holds : tie.Need-loop-holds Inv-loop μ-loop
+loop-holds c = (omega arith, c .rows .ensures, refl)
+
+row-requires : tie.Need-row-requires Inv-loop μ-loop
+row-requires c κs = omega (arith, c .before .loop .inv .1)
+
+holds-requires : tie.Need-holds-requires Inv-loop μ-loop
+holds-requires c κs = search needs
+
+refuse-at-requires : tie.Need-refuse-at-requires Inv-loop μ-loop
+refuse-at-requires c κs = search needs
+
+returns : tie.Need-returns Inv-loop μ-loop
+returns c =
+    let t = c .before .before .before .before in
+    let i = t .before .loop .inv in
+    let w = now (c .before .before .before .before .before .before .before .before .before .args .clauses) in
+    let h : t .before .loop .i < rowCount w = omega (arith, i .1) in
+    c .refuse-at .ensures
+    ∙ false-at _ _
+    (i .2
+    ∙ first-left (holdsIn _) (clausesOf w) _ [] _ (clause-read w _ _ _ h (c .before .before .before .row .ensures) refl) (omega (arith, clauses-length w)) (sym (c .before .before .holds .ensures) ∙ not-true _ (c .before .if1 .taken)))
+
+add-i : tie.Need-add-i Inv-loop μ-loop
+add-i c = search needs
+
+loop-less : tie.Need-loop-less Inv-loop μ-loop
+loop-less c = search needs
+
+loop-again : tie.Need-loop-again Inv-loop μ-loop
+loop-again c =
+    let t = c .before .before .before in
+    let i = t .before .loop .inv in
+    let w = now (c .before .before .before .before .before .before .before .before .args .clauses) in
+    let h : t .before .loop .i < rowCount w = omega (arith, i .1) in (
+      omega arith,
+      i .1,
+      i .2
+          ∙ first-on (holdsIn _) (clausesOf w) _ [] _ (clause-read w _ _ _ h (c .before .before .row .ensures) refl) (omega (arith, clauses-length w)) (sym (c .before .holds .ensures) ∙ not-false _ (c .if1 .left)),
+    )
+
+returns-2 : tie.Need-returns-2 Inv-loop μ-loop
+returns-2 c =
+    let i = c .before .loop .inv in
+    let w = now (c .before .before .before .before .before .args .clauses) in
+    false-none _ (i .2 ∙ first-end (holdsIn _) (clausesOf w) (c .before .loop .i) (omega (arith, i .1, clauses-length w)))
+
+pub check-true-spec : {M : Type 1} → statement M
+check-true-spec =
+    tie.close
+    (tie.spec
+    Inv-loop
+    μ-loop
+    rows-requires
+    loop-holds
+    row-requires
+    holds-requires
+    refuse-at-requires
+    returns
+    add-i
+    loop-less
+    loop-again
+    returns-2)

@@ -1,0 +1,205 @@
+-- The clauses of right rows, for callers. Assumes nothing.
+use mathlib.Core.Bool.{Bool, true, false, not, _&&_, false≢true}
+use mathlib.Core.Logic.{_⊎_, inl, inr}
+use mathlib.Core.Path.{_≡_, refl, sym, _∙_, ap}
+use mathlib.Core.List.{List, [], _∷_, _++_, map, List·Memᴰ, List·Memᴰ·head, List·Memᴰ·tail, List·Memᴰ·not-nil, List·Memᴰ·cases-cons}
+use Prim.Native.Nat.{ℕ, zero, suc, _+_, _-_, _*_, _≤_, _<_}
+use native.Mathlib.Omega.{arith}
+use native.Mathlib.Decide.{decLt}
+use lib.Dec.{eqb, ltb}
+use lib.ListN.{length, replicate, length-append, length-replicate}
+use borrow.Author.Tests.{ne-eqb, ltb-true}
+use Rattle.definitions.specs.Lists.{any, all, empty, ascending, compareWords, isSame}
+use Rattle.definitions.specs.Literal.{atom, fill, allBelow, literalList}
+use Rattle.definitions.specs.Clauses.{width, rowOf, clauseOf, clauseRight, rowLess, rowAt}
+use Rattle.definitions.specs.Groups.{hasClause}
+use Rattle.definitions.proofs.ListLaws.{decide, and-left, and-right, and-both, all-at, any-in, any-of}
+use Rattle.definitions.proofs.PlaceLaws.{same-words}
+use Rattle.definitions.proofs.OrderLaws.{up, upFrom}
+use Rattle.definitions.proofs.SetRight.{GoodClause}
+use Rattle.clause.specs.Rows.{rowCount, clausesIn, clausesOf, RightRows}
+use Rattle.clause.specs.Search.{Sought, isThere}
+use Rattle.clause.specs.declared.Found.{Found}
+use Rattle.clause.specs.declared.Found.the-variants.{At, Missing}
+use Rattle.clause.proofs.RowLaws.{in-none, in-step, row-length, Placed, clause-in, clause-of}
+use Rattle.clause.proofs.RowOrder.{row-trans, row-irrefl, same-true}
+
+-- ---- a literal list
+module _ (N : ℕ) (f : List ℕ) (list : literalList N f ≡ true) where
+  pub list-below : allBelow (2 * N) f ≡ true
+  unfolding literalList
+  list-below = and-right (ascending f) (allBelow (2 * N) f) (and-left (ascending f && allBelow (2 * N) f) (ascending (map atom f)) list)
+
+pub below-at : (n : ℕ) (ls : List ℕ) → allBelow n ls ≡ true → (l : ℕ) → List·Memᴰ l ls → l < n
+unfolding allBelow
+below-at n ls h l m = ltb-true l n (all-at (λ x. ltb x n) h m)
+
+-- ---- a right row and its clause
+module _ (N : ℕ) (row : List ℕ) (right : clauseRight N row ≡ true) where
+  -- the row is that of its clause
+  pub right-row : rowOf (clauseOf row) ≡ row
+  unfolding clauseRight
+  right-row =
+      sym (same-words row (rowOf (clauseOf row)) (and-right (not (empty (clauseOf row)) && literalList N (clauseOf row)) (isSame (compareWords row (rowOf (clauseOf row)))) right))
+
+  pub right-list : literalList N (clauseOf row) ≡ true
+  unfolding clauseRight
+  right-list =
+      and-right (not (empty (clauseOf row))) (literalList N (clauseOf row))
+      (and-left (not (empty (clauseOf row)) && literalList N (clauseOf row)) (isSame (compareWords row (rowOf (clauseOf row)))) right)
+
+  pub right-some : 1 ≤ length (clauseOf row)
+  unfolding clauseRight empty
+  right-some =
+      go (clauseOf row)
+      (and-left (not (empty (clauseOf row))) (literalList N (clauseOf row))
+      (and-left (not (empty (clauseOf row)) && literalList N (clauseOf row)) (isSame (compareWords row (rowOf (clauseOf row)))) right))
+    where
+      go : (f : List ℕ) → not (empty f) ≡ true → 1 ≤ length f
+      go [] h = absurd (false≢true h)
+      go (x ∷ f) h = omega arith
+
+clause-short : (row : List ℕ) → length (clauseOf row) ≤ length row
+unfolding clauseOf
+clause-short [] = omega arith
+clause-short (x ∷ row) = go (eqb x fill) refl (clause-short row)
+  where
+    go : (b : Bool) → eqb x fill ≡ b → length (clauseOf row) ≤ length row → length (clauseOf (x ∷ row)) ≤ suc (length row)
+    go true e rec = rw (e, clauseOf) (omega arith)
+    go false e rec = rw (e, clauseOf) (omega arith)
+
+-- 1 to `width` literals as a literal list
+pub right-good : (N : ℕ) (row : List ℕ) → length row ≡ width → clauseRight N row ≡ true → GoodClause N width (clauseOf row)
+right-good N row wide right =
+    record {
+      list = right-list N row right;
+      some-literal = right-some N row right;
+      most = (let h = clause-short row in omega arith);
+    }
+
+fill-back : (N : ℕ) (f : List ℕ) (k : ℕ) → N ≤ 1024 → allBelow (2 * N) f ≡ true → clauseOf (f ++ replicate k fill) ≡ f
+unfolding clauseOf fill allBelow all
+fill-back N [] zero few h = refl
+fill-back N [] (suc k) few h = refl
+fill-back N (x ∷ f) k few h =
+    let low = ltb-true x (2 * N) (and-left (ltb x (2 * N)) (all (λ x. ltb x (2 * N)) f) h) in
+    rw (ne-eqb x 65535 (λ e. absurd (omega arith)), clauseOf)
+    (ap (λ l. x ∷ l) (fill-back N f k few (and-right (ltb x (2 * N)) (all (λ x. ltb x (2 * N)) f) h)))
+
+module _ (N : ℕ) (f : List ℕ) (few : N ≤ 1024) where
+  -- the clause of the row of a clause
+  pub row-back : allBelow (2 * N) f ≡ true → clauseOf (rowOf f) ≡ f
+  unfolding rowOf
+  row-back h = fill-back N f (width - length f) few h
+
+  pub row-wide : length f ≤ width → length (rowOf f) ≡ width
+  unfolding rowOf
+  row-wide h =
+      let a = length-append f (replicate (width - length f) fill) in
+      let b = length-replicate (width - length f) fill in
+      omega arith
+
+  pub good-right : GoodClause N width f → clauseRight N (rowOf f) ≡ true
+  unfolding clauseRight empty
+  good-right g =
+      rw (row-back (list-below N f (g .list)))
+      (and-both (and-both (some f (g .some-literal)) (g .list)) (same-true (rowOf f)))
+    where
+      some : (f : List ℕ) → 1 ≤ length f → not (empty f) ≡ true
+      some [] h = absurd (omega arith)
+      some (x ∷ f) h = refl
+
+-- ---- the clauses of right rows
+module _ (N : ℕ) (w : List ℕ) (rows : RightRows N w) where
+  pub clause-good : (f : List ℕ) → List·Memᴰ f (clausesOf w) → GoodClause N width f
+  clause-good f m =
+      let p = clause-of w f m in
+      rw (p .same) (right-good N (rowAt w (p .row)) (row-length w (p .row) (p .inside)) (rows .right (p .row) (p .inside)))
+
+  pub clause-below : (f : List ℕ) → List·Memᴰ f (clausesOf w) → (l : ℕ) → List·Memᴰ l f → l < 2 * N
+  clause-below f mf l ml = below-at (2 * N) f (list-below N f (clause-good f mf .list)) l ml
+
+  -- a clause's row is the row where it stands
+  placed-row : (f : List ℕ) (p : Placed w f) → rowAt w (p .row) ≡ rowOf f
+  placed-row f p = sym (ap rowOf (p .same) ∙ right-row N (rowAt w (p .row)) (rows .right (p .row) (p .inside)))
+
+  in-up : (i k : ℕ) → i + k ≤ rowCount w → up (clausesIn w i k) ≡ true
+  unfolding up upFrom
+  in-up i zero h = rw (in-none w i)
+  in-up i (suc zero) h = rw (in-step w i 0, in-none w (suc i))
+  in-up i (suc (suc k)) h =
+      let here : rowLess (rowOf (clauseOf (rowAt w i))) (rowOf (clauseOf (rowAt w (suc i)))) ≡ true
+      = rw (right-row N (rowAt w i) (rows .right i (omega arith)), right-row N (rowAt w (suc i)) (rows .right (suc i) (omega arith))) (rows .ascending .less i (suc i) (omega arith) (omega arith)) in
+      rw (in-step w i (suc k), in-step w (suc i) k) (and-both here (rw (in-step w (suc i) k) at (in-up (suc i) (suc k) (omega arith))))
+
+  -- the clauses are in row order
+  pub clauses-up : up (clausesOf w) ≡ true
+  unfolding clausesOf
+  clauses-up = in-up 0 (rowCount w) (omega arith)
+
+  -- whether a clause is there, as the search for its row tells
+  pub sought-clause : (f : List ℕ) (r : Found) → N ≤ 1024 → allBelow (2 * N) f ≡ true → Sought w (rowOf f) r → hasClause (clausesOf w) f ≡ isThere r
+  unfolding hasClause
+  sought-clause f (At i) few low s =
+      let e : clauseOf (rowAt w i) ≡ f = ap clauseOf (s .same) ∙ row-back N f few low in
+      any-in (λ g. isSame (compareWords f g)) (rw e at (clause-in w i (s .inside))) (same-true f)
+  sought-clause f (Missing i) few low s = go (decide (any (λ g. isSame (compareWords f g)) (clausesOf w)))
+    where
+      apart : (p : Placed w f) → Dec (p .row < i) → ⊥
+      apart p (yes l) = row-irrefl (rowOf f) (rw (placed-row f p) at (s .before (p .row) l))
+      apart p (no l) = row-irrefl (rowOf f) (rw (placed-row f p) at (s .behind (p .row) (omega arith) (p .inside)))
+
+      go : (any (λ g. isSame (compareWords f g)) (clausesOf w) ≡ true) ⊎ (any (λ g. isSame (compareWords f g)) (clausesOf w) ≡ false) → any (λ g. isSame (compareWords f g)) (clausesOf w) ≡ false
+      go (inl h) =
+          let x = any-of (λ g. isSame (compareWords f g)) (clausesOf w) h in
+          let e : f ≡ x .it = same-words f (x .it) (x .passes) in
+          let p : Placed w f = clause-of w f (rw e (x .mem)) in
+          absurd (apart p (decLt (p .row) i))
+      go (inr h) = h
+
+-- ---- sets in row order with the same members are equal
+module _ where
+  above-all : (g : List ℕ) (D : List (List ℕ)) → upFrom g D ≡ true → (x : List ℕ) → List·Memᴰ x D → rowLess (rowOf g) (rowOf x) ≡ true
+  unfolding upFrom
+  above-all g [] h x m = absurd (List·Memᴰ·not-nil m)
+  above-all g (y ∷ D) h x m = go (List·Memᴰ·cases-cons m) (λ k. above-all y D (and-right (rowLess (rowOf g) (rowOf y)) (upFrom y D) h) x k)
+    where
+      first : rowLess (rowOf g) (rowOf y) ≡ true
+      first = and-left (rowLess (rowOf g) (rowOf y)) (upFrom y D) h
+
+      go : (x ≡ y) ⊎ List·Memᴰ x D → (List·Memᴰ x D → rowLess (rowOf y) (rowOf x) ≡ true) → rowLess (rowOf g) (rowOf x) ≡ true
+      go (inl e) rec = rw e first
+      go (inr k) rec = row-trans (rowOf g) (rowOf y) (rowOf x) first (rec k)
+
+  later-up : (g : List ℕ) (D : List (List ℕ)) → upFrom g D ≡ true → up D ≡ true
+  unfolding up upFrom
+  later-up g [] h = refl
+  later-up g (y ∷ D) h = and-right (rowLess (rowOf g) (rowOf y)) (upFrom y D) h
+
+  abbrev Part : List (List ℕ) → List (List ℕ) → Type 0
+  Part C D = (f : List ℕ) → List·Memᴰ f C → List·Memᴰ f D
+
+  pub same-set : (C D : List (List ℕ)) → up C ≡ true → up D ≡ true → Part C D → Part D C → C ≡ D
+  unfolding up
+  same-set [] [] a b p q = refl
+  same-set [] (g ∷ D) a b p q = absurd (List·Memᴰ·not-nil (q g (List·Memᴰ·head refl)))
+  same-set (f ∷ C) [] a b p q = absurd (List·Memᴰ·not-nil (p f (List·Memᴰ·head refl)))
+  same-set (f ∷ C) (g ∷ D) a b p q = go same (λ x y. same-set C D (later-up f C a) (later-up g D b) x y)
+    where
+      same : f ≡ g
+      same = meet (List·Memᴰ·cases-cons (p f (List·Memᴰ·head refl))) (List·Memᴰ·cases-cons (q g (List·Memᴰ·head refl)))
+        where
+          meet : (f ≡ g) ⊎ List·Memᴰ f D → (g ≡ f) ⊎ List·Memᴰ g C → f ≡ g
+          meet (inl e) y = e
+          meet (inr x) (inl e) = sym e
+          meet (inr x) (inr y) = absurd (row-irrefl (rowOf f) (row-trans (rowOf f) (rowOf g) (rowOf f) (above-all f C a g y) (above-all g D b f x)))
+
+      rest : (u v : List ℕ) (E F : List (List ℕ)) → u ≡ v → upFrom u E ≡ true → Part (u ∷ E) (v ∷ F) → Part E F
+      rest u v E F e up p x m = pick (List·Memᴰ·cases-cons (p x (List·Memᴰ·tail m)))
+        where
+          pick : (x ≡ v) ⊎ List·Memᴰ x F → List·Memᴰ x F
+          pick (inl h) = absurd (row-irrefl (rowOf u) (rw (h ∙ sym e) at (above-all u E up x m)))
+          pick (inr k) = k
+
+      go : f ≡ g → (Part C D → Part D C → C ≡ D) → (f ∷ C) ≡ (g ∷ D)
+      go e rec = let r = rec (rest f g C D e a p) (rest g f D C (sym e) b q) in cc

@@ -1,0 +1,10 @@
+pub mod Words
+pub mod RowLaws
+pub mod Right
+pub mod Reading
+pub mod RowOrder
+pub mod ReadLaws
+pub mod ClauseLaws
+pub mod WordLaws
+pub mod Rest
+pub mod Insert

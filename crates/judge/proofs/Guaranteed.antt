@@ -1,0 +1,265 @@
+-- The flags of the guaranteed literals are what the walks over the operator's rows leave. Assumes nothing.
+use mathlib.Core.Bool.{Bool, true, false, not, _&&_, _||_, cond}
+use mathlib.Core.Logic.{_⊎_, inl, inr}
+use mathlib.Core.Path.{_≡_, refl, sym, _∙_, ap, ap₂, subst}
+use mathlib.Core.List.{List, [], _∷_, _++_, map}
+use Prim.Native.Nat.{ℕ, _+_, _*_, _<_}
+use native.Mathlib.Omega.{arith}
+use lib.Dec.{eqb}
+use lib.ListN.{length, getD, set, length-set}
+use lib.Seq.{getD-set-same, getD-set-other, ext-getD}
+use borrow.Author.Tests.{eqb-true, eqb-false, eq-eqb, ne-eqb}
+use Rattle.definitions.specs.Lists.{any, all, keep, below}
+use Rattle.definitions.specs.Literal.{complement}
+use Rattle.definitions.specs.Image.{Row, Operator}
+use Rattle.definitions.specs.Closure.{has, bit, closure, contradictory}
+use Rattle.definitions.specs.Kept.{rowsWith, allIn, madeTrue, staysTrue, guaranteed, kept}
+use Rattle.definitions.proofs.ListLaws.{decide, table-at, table-length}
+use Rattle.definitions.proofs.LiteralLaws.{Shape, is, isnt, shape}
+use Rattle.judge.specs.Judging.{flagsOf, addEffects, canFire, dropChanged, guaranteedFlags}
+
+-- ---- tests of kept lists
+module _ {A : Type 0} (t p : A → Bool) where
+  pub any-keep : (xs : List A) → any p (keep t xs) ≡ any (λ x. t x && p x) xs
+  unfolding any keep
+  any-keep [] = refl
+  any-keep (x ∷ xs) = go (t x) refl (any-keep xs)
+    where
+      go : (b : Bool) → t x ≡ b → any p (keep t xs) ≡ any (λ x. t x && p x) xs → any p (keep t (x ∷ xs)) ≡ ((t x && p x) || any (λ x. t x && p x) xs)
+      go true e k = rw (e, keep, k)
+      go false e k = rw (e, keep, k)
+
+  pub all-keep : (xs : List A) → all p (keep t xs) ≡ all (λ x. not (t x) || p x) xs
+  unfolding all keep
+  all-keep [] = refl
+  all-keep (x ∷ xs) = go (t x) refl (all-keep xs)
+    where
+      go : (b : Bool) → t x ≡ b → all p (keep t xs) ≡ all (λ x. not (t x) || p x) xs → all p (keep t (x ∷ xs)) ≡ ((not (t x) || p x) && all (λ x. not (t x) || p x) xs)
+      go true e k = rw (e, keep, k)
+      go false e k = rw (e, keep, k)
+
+module _ {A : Type 0} (p q : A → Bool) (same : (x : A) → p x ≡ q x) where
+  pub any-same : (xs : List A) → any p xs ≡ any q xs
+  unfolding any
+  any-same [] = refl
+  any-same (x ∷ xs) = ap₂ (λ a b. a || b) (same x) (any-same xs)
+
+  pub all-same : (xs : List A) → all p xs ≡ all q xs
+  unfolding all
+  all-same [] = refl
+  all-same (x ∷ xs) = ap₂ (λ a b. a && b) (same x) (all-same xs)
+
+-- ---- complements
+pub complement-twice : (l : ℕ) → complement (complement l) ≡ l
+complement-twice l = go (shape l)
+  where
+    go : Shape l → complement (complement l) ≡ l
+    go (is _ a e x y c) = ap complement c ∙ odd (shape (2 * a + 1)) ∙ sym e
+      where
+        odd : Shape (2 * a + 1) → complement (2 * a + 1) ≡ 2 * a
+        odd (is _ b f u v w) = absurd (omega arith)
+        odd (isnt _ b f u v w) = w ∙ (omega arith)
+    go (isnt _ a e x y c) = ap complement c ∙ even (shape (2 * a)) ∙ sym e
+      where
+        even : Shape (2 * a) → complement (2 * a) ≡ 2 * a + 1
+        even (is _ b f u v w) = w ∙ (omega arith)
+        even (isnt _ b f u v w) = absurd (omega arith)
+
+pub complement-eqb : (a b : ℕ) → eqb a (complement b) ≡ eqb (complement a) b
+complement-eqb a b = go (decide (eqb a (complement b)))
+  where
+    go : (eqb a (complement b) ≡ true) ⊎ (eqb a (complement b) ≡ false) → eqb a (complement b) ≡ eqb (complement a) b
+    go (inl h) = h ∙ sym (eq-eqb (complement a) b (ap complement (eqb-true a (complement b) h) ∙ complement-twice b))
+    go (inr h) =
+        h
+        ∙ sym (ne-eqb (complement a) b (λ e. eqb-false a (complement b) h (sym (complement-twice a) ∙ ap complement e)))
+
+flag-bits : (a b c : Bool) → cond a 1 (cond b (bit c) 0) ≡ bit (a || (c && b))
+unfolding bit
+flag-bits true b c = refl
+flag-bits false true true = refl
+flag-bits false true false = refl
+flag-bits false false true = refl
+flag-bits false false false = refl
+
+pub bit-flag : (b : Bool) → eqb (bit b) 1 ≡ b
+unfolding bit
+bit-flag true = refl
+bit-flag false = refl
+
+-- ---- one flag after the walks over the rows
+module _ (b : Bool) (S : List ℕ) (i x m : ℕ) (low : m < length S) where
+  -- a flag where that of i becomes x
+  pub set-at-flag : getD (cond b (set S i x) S) m 0 ≡ cond (eqb i m && b) x (getD S m 0)
+  set-at-flag = go b (decide (eqb i m))
+    where
+      go : (b : Bool) → (eqb i m ≡ true) ⊎ (eqb i m ≡ false) → getD (cond b (set S i x) S) m 0 ≡ cond (eqb i m && b) x (getD S m 0)
+      go false (inl h) = rw h
+      go false (inr h) = rw h
+      go true (inl h) =
+          let e : i ≡ m = eqb-true i m h in
+          rw (h, e) (getD-set-same S m x 0 low)
+      go true (inr h) =
+          let ne = eqb-false i m h in
+          rw h (getD-set-other S i m x 0 (λ e. ne (sym e)))
+
+  pub set-length : length (cond b (set S i x) S) ≡ length S
+  set-length = go b
+    where
+      go : (b : Bool) → length (cond b (set S i x) S) ≡ length S
+      go true = length-set S i x
+      go false = refl
+
+pub added-length : (K : List ℕ) (qs : List Row) (S : List ℕ) → length (addEffects K qs S) ≡ length S
+unfolding addEffects
+added-length K [] S = refl
+added-length K (q ∷ qs) S = added-length K qs (cond (allIn K (q .conditions)) (set S (q .effect) 1) S) ∙ go (allIn K (q .conditions))
+  where
+    go : (b : Bool) → length (cond b (set S (q .effect) 1) S) ≡ length S
+    go true = length-set S (q .effect) 1
+    go false = refl
+
+cond-or : (a b : Bool) (x : ℕ) → cond b 1 (cond a 1 x) ≡ cond (a || b) 1 x
+cond-or true true x = refl
+cond-or true false x = refl
+cond-or false b x = refl
+
+cond-and : (a b : Bool) (x : ℕ) → cond b (cond a 0 x) 0 ≡ cond (not a && b) x 0
+cond-and true true x = refl
+cond-and true false x = refl
+cond-and false b x = refl
+
+-- the flag of m is set if m is the effect of a row whose conditions lie in K
+pub added-at : (K : List ℕ) (qs : List Row) (S : List ℕ) (m : ℕ) → m < length S → getD (addEffects K qs S) m 0 ≡ cond (any (λ q. eqb (q .effect) m && allIn K (q .conditions)) qs) 1 (getD S m 0)
+unfolding addEffects any
+added-at K [] S m low = refl
+added-at K (q ∷ qs) S m low =
+    let b = allIn K (q .conditions) in
+    let T = cond b (set S (q .effect) 1) S in
+    added-at K qs T m (subst (λ (k : ℕ). m < k) (sym (set-length b S (q .effect) 1 m low)) low)
+    ∙ ap (λ x. cond (any (λ q. eqb (q .effect) m && allIn K (q .conditions)) qs) 1 x) (set-at-flag b S (q .effect) 1 m low)
+    ∙ cond-or (eqb (q .effect) m && b) (any (λ q. eqb (q .effect) m && allIn K (q .conditions)) qs) (getD S m 0)
+
+module _ (N : ℕ) (C : List (List ℕ)) where
+  pub dropped-length : (ls : List ℕ) (qs : List Row) (S : List ℕ) → length (dropChanged N C ls qs S) ≡ length S
+  unfolding dropChanged
+  dropped-length ls [] S = refl
+  dropped-length ls (q ∷ qs) S = dropped-length ls qs (cond (canFire N C ls (q .conditions)) (set S (complement (q .effect)) 0) S) ∙ go (canFire N C ls (q .conditions))
+    where
+      go : (b : Bool) → length (cond b (set S (complement (q .effect)) 0) S) ≡ length S
+      go true = length-set S (complement (q .effect)) 0
+      go false = refl
+
+  -- the flag of m stays if no row with the complement of m can fire
+  pub dropped-at : (ls : List ℕ) (qs : List Row) (S : List ℕ) (m : ℕ) → m < length S → getD (dropChanged N C ls qs S) m 0 ≡ cond (all (λ q. not (eqb (complement (q .effect)) m && canFire N C ls (q .conditions))) qs) (getD S m 0) 0
+  unfolding dropChanged all
+  dropped-at ls [] S m low = refl
+  dropped-at ls (q ∷ qs) S m low =
+      let b = canFire N C ls (q .conditions) in
+      let T = cond b (set S (complement (q .effect)) 0) S in
+      dropped-at ls qs T m (subst (λ (k : ℕ). m < k) (sym (set-length b S (complement (q .effect)) 0 m low)) low)
+      ∙ ap (λ x. cond (all (λ q. not (eqb (complement (q .effect)) m && canFire N C ls (q .conditions))) qs) x 0) (set-at-flag b S (complement (q .effect)) 0 m low)
+      ∙ cond-and (eqb (complement (q .effect)) m && b) (all (λ q. not (eqb (complement (q .effect)) m && canFire N C ls (q .conditions))) qs) (getD S m 0)
+
+  -- both walks leave the flags of the guaranteed literals
+  module _ (o : Operator) (ls : List ℕ) where
+    made-any : (K : List ℕ) (m : ℕ) → madeTrue N C o K m ≡ any (λ q. eqb (q .effect) m && allIn K (q .conditions)) (o .rows)
+    unfolding madeTrue rowsWith
+    made-any K m = any-keep (λ q. eqb (q .effect) m) (λ q. allIn K (q .conditions)) (o .rows)
+
+    safe-all : (m : ℕ) → all (λ q. contradictory N (closure N C (ls ++ q .conditions))) (rowsWith o (complement m)) ≡ all (λ q. not (eqb (complement (q .effect)) m && canFire N C ls (q .conditions))) (o .rows)
+    unfolding rowsWith canFire
+    safe-all m =
+        all-keep (λ q. eqb (q .effect) (complement m)) (λ q. contradictory N (closure N C (ls ++ q .conditions))) (o .rows)
+        ∙ all-same (λ q. not (eqb (q .effect) (complement m)) || contradictory N (closure N C (ls ++ q .conditions))) (λ q. not (eqb (complement (q .effect)) m && canFire N C ls (q .conditions)))
+        (λ q. ap (λ b. not b || contradictory N (closure N C (ls ++ q .conditions))) (complement-eqb (q .effect) m) ∙ go (eqb (complement (q .effect)) m) (contradictory N (closure N C (ls ++ q .conditions)))) (o .rows)
+      where
+        go : (a b : Bool) → (not a || b) ≡ not (a && not b)
+        go true true = refl
+        go true false = refl
+        go false b = refl
+
+    pub guaranteed-walks : addEffects (closure N C ls) (o .rows) (dropChanged N C ls (o .rows) (flagsOf N (closure N C ls))) ≡ guaranteedFlags N C o ls
+    unfolding guaranteedFlags guaranteed staysTrue flagsOf
+    guaranteed-walks = ext-getD 0 G H same (λ m h. at m (subst (λ (k : ℕ). m < k) lenG h))
+      where
+        K : List ℕ
+        K = closure N C ls
+
+        F : List ℕ
+        F = map (λ l. bit (has K l)) (below (2 * N))
+
+        E : List ℕ
+        E = dropChanged N C ls (o .rows) F
+
+        G : List ℕ
+        G = addEffects K (o .rows) E
+
+        H : List ℕ
+        H = map (λ m. bit (guaranteed N C o ls K m)) (below (2 * N))
+
+        lenF : length F ≡ 2 * N
+        lenF = table-length (λ l. bit (has K l)) (2 * N)
+
+        lenE : length E ≡ 2 * N
+        lenE = dropped-length ls (o .rows) F ∙ lenF
+
+        lenG : length G ≡ 2 * N
+        lenG = added-length K (o .rows) E ∙ lenE
+
+        same : length G ≡ length H
+        same = lenG ∙ sym (table-length (λ m. bit (guaranteed N C o ls K m)) (2 * N))
+
+        at : (m : ℕ) → m < 2 * N → getD G m 0 ≡ getD H m 0
+        at m low =
+            let made = any (λ q. eqb (q .effect) m && allIn K (q .conditions)) (o .rows) in
+            let safe = all (λ q. not (eqb (complement (q .effect)) m && canFire N C ls (q .conditions))) (o .rows) in
+            added-at K (o .rows) E m (subst (λ (k : ℕ). m < k) (sym lenE) low)
+            ∙ ap (λ x. cond made 1 x)
+            (dropped-at ls (o .rows) F m (subst (λ (k : ℕ). m < k) (sym lenF) low)
+            ∙ ap (λ x. cond safe x 0) (table-at (λ l. bit (has K l)) (2 * N) m low))
+            ∙ flag-bits made safe (has K m)
+            ∙ ap₂ (λ a b. bit (a || (has K m && b))) (sym (made-any K m)) (sym (safe-all m))
+            ∙ sym (table-at (λ m. bit (guaranteed N C o ls K m)) (2 * N) m low)
+
+    pub guaranteed-has : (m : ℕ) → m < 2 * N → has (guaranteedFlags N C o ls) m ≡ guaranteed N C o ls (closure N C ls) m
+    unfolding has guaranteedFlags
+    guaranteed-has m low = ap (λ x. eqb x 1) (table-at (λ m. bit (guaranteed N C o ls (closure N C ls) m)) (2 * N) m low) ∙ bit-flag (guaranteed N C o ls (closure N C ls) m)
+
+-- ---- the walks over the rows, by the row that comes next
+module _ (K : List ℕ) (rs rs′ : List Row) (e : ℕ) (cs S : List ℕ) (next : rs ≡ record { effect = e; conditions = cs } ∷ rs′) where
+  pub add-made : (S′ : List ℕ) → S′ ≡ set S e 1 → allIn K cs ≡ true → addEffects K rs S ≡ addEffects K rs′ S′
+  unfolding addEffects
+  add-made S′ es h = rw (next, h, es)
+
+  pub add-passed : allIn K cs ≡ false → addEffects K rs S ≡ addEffects K rs′ S
+  unfolding addEffects
+  add-passed h = rw (next, h)
+
+pub add-end : (K : List ℕ) (rs : List Row) (S : List ℕ) → rs ≡ [] → addEffects K rs S ≡ S
+unfolding addEffects
+add-end K rs S h = rw h
+
+module _ (N : ℕ) (C : List (List ℕ)) (ls : List ℕ) where
+  module _ (rs rs′ : List Row) (e : ℕ) (cs S : List ℕ) (next : rs ≡ record { effect = e; conditions = cs } ∷ rs′) where
+    pub drop-fires : (l : ℕ) (S′ : List ℕ) → l ≡ complement e → S′ ≡ set S l 0 → canFire N C ls cs ≡ true → dropChanged N C ls rs S ≡ dropChanged N C ls rs′ S′
+    unfolding dropChanged
+    drop-fires l S′ el es h = rw (next, h, es, el)
+
+    pub drop-passed : canFire N C ls cs ≡ false → dropChanged N C ls rs S ≡ dropChanged N C ls rs′ S
+    unfolding dropChanged
+    drop-passed h = rw (next, h)
+
+  pub drop-end : (rs : List Row) (S : List ℕ) → rs ≡ [] → dropChanged N C ls rs S ≡ S
+  unfolding dropChanged
+  drop-end rs S h = rw h
+
+  pub drop-start : (rs rs′ : List Row) (S : List ℕ) → rs ≡ rs′ → dropChanged N C ls rs′ S ≡ dropChanged N C ls rs S
+  drop-start rs rs′ S h = rw h
+
+pub add-start : (K : List ℕ) (rs rs′ : List Row) (S : List ℕ) → rs ≡ rs′ → addEffects K rs′ S ≡ addEffects K rs S
+add-start K rs rs′ S h = rw h
+
+-- by the code's own flags after each walk
+pub guaranteed-made : (N : ℕ) (C : List (List ℕ)) (o : Operator) (ls F E G : List ℕ) → F ≡ flagsOf N (closure N C ls) → E ≡ dropChanged N C ls (o .rows) F → G ≡ addEffects (closure N C ls) (o .rows) E → G ≡ guaranteedFlags N C o ls
+guaranteed-made N C o ls F E G f e g = g ∙ rw (e, f) (guaranteed-walks N C o ls)

@@ -1,0 +1,10 @@
+pub mod Parts
+pub mod Closures
+pub mod BlockRows
+pub mod Rows
+pub mod Guaranteed
+pub mod Firing
+pub mod Violations
+pub mod Flagged
+pub mod Turns
+pub mod Keeping

@@ -1,0 +1,128 @@
+-- `judge::guarantee::drop_changed`: the rows that are left take what flags are still to go.
+use Prim.Native.Nat.{ℕ}
+use mathlib.Core.Path.{_≡_, refl, sym, _∙_}
+use mathlib.Core.List.{List}
+use native.Mathlib.Omega.{arith}
+use lib.ListN.{length}
+use borrow.Author.Tests.{not-true, not-false}
+use Rattle.clause.specs.Rows.{clausesOf}
+use Rattle.task.specs.Walk.{operatorIn, rowsAt}
+use Rattle.task.proofs.Blocks.{rows-none}
+use Rattle.judge.specs.Promise.{ConsistentClosure}
+use Rattle.judge.specs.Judging.{dropChanged}
+use Rattle.judge.proofs.BlockRows.{Left, left-start, left-next, effect-low, conditions-low}
+use Rattle.judge.proofs.Guaranteed.{drop-start, drop-fires, drop-passed, drop-end}
+use borrow.Author.Needs.{needs}
+use Rattle.judge.proofs.guarantee.drop_changed.Statement.{statement}
+use Rattle.judge.proofs.guarantee.drop_changed.Tie as tie
+
+abbrev Inv-loop : tie.InvT-loop
+Inv-loop clauses block marks n work₀ flags₀ end rows at₀ left₀ work flags at left =
+    (length work ≡ length work₀) × (length flags ≡ length flags₀) × Left n block at left
+    × ((ls : List ℕ) → ConsistentClosure n clauses ls marks → dropChanged n (clausesOf clauses) ls (operatorIn block .rows) flags₀ ≡ dropChanged n (clausesOf clauses) ls (rowsAt block at left) flags)
+
+abbrev μ-loop : tie.MeasureT-loop
+μ-loop clauses block marks n work₀ flags₀ end rows at₀ left₀ work flags at left = left
+
+head-requires : tie.Need-head-requires Inv-loop μ-loop
+head-requires c κs = c .before .before .before .before .before .pre .0 .parses
+
+add-at : tie.Need-add-at Inv-loop μ-loop
+add-at c = search needs
+
+loop-holds : tie.Need-loop-holds Inv-loop μ-loop
+loop-holds c = (refl, refl, left-start _ _ (c .before .before .before .before .before .before .pre .0 .right) _ _ (c .head .ensures), λ ls closed. drop-start _ _ ls _ _ _ (c .head .ensures .rows))
+
+row-requires : tie.Need-row-requires Inv-loop μ-loop
+row-requires c κs = (c .before .loop .inv .2 .parses, c .loop-test .taken)
+
+sub-left : tie.Need-sub-left Inv-loop μ-loop
+sub-left c = search needs
+
+mul-can-fire : tie.Need-mul-can-fire Inv-loop μ-loop
+mul-can-fire c = search needs
+
+sub-can-fire : tie.Need-sub-can-fire Inv-loop μ-loop
+sub-can-fire c = search needs
+
+part-can-fire-start : tie.Need-part-can-fire-start Inv-loop μ-loop
+part-can-fire-start c = search needs
+
+part-can-fire-end : tie.Need-part-can-fire-end Inv-loop μ-loop
+part-can-fire-end c = search needs
+
+can-fire-requires : tie.Need-can-fire-requires Inv-loop μ-loop
+can-fire-requires c κs =
+    let p = c .before .before .before .before .before .before .before .before .before .before .before .pre in
+    let i = c .before .before .before .before .loop .inv in
+    (record { few = p .0 .few; room = omega (arith, p .2, i .0); rows = p .0 .rows; below = conditions-low _ _ _ _ _ _ _ (i .2) (c .before .before .row .ensures) }, p .1)
+
+loop-less : tie.Need-loop-less Inv-loop μ-loop
+loop-less c = search needs
+
+loop-again : tie.Need-loop-again Inv-loop μ-loop
+loop-again c =
+    let i = c .before .before .before .before .before .before .before .before .loop .inv in
+    let r = c .before .before .before .before .before .before .row .ensures in
+    (c .before .before .before .can-fire .kept .1 .1 .1 .1 .0 ∙ i .0, i .1, left-next _ _ _ _ _ _ _ (i .2) r, λ ls closed. i .3 ls closed ∙ drop-passed _ _ ls _ _ _ _ _ (r .row) (sym (c .before .before .before .can-fire .ensures ls closed) ∙ not-true _ (c .if1 .taken)))
+
+complement-requires : tie.Need-complement-requires Inv-loop μ-loop
+complement-requires c κs =
+    let p = c .before .before .before .before .before .before .before .before .before .before .before .before .before .before .before .before .pre in
+    let i = c .before .before .before .before .before .before .before .before .before .loop .inv in
+    let r = c .before .before .before .before .before .before .before .row .ensures in
+    omega (arith, effect-low _ _ _ _ _ _ _ (i .2) r, p .0 .few)
+
+wide-requires : tie.Need-wide-requires Inv-loop μ-loop
+wide-requires c κs = search needs
+
+put-requires : tie.Need-put-requires Inv-loop μ-loop
+put-requires c κs = search needs
+
+loop-less-2 : tie.Need-loop-less-2 Inv-loop μ-loop
+loop-less-2 c = search needs
+
+loop-again-2 : tie.Need-loop-again-2 Inv-loop μ-loop
+loop-again-2 c =
+    let i = c .before .before .before .before .before .before .before .before .before .before .before .before .before .before .loop .inv in
+    let r = c .before .before .before .before .before .before .before .before .before .before .before .before .row .ensures in
+    (c .before .before .before .before .before .before .before .before .before .can-fire .kept .1 .1 .1 .1 .0 ∙ i .0, c .before .before .put .kept .0 ∙ i .1, left-next _ _ _ _ _ _ _ (i .2) r, λ ls closed. i .3 ls closed ∙ drop-fires _ _ ls _ _ _ _ _ (r .row) _ _ (c .before .before .before .wide .ensures .0 ∙ c .before .before .before .before .complement .ensures) (c .before .before .put .ensures) (sym (c .before .before .before .before .before .before .before .before .before .can-fire .ensures ls closed) ∙ not-false _ (c .before .before .before .before .before .before .if1 .left)))
+
+same-length : tie.Need-same-length Inv-loop μ-loop
+same-length c = c .before .loop .inv .0
+
+same-length-2 : tie.Need-same-length-2 Inv-loop μ-loop
+same-length-2 c = c .before .loop .inv .1
+
+returns : tie.Need-returns Inv-loop μ-loop
+returns c =
+    λ ls closed.
+    let i = c .before .loop .inv in
+    sym (i .3 ls closed ∙ drop-end _ _ ls _ _ (rows-none _ _ _ (omega arith)))
+
+pub drop-changed-spec : {M : Type 1} → statement M
+drop-changed-spec =
+    tie.close
+    (tie.spec
+    Inv-loop
+    μ-loop
+    head-requires
+    add-at
+    loop-holds
+    row-requires
+    sub-left
+    mul-can-fire
+    sub-can-fire
+    part-can-fire-start
+    part-can-fire-end
+    can-fire-requires
+    loop-less
+    loop-again
+    complement-requires
+    wide-requires
+    put-requires
+    loop-less-2
+    loop-again-2
+    same-length
+    same-length-2
+    returns)

@@ -1,0 +1,191 @@
+// All judged clauses under one operator.
+ghost use mathlib.Core.Path.{_≡_};
+ghost use mathlib.Core.List.{List};
+ghost use Prim.Native.Nat.{ℕ, _*_, _≤_};
+ghost use lib.ListN.{length};
+ghost use Rattle.definitions.specs.Lists.{any, member};
+ghost use Rattle.clause.specs.Rows.{rowCount, clausesOf};
+ghost use Rattle.judge.specs.Judging.{lacksOther, isOther, flagMore, guaranteedFlags, someViolates, failFlags};
+ghost use Rattle.judge.specs.Promise.{Given, Judged, ConsistentClosure};
+ghost use Rattle.propagation.specs.Marks.{ConsistentMarks};
+ghost use Rattle.task.specs.Walk.{operatorIn};
+use propagation::Closing;
+use task::block::BlockHead;
+use task::block::RowPart;
+
+// Whether a list holds literal `l`.
+fn holds_literal(literals: &[u16], l: u16) -> bool
+    ensures { λ r. ⌜ r ≡ member l (now (literals .entry)) ⌝ }
+{
+    let mut i: usize = 0;
+    while i < literals.len() {
+        if literals[i] == l {
+            return true;
+        }
+        i += 1;
+    }
+    false
+}
+
+// Whether a literal other than `l` has its flag.
+fn is_other(m: u16, l: u16, flags: &[u8]) -> bool
+    ensures { λ r. ⌜ r ≡ isOther (now (flags .entry)) l m ⌝ }
+{
+    if m == l {
+        return false;
+    }
+    super::flags::has(flags, literal::wide(m))
+}
+
+// Whether some literal of a list, other than `l`, has its flag.
+fn other_flagged(literals: &[u16], l: u16, flags: &[u8]) -> bool
+    ensures { λ r. ⌜ r ≡ any (isOther (now (flags .entry)) l) (now (literals .entry)) ⌝ }
+{
+    let mut i: usize = 0;
+    while i < literals.len() {
+        if is_other(literals[i], l, flags) {
+            return true;
+        }
+        i += 1;
+    }
+    false
+}
+
+// Whether a clause holds `l` and no other literal that has its flag.
+fn lacks_other(literals: &[u16], l: u16, flags: &[u8]) -> bool
+    ensures { λ r. ⌜ r ≡ lacksOther l (now (flags .entry)) (now (literals .entry)) ⌝ }
+{
+    if !holds_literal(literals, l) {
+        return false;
+    }
+    !other_flagged(literals, l, flags)
+}
+
+// Whether some judged clause holds `l`.
+fn some_holds(judged: &[u16], l: u16) -> bool
+    ensures { λ r. ⌜ r ≡ any (member l) (clausesOf (now (judged .entry))) ⌝ }
+{
+    let count = clause::rows(judged);
+    let mut i: usize = 0;
+    while i < count {
+        if holds_literal(clause::literals(clause::row(judged, i)), l) {
+            return true;
+        }
+        i += 1;
+    }
+    false
+}
+
+// Flags the judged clauses that hold `l` and no other literal that has its flag.
+fn flag_lacking(judged: &[u16], l: u16, flags: &[u8], fails: &mut [u8])
+    requires { ⌜ length (now fails) ≡ rowCount (now judged) ⌝ }
+    ensures { λ _. ⌜ now (fails .exit) ≡ flagMore (lacksOther l (now (flags .entry))) (clausesOf (now (judged .entry))) (now (fails .entry)) ⌝ }
+{
+    let count = clause::rows(judged);
+    let mut i: usize = 0;
+    while i < count {
+        let at = i;
+        i += 1;
+        if !lacks_other(clause::literals(clause::row(judged, at)), l, flags) {
+            continue;
+        }
+        fails[at] = 1;
+    }
+}
+
+// Flags the judged clauses that hold `l` and no other literal that the operator guarantees, where the marks are those of a closure.
+fn flag_violated(
+    clauses: &[u16],
+    judged: &[u16],
+    block: &[u16],
+    l: u16,
+    marks: &[u8],
+    n: usize,
+    fails: &mut [u8],
+)
+    requires { ⌜ Given n (now clauses) (now block) × ConsistentMarks n (now marks) × (length (now fails) ≡ rowCount (now judged)) ⌝ }
+    ensures { λ _. ⌜ ((ls : List ℕ) → ConsistentClosure n (now (clauses .entry)) ls (now (marks .entry)) → now (fails .exit) ≡ flagMore (lacksOther l (guaranteedFlags n (clausesOf (now (clauses .entry))) (operatorIn (now (block .entry))) ls)) (clausesOf (now (judged .entry))) (now (fails .entry))) ⌝ }
+{
+    let mut flags = super::guarantee::room();
+    let size = 2 * n;
+    super::guarantee::flag_guaranteed(clauses, block, marks, n, &mut flags[..size]);
+    flag_lacking(judged, l, &flags[..size], fails);
+}
+
+// Flags the judged clauses that some row violates, where `base` has the marks of the clauses' and the precondition's closure.
+fn judge_rows(
+    clauses: &[u16],
+    judged: &[u16],
+    block: &[u16],
+    base: &[u8],
+    marks: &mut [u8],
+    n: usize,
+    fails: &mut [u8],
+)
+    requires { ⌜ Given n (now clauses) (now block) × Judged n (now judged) × ConsistentClosure n (now clauses) (operatorIn (now block) .precondition) (now base) × (2 * n ≤ length (now marks)) × (length (now fails) ≡ rowCount (now judged)) ⌝ }
+    ensures { λ _. ⌜ now (fails .exit) ≡ flagMore (someViolates n (clausesOf (now (clauses .entry))) (operatorIn (now (block .entry))) (operatorIn (now (block .entry)) .rows)) (clausesOf (now (judged .entry))) (now (fails .entry)) ⌝ }
+{
+    let BlockHead { end, rows } = task::block::head(block);
+    let mut at = end + 1;
+    let mut left = rows;
+    while 0 < left {
+        let RowPart { effect, from, end } = task::block::row(block, at, left);
+        at = end;
+        left -= 1;
+        let l = super::guarantee::complement(effect);
+        if !some_holds(judged, l) {
+            continue;
+        }
+        propagation::copy(base, marks, n);
+        let closed = propagation::extend(clauses, &block[from..end], marks, n);
+        match closed {
+            Closing::Contradictory => {
+                continue;
+            }
+            Closing::Consistent => {}
+        }
+        flag_violated(clauses, judged, block, l, marks, n, fails);
+    }
+}
+
+// Flags the judged clauses that some row violates, where the marks are those of the clauses' and the precondition's closure.
+fn judge_consistent(
+    clauses: &[u16],
+    judged: &[u16],
+    block: &[u16],
+    marks: &mut [u8],
+    n: usize,
+    fails: &mut [u8],
+)
+    requires { ⌜ Given n (now clauses) (now block) × Judged n (now judged) × ConsistentClosure n (now clauses) (operatorIn (now block) .precondition) (now marks) × (length (now fails) ≡ rowCount (now judged)) ⌝ }
+    ensures { λ _. ⌜ now (fails .exit) ≡ flagMore (someViolates n (clausesOf (now (clauses .entry))) (operatorIn (now (block .entry))) (operatorIn (now (block .entry)) .rows)) (clausesOf (now (judged .entry))) (now (fails .entry)) ⌝ }
+{
+    let mut base = super::guarantee::room();
+    let size = 2 * n;
+    propagation::copy(marks, &mut base[..size], n);
+    judge_rows(clauses, judged, block, &base[..size], marks, n, fails);
+}
+
+// Flags the judged clauses that the clauses do not keep under the operator of a block.
+pub fn judge(
+    clauses: &[u16],
+    judged: &[u16],
+    block: &[u16],
+    marks: &mut [u8],
+    n: usize,
+    fails: &mut [u8],
+)
+    requires { ⌜ Given n (now clauses) (now block) × Judged n (now judged) × (2 * n ≤ length (now marks)) × (length (now fails) ≡ rowCount (now judged)) ⌝ }
+    ensures { λ _. ⌜ now (fails .exit) ≡ failFlags n (clausesOf (now (clauses .entry))) (operatorIn (now (block .entry))) (clausesOf (now (judged .entry))) ⌝ }
+{
+    super::flags::clear(fails);
+    let head = task::block::head(block);
+    let end = head.end;
+    let closed = propagation::close(clauses, &block[1..end], marks, n);
+    match closed {
+        Closing::Contradictory => {}
+        Closing::Consistent => {
+            judge_consistent(clauses, judged, block, marks, n, fails);
+        }
+    }
+}

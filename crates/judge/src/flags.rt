@@ -1,0 +1,36 @@
+// Flags: a byte each, 1 for what has it.
+ghost use mathlib.Core.Path.{_≡_};
+ghost use Prim.Native.Nat.{_<_};
+ghost use lib.ListN.{length, set, replicate};
+ghost use Rattle.definitions.specs.Closure.{has};
+
+// Whether `i` has its flag.
+pub fn has(flags: &[u8], i: usize) -> bool
+    ensures { λ r. ⌜ r ≡ has (now (flags .entry)) i ⌝ }
+{
+    if i < flags.len() {
+        flags[i] == 1
+    } else {
+        false
+    }
+}
+
+// Gives `i` the byte `x`, if it has a place.
+pub fn put(flags: &mut [u8], i: usize, x: u8)
+    ensures { λ _. ⌜ now (flags .exit) ≡ set (now (flags .entry)) i x ⌝ }
+{
+    if i < flags.len() {
+        flags[i] = x;
+    }
+}
+
+// Takes all flags away.
+pub fn clear(flags: &mut [u8])
+    ensures { λ _. ⌜ now (flags .exit) ≡ replicate (length (now (flags .entry))) 0 ⌝ }
+{
+    let mut i: usize = 0;
+    while i < flags.len() {
+        flags[i] = 0;
+        i += 1;
+    }
+}

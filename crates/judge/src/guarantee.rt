@@ -1,0 +1,153 @@
+// The literals that an operator guarantees.
+ghost use mathlib.Core.Path.{_≡_};
+ghost use mathlib.Core.Bool.{true};
+ghost use mathlib.Core.List.{List};
+ghost use Prim.Native.Nat.{ℕ, _*_, _<_, _≤_};
+ghost use lib.ListN.{length};
+ghost use Rattle.definitions.specs.Literal.{complement};
+ghost use Rattle.definitions.specs.Image.{operatorRight};
+ghost use Rattle.definitions.specs.Closure.{bit};
+ghost use Rattle.clause.specs.Rows.{clausesOf};
+ghost use Rattle.task.specs.Walk.{blockParses, operatorIn};
+ghost use Rattle.propagation.specs.Marks.{Marked, ConsistentMarks, Asked};
+ghost use Rattle.judge.specs.Promise.{Given, ConsistentClosure};
+ghost use Rattle.judge.specs.Judging.{flagsOf, canFire, addEffects, dropChanged, guaranteedFlags, Guarantees};
+use literal::Literal;
+use propagation::Closing;
+use task::block::BlockHead;
+use task::block::RowPart;
+
+// Room for a byte for each literal.
+pub fn room() -> [u8; 2048]
+    ensures { λ r. ⌜ length r ≡ 2048 ⌝ }
+{
+    [0u8; 2048]
+}
+
+// The complement of a row's effect.
+pub fn complement(effect: usize) -> u16
+    requires { ⌜ effect < 65535 ⌝ }
+    ensures { λ r. ⌜ r ≡ complement effect ⌝ }
+{
+    (Literal {
+        code: effect as u16,
+    })
+        .complement()
+        .code
+}
+
+fn byte(b: bool) -> u8
+    ensures { λ r. ⌜ r ≡ bit b ⌝ }
+{
+    if b { 1 } else { 0 }
+}
+
+// Flags the marked literals.
+fn flag_marked(marks: &[u8], n: usize, flags: &mut [u8])
+    requires { ⌜ (n ≤ 1024) × (length (now flags) ≡ 2 * n) ⌝ }
+    ensures { λ _. ⌜ ((K : List ℕ) → Marked n (now (marks .entry)) K → now (flags .exit) ≡ flagsOf n K) ⌝ }
+{
+    let end = 2 * n;
+    let mut l: usize = 0;
+    while l < end {
+        flags[l] = byte(propagation::holds(marks, l));
+        l += 1;
+    }
+}
+
+// Whether a row with these conditions can fire, where the marks are those of a closure.
+fn can_fire(clauses: &[u16], conditions: &[u16], marks: &[u8], n: usize, work: &mut [u8]) -> bool
+    requires { ⌜ Asked n (now clauses) (now conditions) (now work) × ConsistentMarks n (now marks) ⌝ }
+    ensures { λ r. ⌜ ((ls : List ℕ) → ConsistentClosure n (now (clauses .entry)) ls (now (marks .entry)) → r ≡ canFire n (clausesOf (now (clauses .entry))) ls (now (conditions .entry))) ⌝ }
+{
+    if propagation::holds_all(marks, conditions) {
+        return true;
+    }
+    propagation::copy(marks, work, n);
+    let closed = propagation::extend(clauses, conditions, work, n);
+    match closed {
+        Closing::Consistent => true,
+        Closing::Contradictory => false,
+    }
+}
+
+// Takes their flags from the complements of the effects of the rows that can fire.
+fn drop_changed(
+    clauses: &[u16],
+    block: &[u16],
+    marks: &[u8],
+    n: usize,
+    work: &mut [u8],
+    flags: &mut [u8],
+)
+    requires { ⌜ Given n (now clauses) (now block) × ConsistentMarks n (now marks) × (2 * n ≤ length (now work)) ⌝ }
+    ensures { λ _. ⌜ ((ls : List ℕ) → ConsistentClosure n (now (clauses .entry)) ls (now (marks .entry)) → now (flags .exit) ≡ dropChanged n (clausesOf (now (clauses .entry))) ls (operatorIn (now (block .entry)) .rows) (now (flags .entry))) ⌝ }
+{
+    let BlockHead { end, rows } = task::block::head(block);
+    let mut at = end + 1;
+    let mut left = rows;
+    while 0 < left {
+        let RowPart { effect, from, end } = task::block::row(block, at, left);
+        at = end;
+        left -= 1;
+        if !can_fire(clauses, &block[from..end], marks, n, work) {
+            continue;
+        }
+        super::flags::put(flags, literal::wide(complement(effect)), 0);
+    }
+}
+
+// Flags the effects of the rows whose conditions are marked.
+fn add_effects(block: &[u16], marks: &[u8], flags: &mut [u8])
+    requires { ⌜ blockParses (now block) ≡ true ⌝ }
+    ensures { λ _. ⌜ ((n : ℕ) (K : List ℕ) → operatorRight n (operatorIn (now (block .entry))) ≡ true → Marked n (now (marks .entry)) K → now (flags .exit) ≡ addEffects K (operatorIn (now (block .entry)) .rows) (now (flags .entry))) ⌝ }
+{
+    let BlockHead { end, rows } = task::block::head(block);
+    let mut at = end + 1;
+    let mut left = rows;
+    while 0 < left {
+        let RowPart { effect, from, end } = task::block::row(block, at, left);
+        at = end;
+        left -= 1;
+        if !propagation::holds_all(marks, &block[from..end]) {
+            continue;
+        }
+        super::flags::put(flags, effect, 1);
+    }
+}
+
+// Flags the literals that an operator guarantees, where the marks are those of the closure of the clauses and literals that hold before it.
+pub fn flag_guaranteed(clauses: &[u16], block: &[u16], marks: &[u8], n: usize, flags: &mut [u8])
+    requires { ⌜ Given n (now clauses) (now block) × ConsistentMarks n (now marks) × (length (now flags) ≡ 2 * n) ⌝ }
+    ensures { λ _. ⌜ ((ls : List ℕ) → ConsistentClosure n (now (clauses .entry)) ls (now (marks .entry)) → now (flags .exit) ≡ guaranteedFlags n (clausesOf (now (clauses .entry))) (operatorIn (now (block .entry))) ls) ⌝ }
+{
+    let mut work = room();
+    let end = 2 * n;
+    flag_marked(marks, n, flags);
+    drop_changed(clauses, block, marks, n, &mut work[..end], flags);
+    add_effects(block, marks, flags);
+}
+
+// Flags the literals that the operator of a block guarantees. It answers false, with flags that say nothing, where the closure of
+// the clauses and the precondition is contradictory: then no clause fails under the operator.
+pub fn flag_operator(
+    clauses: &[u16],
+    block: &[u16],
+    marks: &mut [u8],
+    n: usize,
+    flags: &mut [u8],
+) -> bool
+    requires { ⌜ Given n (now clauses) (now block) × (2 * n ≤ length (now marks)) × (length (now flags) ≡ 2 * n) ⌝ }
+    ensures { λ r. ⌜ Guarantees n (clausesOf (now (clauses .entry))) (operatorIn (now (block .entry))) (now (flags .exit)) r ⌝ }
+{
+    let head = task::block::head(block);
+    let end = head.end;
+    let closed = propagation::close(clauses, &block[1..end], marks, n);
+    match closed {
+        Closing::Contradictory => false,
+        Closing::Consistent => {
+            flag_guaranteed(clauses, block, marks, n, flags);
+            true
+        }
+    }
+}

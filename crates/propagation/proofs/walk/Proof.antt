@@ -1,0 +1,280 @@
+-- `propagation::walk`: the state of the walk over the clauses, and within a row that of the scan.
+use Prim.Native.Nat.{ℕ, _≤_, _<_, _-_, _+_}
+use mathlib.Core.Path.{_≡_, sym, _∙_, ap, subst}
+use mathlib.Core.Bool.{true}
+use mathlib.Core.Logic.{⊎-elim}
+use mathlib.Core.List.{List}
+use native.Mathlib.Omega.{arith}
+use lib.ListN.{length, getD, take, drop, set}
+use Rattle.propagation.specs.declared.Pass.the-variants.{Grown}
+use denote.Ref.{now}
+use Rattle.definitions.specs.Literal.{fill}
+use Rattle.definitions.specs.Clauses.{width, clauseRight}
+use Rattle.clause.specs.Rows.{clauseAt, RightRows}
+use Rattle.clause.proofs.Rest.{row-fits, start-right}
+use Rattle.clause.proofs.ReadLaws.{read-right}
+use Rattle.clause.proofs.ClauseLaws.{right-row, clause-below}
+use Rattle.propagation.specs.declared.Pass.{Pass}
+use Rattle.propagation.specs.declared.Scan.{Scan}
+use Rattle.propagation.specs.declared.Scan.the-variants as scan
+use Rattle.propagation.specs.Walk.{Scanned, Ready}
+use Rattle.propagation.proofs.Sets.{in-byte, out-byte, even-on}
+use Rattle.propagation.proofs.Scans.{Scanning, scan-start, word-in, scan-same, scan-first, scan-second, scan-none, scan-one, scan-only}
+use Rattle.propagation.proofs.Steps.{Walk, walk-start, walk-end, this, pass-row, clash-row, set-row}
+use borrow.Author.Needs.{needs}
+use Rattle.propagation.proofs.walk.Statement.{statement}
+use Rattle.propagation.proofs.walk.Tie as tie
+
+abbrev Inv-loop : tie.InvT-loop
+Inv-loop clauses marks pass at row first₀ k₀ first k = (k ≤ width) × Scanning clauses marks row k first
+
+abbrev μ-loop : tie.MeasureT-loop
+μ-loop clauses marks pass at row first₀ k₀ first k = width - k
+
+abbrev Inv-walk : tie.InvT-walk
+Inv-walk clauses marks₀ pass₀ at₀ marks pass at = Walk clauses marks₀ marks at pass
+
+abbrev μ-walk : tie.MeasureT-walk
+μ-walk clauses marks₀ pass₀ at₀ marks pass at = length clauses - at
+
+-- in the outer loop: the clause words, the set at the start and now, the row's place and the answer so far
+abbrev outer : Type 0
+outer = tie.In-walk Inv-loop μ-loop Inv-walk μ-walk
+
+abbrev words : outer → List ℕ
+words w = now (w .before .before .before .before .args .clauses)
+
+abbrev set-first : outer → List ℕ
+set-first w = now (w .before .before .before .before .args .marks)
+
+abbrev set-now : outer → List ℕ
+set-now w = w .before .walk .marks
+
+abbrev place : outer → ℕ
+place w = w .before .walk .at
+
+abbrev so-far : outer → Pass
+so-far w = w .before .walk .pass
+
+ready : (w : outer) → Ready (words w) (set-first w)
+ready w = w .before .before .before .before .pre
+
+atoms : outer → ℕ
+atoms w = ready w .atoms
+
+state : (w : outer) → Walk (words w) (set-first w) (set-now w) (place w) (so-far w)
+state w = w .before .walk .inv
+
+length-now : (w : outer) → length (set-now w) ≡ length (set-first w)
+length-now w = state w .reached .same-length
+
+rows : (w : outer) → RightRows (atoms w) (words w)
+unfolding atoms
+rows w = read-right (atoms w) (words w) (ready w .rows)
+
+inside : (w : outer) → place w + width ≤ length (words w)
+inside w = row-fits (length (words w)) (place w) (rows w .ascending .whole) (state w .aligned) (w .walk-test .taken)
+
+row-right : (w : outer) → clauseRight (atoms w) (take width (drop (place w) (words w))) ≡ true
+row-right w = start-right (atoms w) (words w) (place w) (rows w) (state w .aligned) (inside w)
+
+-- in the inner loop: the word
+abbrev inner : Type 0
+inner = tie.In-loop Inv-loop μ-loop Inv-walk μ-walk
+
+abbrev word : inner → ℕ
+word c = getD (words (c .before .before)) (place (c .before .before) + c .before .loop .k) 0
+
+in-width : (c : inner) → c .before .loop .k < width
+unfolding width
+in-width c = c .loop-test .taken
+
+in-range : (c : inner) → place (c .before .before) + c .before .loop .k < length (words (c .before .before))
+in-range c = omega (arith, inside (c .before .before), in-width c)
+
+word-below : (c : inner) → (word c ≡ fill → ⊥) → word c < length (set-now (c .before .before))
+unfolding atoms
+word-below c ne =
+    let w = c .before .before in
+    let m = word-in (words w) (set-now w) (place w) (c .before .loop .k) (c .before .loop .first) (c .before .loop .inv .1) (in-width c) ne in
+    omega (arith, clause-below (atoms w) (words w) (rows w) (clauseAt (words w) (place w)) (this (words w) (set-first w) (set-now w) (place w) (inside w) (so-far w) (state w)) (word c) m, ready w .exact, length-now w)
+
+-- behind the inner loop: the scan of the whole row
+scanned : (c : tie.After-loop Inv-loop μ-loop Inv-walk μ-walk) → Scanning (words (c .before .before)) (set-now (c .before .before)) (place (c .before .before)) (c .before .loop .k) (c .before .loop .first)
+scanned c = c .before .loop .inv .1
+
+all-words : (c : tie.After-loop Inv-loop μ-loop Inv-walk μ-walk) → width ≤ c .before .loop .k
+unfolding width
+all-words c = c .loop-test .left
+
+-- the open literal that was found, and its mark
+some-found : (c : tie.After-wide Inv-loop μ-loop Inv-walk μ-walk) → c .before .before .before .loop .first ≡ fill → ⊥
+unfolding fill
+some-found c = c .before .if1 .left
+
+mark-inside : (c : tie.After-wide Inv-loop μ-loop Inv-walk μ-walk) → c .wide .result < length (set-now (c .before .before .before .before))
+mark-inside c = rw (c .wide .ensures .0) (scanned (c .before .before) .found (some-found c) .2)
+
+-- what the word adds to the scan
+added : (c : tie.After-scan-word Inv-loop μ-loop Inv-walk μ-walk) (v : Scan) → c .scan-word .result ≡ v → Scanned (set-now (c .before .before .before .before .before)) (word (c .before .before .before)) (c .before .before .before .before .loop .first) v
+added c v e = subst (λ (x : Scan). Scanned (set-now (c .before .before .before .before .before)) (word (c .before .before .before)) (c .before .before .before .before .loop .first) x) e (c .scan-word .ensures)
+
+walk-holds : tie.Need-walk-holds Inv-loop μ-loop Inv-walk μ-walk
+walk-holds c = walk-start _ _ (c .before .before .pre .sound)
+
+add-at : tie.Need-add-at Inv-loop μ-loop Inv-walk μ-walk
+unfolding width
+add-at c = omega (arith, inside c)
+
+loop-holds : tie.Need-loop-holds Inv-loop μ-loop Inv-walk μ-walk
+unfolding fill
+loop-holds c = (omega arith, scan-start (words c) (set-now c) (place c) (inside c) (right-row (atoms c) _ (row-right c)))
+
+add-word : tie.Need-add-word Inv-loop μ-loop Inv-walk μ-walk
+add-word c = omega (arith, in-range c)
+
+mul-word : tie.Need-mul-word Inv-loop μ-loop Inv-walk μ-walk
+mul-word c = omega (arith, in-range c)
+
+shared-slice-read-word : tie.Need-shared-slice-read-word Inv-loop μ-loop Inv-walk μ-walk
+shared-slice-read-word c = in-range (c .before)
+
+scan-word-requires : tie.Need-scan-word-requires Inv-loop μ-loop Inv-walk μ-walk
+scan-word-requires c κs = (even-on _ _ (length-now (c .before .before .before .before)) (ready (c .before .before .before .before) .sound .even), word-below (c .before .before))
+
+enum-told : tie.Need-enum-told Inv-loop μ-loop Inv-walk μ-walk
+enum-told c = c .match .keys1
+
+enum-told-2 : tie.Need-enum-told-2 Inv-loop μ-loop Inv-walk μ-walk
+enum-told-2 c = c .match .keys2
+
+enum-told-3 : tie.Need-enum-told-3 Inv-loop μ-loop Inv-walk μ-walk
+enum-told-3 c = c .match .keys3
+
+walk-less : tie.Need-walk-less Inv-loop μ-loop Inv-walk μ-walk
+unfolding width
+walk-less c = omega (arith, inside (c .before .before .before .before .before .before .before))
+
+walk-again : tie.Need-walk-again Inv-loop μ-loop Inv-walk μ-walk
+unfolding width
+walk-again c =
+    let w = c .before .before .before .before .before .before .before in
+    let l = c .before .before .before .before .before .before .loop in
+    pass-row (words w) (set-first w) (set-now w) (place w) (inside w) (so-far w) (state w)
+    (scan-second (words w) (set-now w) (place w) (l .k) (l .first) (l .inv .1) (in-width (c .before .before .before .before .before)) (added (c .before .before) scan.Second (c .enum-told3 .given .1)))
+
+add-k : tie.Need-add-k Inv-loop μ-loop Inv-walk μ-walk
+unfolding width
+add-k c = search needs
+
+loop-less : tie.Need-loop-less Inv-loop μ-loop Inv-walk μ-walk
+unfolding width
+loop-less c = search needs
+
+loop-again : tie.Need-loop-again Inv-loop μ-loop Inv-walk μ-walk
+unfolding width
+loop-again c =
+    let i = c .before .before .before .before in
+    let w = i .before .before in
+    let l = i .before .loop in (
+      omega (arith, in-width i),
+      ⊎-elim
+          (λ a. subst (λ (x : ℕ). Scanning (words w) (set-now w) (place w) (l .k + 1) x) (sym (a .2)) (scan-same (words w) (set-now w) (place w) (l .k) (l .first) (l .inv .1) (in-width i) (added (c .before) scan.Same (a .1 .given .1))))
+          (λ a. subst (λ (x : ℕ). Scanning (words w) (set-now w) (place w) (l .k + 1) x) (sym (a .2)) (scan-first (words w) (set-now w) (place w) (l .k) (l .first) (l .inv .1) (in-width i) (word-below i (added (c .before) scan.First (a .1 .given .1) .0)) (added (c .before) scan.First (a .1 .given .1))))
+          (c .match .came),
+    )
+
+wide-requires : tie.Need-wide-requires Inv-loop μ-loop Inv-walk μ-walk
+wide-requires c κs = search needs
+
+slice-read-if2 : tie.Need-slice-read-if2 Inv-loop μ-loop Inv-walk μ-walk
+slice-read-if2 c = mark-inside (c .before)
+
+slice-write-marks : tie.Need-slice-write-marks Inv-loop μ-loop Inv-walk μ-walk
+slice-write-marks c = mark-inside (c .before .before)
+
+walk-less-2 : tie.Need-walk-less-2 Inv-loop μ-loop Inv-walk μ-walk
+unfolding width
+walk-less-2 c = omega (arith, inside (c .before .before .before .before .before .before))
+
+walk-again-2 : tie.Need-walk-again-2 Inv-loop μ-loop Inv-walk μ-walk
+unfolding width
+walk-again-2 c =
+    let a = c .before .before .before .before in
+    let w = a .before .before in
+    let l = a .before .loop in
+    let e = c .before .before .wide .ensures .0 in
+    let some = some-found (c .before .before) in
+    subst (λ (x : ℕ). Walk (words w) (set-first w) (set (set-now w) x 1) (place w + width) Grown) (sym e)
+    (set-row (words w) (set-first w) (set-now w) (place w) (inside w) (so-far w) (state w) (l .first) (scanned a .found some .2)
+    (scan-one (words w) (set-now w) (place w) (l .k) (l .first) (scanned a) (all-words a) some)
+    (out-byte (set-now w) (l .first) (λ q. c .if2 .taken (ap (λ (x : ℕ). getD (set-now w) x 0) e ∙ q)))
+    (scanned a .found some .1))
+
+walk-less-3 : tie.Need-walk-less-3 Inv-loop μ-loop Inv-walk μ-walk
+unfolding width
+walk-less-3 c = omega (arith, inside (c .before .before .before .before .before .before))
+
+walk-again-3 : tie.Need-walk-again-3 Inv-loop μ-loop Inv-walk μ-walk
+unfolding width
+walk-again-3 c =
+    let a = c .before .before .before .before in
+    let w = a .before .before in
+    let l = a .before .loop in
+    let e = c .before .before .wide .ensures .0 in
+    pass-row (words w) (set-first w) (set-now w) (place w) (inside w) (so-far w) (state w)
+    (scan-only (words w) (set-now w) (place w) (l .k) (l .first) (scanned a) (all-words a) (some-found (c .before .before))
+    (in-byte (set-now w) (l .first) (ap (λ (x : ℕ). getD (set-now w) x 0) (sym e) ∙ c .if2 .left)))
+
+same-length : tie.Need-same-length Inv-loop μ-loop Inv-walk μ-walk
+same-length c = c .before .walk .inv .reached .same-length
+
+returns : tie.Need-returns Inv-loop μ-loop Inv-walk μ-walk
+returns c = walk-end _ _ _ _ _ (c .walk-test .left) (c .before .walk .inv)
+
+same-length-2 : tie.Need-same-length-2 Inv-loop μ-loop Inv-walk μ-walk
+same-length-2 c = length-now (c .before .before .before)
+
+returns-2 : tie.Need-returns-2 Inv-loop μ-loop Inv-walk μ-walk
+unfolding fill
+returns-2 c =
+    let a = c .before in
+    let w = a .before .before in
+    let l = a .before .loop in
+    clash-row (words w) (set-first w) (set-now w) (place w) (inside w) (so-far w) (state w) (atoms w) (row-right w)
+    (scan-none (words w) (set-now w) (place w) (l .k) (l .first) (scanned a) (all-words a) (c .if1 .taken))
+
+pub walk-spec : {M : Type 1} → statement M
+walk-spec =
+    tie.close
+    (tie.spec
+    Inv-loop
+    μ-loop
+    Inv-walk
+    μ-walk
+    walk-holds
+    add-at
+    loop-holds
+    add-word
+    mul-word
+    shared-slice-read-word
+    scan-word-requires
+    enum-told
+    enum-told-2
+    enum-told-3
+    walk-less
+    walk-again
+    add-k
+    loop-less
+    loop-again
+    wide-requires
+    slice-read-if2
+    slice-write-marks
+    walk-less-2
+    walk-again-2
+    walk-less-3
+    walk-again-3
+    same-length
+    returns
+    same-length-2
+    returns-2)
