@@ -4,10 +4,10 @@ use mathlib.Core.Path.{_≡_, refl, sym, ap, _∙_}
 use Prim.Native.Nat.{ℕ, suc, _+_, _≤_, _<_}
 use native.Mathlib.Numerals.{add-one}
 use native.Mathlib.Omega.{arith}
-use lib.ListN.{length, getD, drop, drop-of-length-le}
+use lib.ListN.{length, getD, take, drop, drop-of-length-le}
 use lib.Seq.{drop-cons}
 use Rattle.definitions.specs.Answer.{Refusal, Answer, finding, refused, verdict, Outcome, outcome, stateAfter, becomes}
-use Rattle.definitions.specs.StepLists.{runFrom, refusedAfter, walk, verdicts}
+use Rattle.definitions.specs.StepLists.{runFrom, refusedAfter, walk, verdicts, visited, stepsBefore, Along, none-left, related}
 
 module _ (next : List ℕ → ℕ → Answer (List ℕ)) (s : List ℕ) (k i : ℕ) (is : List ℕ) where
   pub run-found : (s′ : List ℕ) → next s i ≡ finding s′ → runFrom next s k (i ∷ is) ≡ runFrom next s′ (suc k) is
@@ -17,6 +17,11 @@ module _ (next : List ℕ → ℕ → Answer (List ℕ)) (s : List ℕ) (k i : �
   pub run-refused : (r : Refusal) → next s i ≡ refused r → runFrom next s k (i ∷ is) ≡ outcome (refused (refusedAfter k r)) s
   unfolding runFrom outcome
   run-refused r e = rw (e, runFrom)
+
+-- related states stay so under a weaker relation
+pub along-map : {R S : List ℕ → List ℕ → Type 0} → ((s v : List ℕ) → R s v → S s v) → {ss vs : List (List ℕ)} → Along R ss vs → Along S ss vs
+along-map f none-left = none-left
+along-map f (related {s = s} {v = v} x xs) = related (f s v x) (along-map f xs)
 
 -- R relates the states of the two
 module _ (R : List ℕ → List ℕ → Type 0) where
@@ -49,6 +54,20 @@ module _ (R : List ℕ → List ℕ → Type 0) where
           verdicts-alike is (stateAfter s (f s i)) (stateAfter v (g v i)) (alike-state x (alike s v x i)),
         )
 
+    pub visited-alike : (is s v : List ℕ) → R s v → Along R (visited f s is) (visited g v is)
+    unfolding visited
+    visited-alike [] s v x = related x none-left
+    visited-alike (i ∷ is) s v x = related x (visited-alike is (stateAfter s (f s i)) (stateAfter v (g v i)) (alike-state x (alike s v x i)))
+
+    pub before-alike : (is s v : List ℕ) → R s v → stepsBefore f s is ≡ stepsBefore g v is
+    unfolding stepsBefore
+    before-alike [] s v x = refl
+    before-alike (i ∷ is) s v x = go (alike s v x i) refl refl (λ s v x. before-alike is s v x)
+      where
+        go : {a b : Answer (List ℕ)} → Alike a b → f s i ≡ a → g v i ≡ b → ((s v : List ℕ) → R s v → stepsBefore f s is ≡ stepsBefore g v is) → stepsBefore f s (i ∷ is) ≡ stepsBefore g v (i ∷ is)
+        go (both-found {s = s′} {v = v′} y) p q rec = rw (p, q, stepsBefore) (ap suc (rec s′ v′ y))
+        go (both-refused r) p q rec = rw (p, q, stepsBefore)
+
     -- list runs: the same answer, and related states
     pub run-alike : (is s v : List ℕ) (k : ℕ) → R s v → (runFrom f s k is .answer ≡ runFrom g v k is .answer) × R (runFrom f s k is .lent) (runFrom g v k is .lent)
     unfolding runFrom outcome
@@ -60,6 +79,19 @@ module _ (R : List ℕ → List ℕ → Type 0) where
             → (runFrom f s k (i ∷ is) .answer ≡ runFrom g v k (i ∷ is) .answer) × R (runFrom f s k (i ∷ is) .lent) (runFrom g v k (i ∷ is) .lent)
         go (both-found {s = s′} {v = v′} y) p q rec = rw (run-found f s k i is s′ p, run-found g v k i is v′ q) (rec s′ v′ y)
         go (both-refused r) p q rec = rw (run-refused f s k i is r p, run-refused g v k i is r q) (refl, x)
+
+-- a list run leaves the state after the steps before the first refused one
+pub run-left : (next : List ℕ → ℕ → Answer (List ℕ)) (is s : List ℕ) (k : ℕ) → runFrom next s k is .lent ≡ walk next s (take (stepsBefore next s is) is)
+unfolding runFrom walk stepsBefore outcome stateAfter
+run-left next [] s k = refl
+run-left next (i ∷ is) s k = go (next s i) refl (λ s k. run-left next is s k)
+  where
+    go : (a : Answer (List ℕ)) → next s i ≡ a → ((s : List ℕ) (k : ℕ) → runFrom next s k is .lent ≡ walk next s (take (stepsBefore next s is) is)) → runFrom next s k (i ∷ is) .lent ≡ walk next s (take (stepsBefore next s (i ∷ is)) (i ∷ is))
+    go (finding s′) e rec = rw (e, runFrom, stepsBefore) (rec s′ (suc k) ∙ at s′ e)
+      where
+        at : (s′ : List ℕ) → next s i ≡ finding s′ → walk next s′ (take (stepsBefore next s′ is) is) ≡ walk next (stateAfter s (next s i)) (take (stepsBefore next s′ is) is)
+        at s′ e = rw e
+    go (refused r) e rec = rw (e, runFrom, stepsBefore)
 
 -- no refusal is a finding
 refused-found : {A : Type 0} (r : Refusal) (a : A) → _≡_ {A = Answer A} (refused r) (finding a) → ⊥
