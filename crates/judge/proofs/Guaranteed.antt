@@ -3,19 +3,20 @@ use mathlib.Core.Bool.{Bool, true, false, not, _&&_, _||_, cond}
 use mathlib.Core.Logic.{_⊎_, inl, inr}
 use mathlib.Core.Path.{_≡_, refl, sym, _∙_, ap, ap₂, subst}
 use mathlib.Core.List.{List, [], _∷_, _++_, map}
-use Prim.Native.Nat.{ℕ, _+_, _*_, _<_}
+use Prim.Native.Nat.{ℕ, zero, suc, _+_, _*_, _<_}
 use native.Mathlib.Omega.{arith}
 use lib.Dec.{eqb}
 use lib.ListN.{length, getD, set, length-set}
 use lib.Seq.{getD-set-same, getD-set-other, ext-getD}
 use borrow.Author.Tests.{eqb-true, eqb-false, eq-eqb, ne-eqb}
-use Rattle.definitions.specs.Lists.{any, all, keep, below}
+use Rattle.definitions.specs.Lists.{any, all, keep, range, below}
 use Rattle.definitions.specs.Literal.{complement}
-use Rattle.definitions.specs.Image.{Row, Operator}
+use Rattle.definitions.specs.Image.{Row, Operator, Task}
+use Rattle.definitions.specs.Synthesis.{guarantees}
 use Rattle.definitions.specs.Closure.{has, bit, closure, contradictory}
-use Rattle.definitions.specs.Kept.{rowsWith, allIn, madeTrue, staysTrue, guaranteed, kept}
+use Rattle.definitions.specs.Kept.{rowsWith, allIn, madeTrue, staysTrue, guaranteed}
 use Rattle.definitions.proofs.ListLaws.{decide, table-at, table-length}
-use Rattle.definitions.proofs.LiteralLaws.{Shape, is, isnt, shape}
+use Rattle.propagation.proofs.Sets.{complement-back}
 use Rattle.judge.specs.Judging.{flagsOf, addEffects, canFire, dropChanged, guaranteedFlags}
 
 -- ---- tests of kept lists
@@ -50,29 +51,14 @@ module _ {A : Type 0} (p q : A → Bool) (same : (x : A) → p x ≡ q x) where
   all-same (x ∷ xs) = ap₂ (λ a b. a && b) (same x) (all-same xs)
 
 -- ---- complements
-pub complement-twice : (l : ℕ) → complement (complement l) ≡ l
-complement-twice l = go (shape l)
-  where
-    go : Shape l → complement (complement l) ≡ l
-    go (is _ a e x y c) = ap complement c ∙ odd (shape (2 * a + 1)) ∙ sym e
-      where
-        odd : Shape (2 * a + 1) → complement (2 * a + 1) ≡ 2 * a
-        odd (is _ b f u v w) = absurd (omega arith)
-        odd (isnt _ b f u v w) = w ∙ (omega arith)
-    go (isnt _ a e x y c) = ap complement c ∙ even (shape (2 * a)) ∙ sym e
-      where
-        even : Shape (2 * a) → complement (2 * a) ≡ 2 * a + 1
-        even (is _ b f u v w) = w ∙ (omega arith)
-        even (isnt _ b f u v w) = absurd (omega arith)
-
 pub complement-eqb : (a b : ℕ) → eqb a (complement b) ≡ eqb (complement a) b
 complement-eqb a b = go (decide (eqb a (complement b)))
   where
     go : (eqb a (complement b) ≡ true) ⊎ (eqb a (complement b) ≡ false) → eqb a (complement b) ≡ eqb (complement a) b
-    go (inl h) = h ∙ sym (eq-eqb (complement a) b (ap complement (eqb-true a (complement b) h) ∙ complement-twice b))
+    go (inl h) = h ∙ sym (eq-eqb (complement a) b (ap complement (eqb-true a (complement b) h) ∙ complement-back b))
     go (inr h) =
         h
-        ∙ sym (ne-eqb (complement a) b (λ e. eqb-false a (complement b) h (sym (complement-twice a) ∙ ap complement e)))
+        ∙ sym (ne-eqb (complement a) b (λ e. eqb-false a (complement b) h (sym (complement-back a) ∙ ap complement e)))
 
 flag-bits : (a b c : Bool) → cond a 1 (cond b (bit c) 0) ≡ bit (a || (c && b))
 unfolding bit
@@ -263,3 +249,19 @@ add-start K rs rs′ S h = rw h
 -- by the code's own flags after each walk
 pub guaranteed-made : (N : ℕ) (C : List (List ℕ)) (o : Operator) (ls F E G : List ℕ) → F ≡ flagsOf N (closure N C ls) → E ≡ dropChanged N C ls (o .rows) F → G ≡ addEffects (closure N C ls) (o .rows) E → G ≡ guaranteedFlags N C o ls
 guaranteed-made N C o ls F E G f e g = g ∙ rw (e, f) (guaranteed-walks N C o ls)
+
+-- the literals that an operator guarantees, as the synthesis lists them
+keep-range : (p q : ℕ → Bool) (i n : ℕ) → ((l : ℕ) → l < i + n → p l ≡ q l) → keep p (range i n) ≡ keep q (range i n)
+unfolding range keep
+keep-range p q i zero h = refl
+keep-range p q i (suc n) h = go (p i) refl (keep-range p q (suc i) n (λ l k. h l (let z = k in omega arith)))
+  where
+    go : (b : Bool) → p i ≡ b → keep p (range (suc i) n) ≡ keep q (range (suc i) n) → keep p (i ∷ range (suc i) n) ≡ keep q (i ∷ range (suc i) n)
+    go true e rec = let f : q i ≡ true = sym (h i (omega arith)) ∙ e in rw (e, f, keep, rec)
+    go false e rec = let f : q i ≡ false = sym (h i (omega arith)) ∙ e in rw (e, f, keep, rec)
+
+pub guarantees-flagged : (t : Task) (C : List (List ℕ)) (o : Operator) → guarantees t C o ≡ keep (has (guaranteedFlags (t .atoms) C o (o .precondition))) (below (2 * t .atoms))
+unfolding guarantees below
+guarantees-flagged t C o =
+    keep-range (guaranteed (t .atoms) C o (o .precondition) (closure (t .atoms) C (o .precondition))) (has (guaranteedFlags (t .atoms) C o (o .precondition))) 0 (2 * t .atoms)
+    (λ l h. sym (guaranteed-has (t .atoms) C o (o .precondition) l (omega arith)))

@@ -26,33 +26,36 @@ judged-low n ws judged f m =
     let p = clause-of ws f m in
     rw (p .same) (list-low n (clauseOf (rowAt ws (p .row))) (right-list n (rowAt ws (p .row)) (judged .right (p .row) (p .inside))))
 
-module _ (N : ℕ) (C : List (List ℕ)) (o : Operator) (D : List (List ℕ)) (rs rs′ : List Row) (e : ℕ) (cs s : List ℕ) (next : rs ≡ record { effect = e; conditions = cs } ∷ rs′) where
+-- one row against the judged clauses
+module _ (N : ℕ) (C : List (List ℕ)) (o : Operator) (D : List (List ℕ)) (e : ℕ) (cs s : List ℕ) where
   r : Row
   r = record { effect = e; conditions = cs }
 
-  turn : (s′ : List ℕ) → s′ ≡ flagMore (violates N C o r) D s → flagMore (someViolates N C o rs) D s ≡ flagMore (someViolates N C o rs′) D s′
-  unfolding r
-  turn s′ h = ap (λ x. flagMore (someViolates N C o x) D s) next ∙ rows-on N C o D r rs′ s ∙ ap (flagMore (someViolates N C o rs′) D) (sym h)
-
-  -- no judged clause holds the complement of the effect
-  pub turn-passed : (l : ℕ) → l ≡ complement e → any (member l) D ≡ false → flagMore (someViolates N C o rs) D s ≡ flagMore (someViolates N C o rs′) D s
-  unfolding r
-  turn-passed l el h = turn s (sym (flag-none (violates N C o r) D s (λ f m. violates-passed N C o r f (rw el at (not-held f m (decide (member l f)))))))
-    where
-      not-held : (f : List ℕ) → List·Memᴰ f D → (member l f ≡ true) ⊎ (member l f ≡ false) → member l f ≡ false
-      not-held f m (inl x) = never (any-in (member l) m x) h
-      not-held f m (inr x) = x
-
   -- K is contradictory
-  pub turn-contradictory : contradictory N (closure N C (o .precondition ++ cs)) ≡ true → flagMore (someViolates N C o rs) D s ≡ flagMore (someViolates N C o rs′) D s
+  pub row-contradictory : contradictory N (closure N C (o .precondition ++ cs)) ≡ true → s ≡ flagMore (violates N C o (record { effect = e; conditions = cs })) D s
   unfolding r
-  turn-contradictory h = turn s (sym (flag-none (violates N C o r) D s (λ f m. violates-none N C o r f h)))
+  row-contradictory h = sym (flag-none (violates N C o r) D s (λ f m. violates-none N C o r f h))
 
-  -- the clauses are judged
-  pub turn-judged : ((f : List ℕ) → List·Memᴰ f D → allBelow (2 * N) f ≡ true) → contradictory N (closure N C (o .precondition ++ cs)) ≡ false → (l : ℕ) (s′ : List ℕ) → l ≡ complement e → s′ ≡ flagMore (lacksOther l (guaranteedFlags N C o (o .precondition ++ cs))) D s → flagMore (someViolates N C o rs) D s ≡ flagMore (someViolates N C o rs′) D s′
+  -- the clauses are judged by the guaranteed literals
+  pub row-judged : ((f : List ℕ) → List·Memᴰ f D → allBelow (2 * N) f ≡ true) → contradictory N (closure N C (o .precondition ++ cs)) ≡ false → (l : ℕ) (s′ : List ℕ) → l ≡ complement e → s′ ≡ flagMore (lacksOther l (guaranteedFlags N C o (o .precondition ++ cs))) D s → s′ ≡ flagMore (violates N C o (record { effect = e; conditions = cs })) D s
   unfolding r
-  turn-judged low closed l s′ el h =
-      turn s′ (h ∙ rw el (sym (flag-agree (violates N C o r) (lacksOther (complement e) (guaranteedFlags N C o (o .precondition ++ cs))) D s (λ f m. violates-lacking N C o r f (low f m) closed))))
+  row-judged low closed l s′ el h =
+      h ∙ rw el (sym (flag-agree (violates N C o r) (lacksOther (complement e) (guaranteedFlags N C o (o .precondition ++ cs))) D s (λ f m. violates-lacking N C o r f (low f m) closed)))
+
+  -- the walk over the rows
+  module _ (rs rs′ : List Row) (next : rs ≡ record { effect = e; conditions = cs } ∷ rs′) where
+    pub turn-on : (s′ : List ℕ) → s′ ≡ flagMore (violates N C o (record { effect = e; conditions = cs })) D s → flagMore (someViolates N C o rs) D s ≡ flagMore (someViolates N C o rs′) D s′
+    unfolding r
+    turn-on s′ h = ap (λ x. flagMore (someViolates N C o x) D s) next ∙ rows-on N C o D r rs′ s ∙ ap (flagMore (someViolates N C o rs′) D) (sym h)
+
+    -- no judged clause holds the complement of the effect
+    pub turn-passed : (l : ℕ) → l ≡ complement e → any (member l) D ≡ false → flagMore (someViolates N C o rs) D s ≡ flagMore (someViolates N C o rs′) D s
+    unfolding r
+    turn-passed l el h = turn-on s (sym (flag-none (violates N C o r) D s (λ f m. violates-passed N C o r f (rw el at (not-held f m (decide (member l f)))))))
+      where
+        not-held : (f : List ℕ) → List·Memᴰ f D → (member l f ≡ true) ⊎ (member l f ≡ false) → member l f ≡ false
+        not-held f m (inl x) = never (any-in (member l) m x) h
+        not-held f m (inr x) = x
 
 pub turn-start : (N : ℕ) (C : List (List ℕ)) (o : Operator) (D : List (List ℕ)) (rs rs′ : List Row) (s : List ℕ) → rs ≡ rs′ → flagMore (someViolates N C o rs′) D s ≡ flagMore (someViolates N C o rs) D s
 turn-start N C o D rs rs′ s h = rw h

@@ -12,8 +12,9 @@ use Rattle.definitions.specs.Image.{Row, Operator}
 use Rattle.definitions.specs.Closure.{has, closure, contradictory}
 use Rattle.definitions.specs.Kept.{rowsWith, madeTrue, staysTrue, guaranteed, keptCase, kept}
 use Rattle.definitions.proofs.ListLaws.{decide, never, not-false, or-left, and-left, and-right, and-both, any-of, any-in, all-at, all-of, keep-in, keep-of, member-of, member-in}
+use Rattle.propagation.proofs.Sets.{complement-back}
 use Rattle.judge.specs.Judging.{guaranteedFlags, isOther, lacksOther, violates, someViolates}
-use Rattle.judge.proofs.Guaranteed.{any-keep, complement-twice, guaranteed-has}
+use Rattle.judge.proofs.Guaranteed.{any-keep, guaranteed-has}
 use Rattle.clause.proofs.ClauseLaws.{below-at}
 
 same-test : (a b : Bool) → (a ≡ true → b ≡ true) → (b ≡ true → a ≡ true) → a ≡ b
@@ -95,7 +96,7 @@ module _ (N : ℕ) (C : List (List ℕ)) (o : Operator) where
               let w = any-of (λ r. violates N C o r f) (o .rows) e in
               let l = complement (w .it .effect) in
               let m = and-left (member l f) (not (keptCase N C o f l (w .it))) (w .passes) in
-              let inRows = keep-in (λ r. eqb (r .effect) (complement l)) (w .mem) (eq-eqb (w .it .effect) (complement l) (sym (complement-twice (w .it .effect)))) in
+              let inRows = keep-in (λ r. eqb (r .effect) (complement l)) (w .mem) (eq-eqb (w .it .effect) (complement l) (sym (complement-back (w .it .effect)))) in
               let good = all-at (keptCase N C o f l) (all-at (λ l. all (keptCase N C o f l) (rowsWith o (complement l))) h (member-of l f m)) inRows in
               never good (not-false (keptCase N C o f l (w .it)) (and-right (member l f) (not (keptCase N C o f l (w .it))) (w .passes)))
           go (inr e) = ap not e
@@ -106,7 +107,7 @@ module _ (N : ℕ) (C : List (List ℕ)) (o : Operator) where
           go : (l : ℕ) → List·Memᴰ l f → (r : Row) → List·Memᴰ r (o .rows) × (eqb (r .effect) (complement l) ≡ true) → (keptCase N C o f l r ≡ true) ⊎ (keptCase N C o f l r ≡ false) → keptCase N C o f l r ≡ true
           go l ml r k (inl e) = e
           go l ml r k (inr e) =
-              let same : complement (r .effect) ≡ l = ap complement (eqb-true (r .effect) (complement l) (k .1)) ∙ complement-twice l in
+              let same : complement (r .effect) ≡ l = ap complement (eqb-true (r .effect) (complement l) (k .1)) ∙ complement-back l in
               let violated : violates N C o r f ≡ true = subst (λ (z : ℕ). (member z f && not (keptCase N C o f z r)) ≡ true) (sym same) (and-both (member-in ml) (ap not e)) in
               never (any-in (λ r. violates N C o r f) (k .0) violated) (not-false some h)
 

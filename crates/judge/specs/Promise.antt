@@ -2,9 +2,8 @@
 use mathlib.Core.Path.{_≡_}
 use mathlib.Core.Bool.{true, false}
 use mathlib.Core.List.{List}
-use Prim.Native.Nat.{ℕ, _*_, _≤_, _<_}
+use Prim.Native.Nat.{ℕ, _≤_, _<_}
 use lib.ListN.{length}
-use Rattle.definitions.specs.Literal.{allBelow}
 use Rattle.definitions.specs.Image.{operatorRight}
 use Rattle.definitions.specs.Closure.{closure, contradictory}
 use Rattle.definitions.specs.Clauses.{clauseRight, rowAt}
@@ -23,7 +22,6 @@ pub record Given (n : ℕ) (ws b : List ℕ) : Type 0 where
 
 -- the marks are those of the closure of the clauses and ls, which is not contradictory
 pub record ConsistentClosure (n : ℕ) (ws ls ms : List ℕ) : Type 0 where
-  pub low : allBelow (2 * n) ls ≡ true
   pub consistent : contradictory n (closure n (clausesOf ws) ls) ≡ false
   pub marked : Marked n ms (closure n (clausesOf ws) ls)
 

@@ -4,11 +4,12 @@ ghost use mathlib.Core.List.{List};
 ghost use Prim.Native.Nat.{ℕ, _*_, _≤_};
 ghost use lib.ListN.{length};
 ghost use Rattle.definitions.specs.Lists.{any, member};
+ghost use Rattle.definitions.specs.Literal.{complement};
 ghost use Rattle.clause.specs.Rows.{rowCount, clausesOf};
-ghost use Rattle.judge.specs.Judging.{lacksOther, isOther, flagMore, guaranteedFlags, someViolates, failFlags};
+ghost use Rattle.judge.specs.Judging.{lacksOther, isOther, flagMore, guaranteedFlags, violates, someViolates, failFlags};
 ghost use Rattle.judge.specs.Promise.{Given, Judged, ConsistentClosure};
-ghost use Rattle.propagation.specs.Marks.{ConsistentMarks};
-ghost use Rattle.task.specs.Walk.{operatorIn};
+ghost use Rattle.propagation.specs.Marks.{Asked, ConsistentMarks};
+ghost use Rattle.task.specs.Walk.{row, operatorIn};
 use propagation::Closing;
 use task::block::BlockHead;
 use task::block::RowPart;
@@ -112,6 +113,36 @@ fn flag_violated(
     flag_lacking(judged, l, &flags[..size], fails);
 }
 
+// Flags the judged clauses that a row with these conditions violates, where `l` is the complement of its effect and `base` has
+// the marks of the clauses' and the precondition's closure. Conditions that are marked add nothing to that closure.
+fn judge_row(
+    clauses: &[u16],
+    judged: &[u16],
+    block: &[u16],
+    conditions: &[u16],
+    l: u16,
+    base: &[u8],
+    marks: &mut [u8],
+    n: usize,
+    fails: &mut [u8],
+)
+    requires { ⌜ Given n (now clauses) (now block) × Judged n (now judged) × ConsistentClosure n (now clauses) (operatorIn (now block) .precondition) (now base) × Asked n (now clauses) (now conditions) (now marks) × (length (now fails) ≡ rowCount (now judged)) ⌝ }
+    ensures { λ _. ⌜ ((e : ℕ) → l ≡ complement e → now (fails .exit) ≡ flagMore (violates n (clausesOf (now (clauses .entry))) (operatorIn (now (block .entry))) (row e (now (conditions .entry)))) (clausesOf (now (judged .entry))) (now (fails .entry))) ⌝ }
+{
+    if propagation::holds_all(base, conditions) {
+        flag_violated(clauses, judged, block, l, base, n, fails);
+        return;
+    }
+    propagation::copy(base, marks, n);
+    let closed = propagation::extend(clauses, conditions, marks, n);
+    match closed {
+        Closing::Contradictory => {}
+        Closing::Consistent => {
+            flag_violated(clauses, judged, block, l, marks, n, fails);
+        }
+    }
+}
+
 // Flags the judged clauses that some row violates, where `base` has the marks of the clauses' and the precondition's closure.
 fn judge_rows(
     clauses: &[u16],
@@ -136,15 +167,17 @@ fn judge_rows(
         if !some_holds(judged, l) {
             continue;
         }
-        propagation::copy(base, marks, n);
-        let closed = propagation::extend(clauses, &block[from..end], marks, n);
-        match closed {
-            Closing::Contradictory => {
-                continue;
-            }
-            Closing::Consistent => {}
-        }
-        flag_violated(clauses, judged, block, l, marks, n, fails);
+        judge_row(
+            clauses,
+            judged,
+            block,
+            &block[from..end],
+            l,
+            base,
+            marks,
+            n,
+            fails,
+        );
     }
 }
 

@@ -2,7 +2,7 @@
 use mathlib.Core.Path.{_∙_}
 use denote.Ref.{now}
 use Rattle.judge.proofs.BlockRows.{precondition-low}
-use Rattle.judge.proofs.Closures.{closure-start}
+use Rattle.judge.proofs.Closures.{closure-told, closure-start}
 use Rattle.propagation.proofs.Marks.{told-consistent, told-contradictory}
 use Rattle.judge.proofs.Turns.{fail-none, fail-rows}
 use borrow.Author.Needs.{needs}
@@ -39,7 +39,7 @@ judge-consistent-requires : tie.Need-judge-consistent-requires
 judge-consistent-requires c κs =
     let p = c .before .before .before .before .before .before .before .before .before .before .before .before .before .before .before .before .before .before .before .pre in
     let h = c .before .before .before .before .before .before .before .before .before .head .ensures in
-    (p .0, p .1, closure-start _ _ _ _ _ (h .precondition) (precondition-low _ _ (p .0 .right) _ _ h) (told-consistent _ _ _ _ _ (c .before .before .before .before .before .before .close .ensures .1) (c .before .before .enum-told2 .given .1)), c .before .before .before .before .before .before .before .before .before .before .before .before .clear .kept .0 ∙ p .3)
+    (p .0, p .1, closure-start _ _ _ _ _ (h .precondition) (closure-told _ _ _ _ (told-consistent _ _ _ _ _ (c .before .before .before .before .before .before .close .ensures .1) (c .before .before .enum-told2 .given .1))), c .before .before .before .before .before .before .before .before .before .before .before .before .clear .kept .0 ∙ p .3)
 
 same-length : tie.Need-same-length
 same-length c = search needs

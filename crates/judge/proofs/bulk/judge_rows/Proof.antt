@@ -8,9 +8,7 @@ use Rattle.task.specs.Walk.{operatorIn, rowsAt}
 use Rattle.task.proofs.Blocks.{rows-none}
 use Rattle.judge.specs.Judging.{someViolates, flagMore}
 use Rattle.judge.proofs.BlockRows.{Left, left-start, left-next, effect-low, conditions-low}
-use Rattle.judge.proofs.Closures.{closure-consistent, closure-copied, closure-more}
-use Rattle.propagation.proofs.Marks.{marked-room, told-consistent, told-contradictory}
-use Rattle.judge.proofs.Turns.{judged-low, turn-start, turn-passed, turn-contradictory, turn-judged, turn-end}
+use Rattle.judge.proofs.Turns.{turn-start, turn-on, turn-passed, turn-end}
 use borrow.Author.Needs.{needs}
 use Rattle.judge.proofs.bulk.judge_rows.Statement.{statement}
 use Rattle.judge.proofs.bulk.judge_rows.Tie as tie
@@ -53,66 +51,33 @@ loop-again c =
     let r = c .before .before .before .row .ensures in
     (i .0, i .1, left-next _ _ _ _ _ _ _ (i .2) r, i .3 ∙ turn-passed _ _ _ _ _ _ _ _ _ (r .row) _ (c .before .before .complement .ensures) (sym (c .before .some-holds .ensures) ∙ not-true _ (c .if1 .taken)))
 
-copy-requires : tie.Need-copy-requires Inv-loop μ-loop
-copy-requires c κs =
-    let p = c .before .before .before .before .before .before .before .before .before .before .before .before .before .before .pre in
-    (marked-room _ _ _ (p .2 .marked), omega (arith, p .3, c .before .before .before .before .before .before .loop .inv .0))
+mul-judge-row : tie.Need-mul-judge-row Inv-loop μ-loop
+mul-judge-row c = search needs
 
-mul-extend : tie.Need-mul-extend Inv-loop μ-loop
-mul-extend c = search needs
+sub-judge-row : tie.Need-sub-judge-row Inv-loop μ-loop
+sub-judge-row c = search needs
 
-sub-extend : tie.Need-sub-extend Inv-loop μ-loop
-sub-extend c = search needs
+part-judge-row-start : tie.Need-part-judge-row-start Inv-loop μ-loop
+part-judge-row-start c = search needs
 
-part-extend-start : tie.Need-part-extend-start Inv-loop μ-loop
-part-extend-start c = search needs
+part-judge-row-end : tie.Need-part-judge-row-end Inv-loop μ-loop
+part-judge-row-end c = search needs
 
-part-extend-end : tie.Need-part-extend-end Inv-loop μ-loop
-part-extend-end c = search needs
-
-extend-requires : tie.Need-extend-requires Inv-loop μ-loop
-extend-requires c κs =
-    let p = c .before .before .before .before .before .before .before .before .before .before .before .before .before .before .before .before .before .before .before .pre in
-    let i = c .before .before .before .before .before .before .before .before .before .before .before .loop .inv in
-    let k = c .before .before .before .before .copy in
-    (record { few = p .0 .few; room = omega (arith, p .3, i .0, k .kept .1 .0); rows = p .0 .rows; below = conditions-low _ _ _ _ _ _ _ (i .2) (c .before .before .before .before .before .before .before .before .before .row .ensures) }, closure-consistent _ _ _ _ (closure-copied _ _ _ _ _ (p .2) (k .ensures .1)))
-
-enum-told : tie.Need-enum-told Inv-loop μ-loop
-enum-told c = c .match .keys1
+judge-row-requires : tie.Need-judge-row-requires Inv-loop μ-loop
+judge-row-requires c κs =
+    let p = c .before .before .before .before .before .before .before .before .before .before .before .before .before .before .before .before .pre in
+    let i = c .before .before .before .before .before .before .before .before .loop .inv in
+    (p .0, p .1, p .2, record { few = p .0 .few; room = omega (arith, p .3, i .0); rows = p .0 .rows; below = conditions-low _ _ _ _ _ _ _ (i .2) (c .before .before .before .before .before .before .row .ensures) }, i .1 ∙ p .4)
 
 loop-less-2 : tie.Need-loop-less-2 Inv-loop μ-loop
 loop-less-2 c = search needs
 
 loop-again-2 : tie.Need-loop-again-2 Inv-loop μ-loop
 loop-again-2 c =
-    let p = c .before .before .before .before .before .before .before .before .before .before .before .before .before .before .before .before .before .before .before .before .before .before .before .before .pre in
-    let i = c .before .before .before .before .before .before .before .before .before .before .before .before .before .before .before .before .loop .inv in
-    let r = c .before .before .before .before .before .before .before .before .before .before .before .before .before .before .row .ensures in
-    let k = c .before .before .before .before .extend .ensures .1 _ (c .before .before .before .before .before .before .before .before .before .copy .ensures .1 _ (p .2 .marked)) in
-    (c .before .before .before .before .extend .kept .1 .1 .0 ∙ c .before .before .before .before .before .before .before .before .before .copy .kept .1 .0 ∙ i .0, i .1, left-next _ _ _ _ _ _ _ (i .2) r, i .3 ∙ turn-contradictory _ _ _ _ _ _ _ _ _ (r .row) (told-contradictory _ _ _ _ _ k (c .enum-told .given .1)))
-
-enum-told-2 : tie.Need-enum-told-2 Inv-loop μ-loop
-enum-told-2 c = c .match .keys2
-
-flag-violated-requires : tie.Need-flag-violated-requires Inv-loop μ-loop
-flag-violated-requires c κs =
-    let p = c .before .before .before .before .before .before .before .before .before .before .before .before .before .before .before .before .before .before .before .before .before .before .before .before .before .before .pre in
-    let i = c .before .before .before .before .before .before .before .before .before .before .before .before .before .before .before .before .before .before .loop .inv in
-    let r = c .before .before .before .before .before .before .before .before .before .before .before .before .before .before .before .before .row .ensures in
-    let k = c .before .before .before .before .before .before .extend .ensures .1 _ (c .before .before .before .before .before .before .before .before .before .before .before .copy .ensures .1 _ (p .2 .marked)) in
-    (p .0, closure-consistent _ _ _ _ (closure-more _ _ _ _ _ (p .2 .low) (conditions-low _ _ _ _ _ _ _ (i .2) r) (told-consistent _ _ _ _ _ k (c .before .before .enum-told2 .given .1))), i .1 ∙ p .4)
-
-loop-less-3 : tie.Need-loop-less-3 Inv-loop μ-loop
-loop-less-3 c = search needs
-
-loop-again-3 : tie.Need-loop-again-3 Inv-loop μ-loop
-loop-again-3 c =
-    let p = c .before .before .before .before .before .before .before .before .before .before .before .before .before .before .before .before .before .before .before .before .before .before .before .before .before .before .before .before .before .pre in
-    let i = c .before .before .before .before .before .before .before .before .before .before .before .before .before .before .before .before .before .before .before .before .before .loop .inv in
-    let r = c .before .before .before .before .before .before .before .before .before .before .before .before .before .before .before .before .before .before .before .row .ensures in
-    let k = c .before .before .before .before .before .before .before .before .before .extend .ensures .1 _ (c .before .before .before .before .before .before .before .before .before .before .before .before .before .before .copy .ensures .1 _ (p .2 .marked)) in
-    let m = told-consistent _ _ _ _ _ k (c .before .before .before .before .before .enum-told2 .given .1) in
-    (c .before .before .before .before .before .before .before .before .before .extend .kept .1 .1 .0 ∙ c .before .before .before .before .before .before .before .before .before .before .before .before .before .before .copy .kept .1 .0 ∙ i .0, c .before .before .flag-violated .kept .1 .1 .1 .1 .1 .1 .0 ∙ i .1, left-next _ _ _ _ _ _ _ (i .2) r, i .3 ∙ turn-judged _ _ _ _ _ _ _ _ _ (r .row) (judged-low _ _ (p .1)) (m .0) _ _ (c .before .before .before .before .before .before .before .before .before .before .before .before .before .before .before .before .before .before .complement .ensures) (c .before .before .flag-violated .ensures _ (closure-more _ _ _ _ _ (p .2 .low) (conditions-low _ _ _ _ _ _ _ (i .2) r) m)))
+    let i = c .before .before .before .before .before .before .before .before .before .before .before .before .before .loop .inv in
+    let r = c .before .before .before .before .before .before .before .before .before .before .before .row .ensures in
+    let k = c .before .before .before .before .judge-row in
+    (k .kept .1 .1 .1 .1 .1 .1 .0 ∙ i .0, k .kept .1 .1 .1 .1 .1 .1 .1 .1 .0 ∙ i .1, left-next _ _ _ _ _ _ _ (i .2) r, i .3 ∙ turn-on _ _ _ _ _ _ _ _ _ (r .row) _ (k .ensures _ (c .before .before .before .before .before .before .before .before .before .before .complement .ensures)))
 
 same-length : tie.Need-same-length Inv-loop μ-loop
 same-length c = c .before .loop .inv .0
@@ -138,19 +103,13 @@ judge-rows-spec =
     some-holds-requires
     loop-less
     loop-again
-    copy-requires
-    mul-extend
-    sub-extend
-    part-extend-start
-    part-extend-end
-    extend-requires
-    enum-told
+    mul-judge-row
+    sub-judge-row
+    part-judge-row-start
+    part-judge-row-end
+    judge-row-requires
     loop-less-2
     loop-again-2
-    enum-told-2
-    flag-violated-requires
-    loop-less-3
-    loop-again-3
     same-length
     same-length-2
     returns)

@@ -2,11 +2,9 @@
 use denote.Ref.{now}
 use mathlib.Core.Path.{sym, _∙_}
 use native.Mathlib.Omega.{arith}
-use Rattle.clause.proofs.ReadLaws.{read-right}
-use Rattle.clause.proofs.ClauseLaws.{clause-below}
-use Rattle.judge.proofs.Closures.{consistent-copied, consistent-room}
+use Rattle.judge.proofs.Closures.{closure-fires, consistent-copied, consistent-room}
 use Rattle.propagation.proofs.Marks.{told-consistent, told-contradictory}
-use Rattle.judge.proofs.Firing.{consistent-fires, fires-consistent, fires-not}
+use Rattle.judge.proofs.Firing.{fires-consistent, fires-not}
 use borrow.Author.Needs.{needs}
 use Rattle.judge.proofs.guarantee.can_fire.Statement.{statement}
 use Rattle.judge.proofs.guarantee.can_fire.Tie as tie
@@ -18,8 +16,7 @@ returns : tie.Need-returns
 returns c =
     λ ls closed.
     let p = c .before .before .before .before .before .before .pre .0 in
-    let w = now (c .before .before .before .before .before .before .args .clauses) in
-    sym (consistent-fires _ _ (clause-below _ w (read-right _ w (p .rows))) ls (closed .low) _ (sym (c .before .holds-all .ensures _ _ (closed .marked) (p .below)) ∙ c .if1 .taken) (closed .consistent))
+    closure-fires _ (now (c .before .before .before .before .before .before .args .clauses)) ls _ (p .rows) _ (sym (c .before .holds-all .ensures _ _ (closed .marked) (p .below)) ∙ c .if1 .taken) closed
 
 copy-requires : tie.Need-copy-requires
 copy-requires c κs = (consistent-room _ _ (c .before .before .before .before .before .before .before .pre .1), c .before .before .before .before .before .before .before .pre .0 .room)

@@ -1,6 +1,6 @@
 -- `judge::guarantee::flag_operator`: the closure of the clauses and the precondition, and what it guarantees.
 use Rattle.judge.proofs.BlockRows.{precondition-low}
-use Rattle.judge.proofs.Closures.{contradictory-start, closure-consistent, closure-start}
+use Rattle.judge.proofs.Closures.{contradictory-start, closure-consistent, closure-told, closure-start}
 use Rattle.propagation.proofs.Marks.{told-consistent, told-contradictory}
 use borrow.Author.Needs.{needs}
 use Rattle.judge.proofs.guarantee.flag_operator.Statement.{statement}
@@ -33,7 +33,7 @@ flag-guaranteed-requires : tie.Need-flag-guaranteed-requires
 flag-guaranteed-requires c κs =
     let p = c .before .before .before .before .before .before .before .before .before .before .before .before .before .before .pre in
     let h = c .before .before .before .before .before .before .before .before .before .head .ensures in
-    (p .0, closure-consistent _ _ _ _ (closure-start _ _ _ _ _ (h .precondition) (precondition-low _ _ (p .0 .right) _ _ h) (told-consistent _ _ _ _ _ (c .before .before .before .before .before .before .close .ensures .1) (c .before .before .enum-told2 .given .1))), p .2)
+    (p .0, closure-consistent _ _ _ _ (closure-start _ _ _ _ _ (h .precondition) (closure-told _ _ _ _ (told-consistent _ _ _ _ _ (c .before .before .before .before .before .before .close .ensures .1) (c .before .before .enum-told2 .given .1)))), p .2)
 
 same-length : tie.Need-same-length
 same-length c = search needs
@@ -51,7 +51,7 @@ returns-2 : tie.Need-returns-2
 returns-2 c =
     let p = c .before .before .before .before .before .before .before .before .before .before .before .before .before .before .before .before .before .pre in
     let h = c .before .before .before .before .before .before .before .before .before .before .before .before .head .ensures in
-    let closed = closure-start _ _ _ _ _ (h .precondition) (precondition-low _ _ (p .0 .right) _ _ h) (told-consistent _ _ _ _ _ (c .before .before .before .before .before .before .before .before .before .close .ensures .1) (c .before .before .before .before .before .enum-told2 .given .1)) in
+    let closed = closure-start _ _ _ _ _ (h .precondition) (closure-told _ _ _ _ (told-consistent _ _ _ _ _ (c .before .before .before .before .before .before .before .before .before .close .ensures .1) (c .before .before .before .before .before .enum-told2 .given .1))) in
     (closed .consistent, c .before .before .flag-guaranteed .ensures _ closed)
 
 pub flag-operator-spec : {M : Type 1} → statement M
