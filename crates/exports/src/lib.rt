@@ -6,6 +6,7 @@ ghost use Rattle.definitions.specs.Answer.{verdict, stateAfter};
 ghost use Rattle.definitions.specs.Image.{readTask};
 ghost use Rattle.definitions.specs.Step.{stepTask, goalTask, startTask, runTask};
 ghost use Rattle.definitions.specs.Checker.{check, keeps};
+ghost use Rattle.definitions.specs.FdrStep.{stepFdr, goalFdr, startFdr, runFdr};
 ghost use Rattle.exports.specs.Told.{told, toldVerdict, toldTest, toldCount};
 
 mod tell; // tell.rt: answers as numbers
@@ -104,4 +105,58 @@ pub extern "C" fn kb_check(
     ensures { λ r. ⌜ told r (now (first .exit)) (now (second .exit)) ≡ toldVerdict (verdict (check (now (image .entry)) (now (clauses .entry)) (length (now (marks .entry))))) ⌝ }
 {
     tell::verdict(checker::accept(image, clauses, marks), first, second)
+}
+
+// Sets a finite-domain state to the initial one: 17, the length of 18.
+#[no_mangle]
+pub extern "C" fn kb_fdr_initial(
+    image: &[u16],
+    state: &mut [u16],
+    first: &mut u64,
+    second: &mut u64,
+) -> u32
+    ensures { λ r. ⌜ (told r (now (first .exit)) (now (second .exit)) ≡ toldVerdict (verdict (startFdr (now (image .entry)) (now (state .entry))))) × (now (state .exit) ≡ stateAfter (now (state .entry)) (startFdr (now (image .entry)) (now (state .entry)))) ⌝ }
+{
+    tell::verdict(fdr::set_initial(image, state), first, second)
+}
+
+// A step in the lent finite-domain state: 17, 18 to 22.
+#[no_mangle]
+pub extern "C" fn kb_fdr_step(
+    image: &[u16],
+    state: &mut [u16],
+    operator: u16,
+    first: &mut u64,
+    second: &mut u64,
+) -> u32
+    ensures { λ r. ⌜ (told r (now (first .exit)) (now (second .exit)) ≡ toldVerdict (verdict (stepFdr (now (image .entry)) (now (state .entry)) operator))) × (now (state .exit) ≡ stateAfter (now (state .entry)) (stepFdr (now (image .entry)) (now (state .entry)) operator)) ⌝ }
+{
+    tell::verdict(fdr::step(image, state, operator), first, second)
+}
+
+// The goal test in a finite-domain state: 17, 18. `first` is 1 if the goal is met, 0 if it is not.
+#[no_mangle]
+pub extern "C" fn kb_fdr_goal(
+    image: &[u16],
+    state: &[u16],
+    first: &mut u64,
+    second: &mut u64,
+) -> u32
+    ensures { λ r. ⌜ told r (now (first .exit)) (now (second .exit)) ≡ toldTest (goalFdr (now (image .entry)) (now (state .entry))) ⌝ }
+{
+    tell::test(fdr::goal_met(image, state), first, second)
+}
+
+// A list run in the lent finite-domain state: 17 and 18 once, then 19 to 22 at each operator. `first` is the number of steps.
+#[no_mangle]
+pub extern "C" fn kb_fdr_run(
+    image: &[u16],
+    state: &mut [u16],
+    list: &[u16],
+    first: &mut u64,
+    second: &mut u64,
+) -> u32
+    ensures { λ r. ⌜ (told r (now (first .exit)) (now (second .exit)) ≡ toldCount (runFdr (now (image .entry)) (now (state .entry)) (now (list .entry)) .answer)) × (now (state .exit) ≡ runFdr (now (image .entry)) (now (state .entry)) (now (list .entry)) .lent) ⌝ }
+{
+    tell::count(fdr::run(image, state, list), first, second)
 }

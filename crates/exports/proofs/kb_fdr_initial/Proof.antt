@@ -1,0 +1,22 @@
+use mathlib.Core.Path.{ap, _∙_}
+use Rattle.exports.specs.Told.{toldVerdict}
+use Rattle.exports.proofs.Outcomes.{answered, left}
+use borrow.Author.Needs.{needs}
+use Rattle.exports.proofs.kb_fdr_initial.Statement.{statement}
+use Rattle.exports.proofs.kb_fdr_initial.Tie as tie
+
+set-initial-requires : tie.Need-set-initial-requires
+set-initial-requires c κs = search needs
+
+verdict-requires : tie.Need-verdict-requires
+verdict-requires c κs = search needs
+
+same-length : tie.Need-same-length
+same-length c = search needs
+
+returns : tie.Need-returns
+returns c = (c .verdict .ensures ∙ ap toldVerdict (answered _ _ _ _ (c .before .before .before .before .before .set-initial .ensures)), left _ _ _ _ (c .before .before .before .before .before .set-initial .ensures))
+
+pub kb-fdr-initial-spec : {M : Type 1} → statement M
+kb-fdr-initial-spec =
+    tie.close (tie.spec set-initial-requires verdict-requires same-length returns)

@@ -1,0 +1,21 @@
+use mathlib.Core.Path.{ap, _∙_}
+use Rattle.exports.specs.Told.{toldVerdict}
+use Rattle.exports.proofs.Outcomes.{answered, left}
+use borrow.Author.Needs.{needs}
+use Rattle.exports.proofs.kb_fdr_step.Statement.{statement}
+use Rattle.exports.proofs.kb_fdr_step.Tie as tie
+
+step-requires : tie.Need-step-requires
+step-requires c κs = search needs
+
+verdict-requires : tie.Need-verdict-requires
+verdict-requires c κs = search needs
+
+same-length : tie.Need-same-length
+same-length c = search needs
+
+returns : tie.Need-returns
+returns c = (c .verdict .ensures ∙ ap toldVerdict (answered _ _ _ _ (c .before .before .before .before .before .step .ensures)), left _ _ _ _ (c .before .before .before .before .before .step .ensures))
+
+pub kb-fdr-step-spec : {M : Type 1} → statement M
+kb-fdr-step-spec = tie.close (tie.spec step-requires verdict-requires same-length returns)

@@ -1,0 +1,4 @@
+pub mod Notes
+pub mod StepLaws
+pub mod Applied
+pub mod Calls

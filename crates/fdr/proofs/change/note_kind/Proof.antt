@@ -1,0 +1,54 @@
+use mathlib.Core.Path.{sym, _∙_}
+use Rattle.fdr.proofs.Notes.{kind-set, kind-clear, kind-other}
+use borrow.Author.Needs.{needs}
+use Rattle.fdr.proofs.change.note_kind.Statement.{statement}
+use Rattle.fdr.proofs.change.note_kind.Tie as tie
+
+kind-of-requires : tie.Need-kind-of-requires
+kind-of-requires c κs = search needs
+
+enum-told : tie.Need-enum-told
+enum-told c = search needs
+
+note-set-requires : tie.Need-note-set-requires
+note-set-requires c κs = search needs
+
+enum-told-2 : tie.Need-enum-told-2
+enum-told-2 c = search needs
+
+note-clear-requires : tie.Need-note-clear-requires
+note-clear-requires c κs = search needs
+
+enum-told-3 : tie.Need-enum-told-3
+enum-told-3 c = search needs
+
+same-length : tie.Need-same-length
+same-length c = search needs
+
+returns : tie.Need-returns
+returns c = c .before .before .note-set .ensures ∙ kind-set _ _ _ _ _ (sym (c .before .before .before .before .before .before .kind-of .ensures) ∙ c .before .before .before .before .enum-told .given .1)
+
+same-length-2 : tie.Need-same-length-2
+same-length-2 c = search needs
+
+returns-2 : tie.Need-returns-2
+returns-2 c = c .before .before .note-clear .ensures ∙ kind-clear _ _ _ _ _ (sym (c .before .before .before .before .before .before .kind-of .ensures) ∙ c .before .before .before .before .enum-told2 .given .1)
+
+returns-3 : tie.Need-returns-3
+returns-3 c = kind-other _ _ _ _ _ (sym (c .before .before .kind-of .ensures) ∙ c .enum-told3 .given .1)
+
+pub note-kind-spec : {M : Type 1} → statement M
+note-kind-spec =
+    tie.close
+    (tie.spec
+    kind-of-requires
+    enum-told
+    note-set-requires
+    enum-told-2
+    note-clear-requires
+    enum-told-3
+    same-length
+    returns
+    same-length-2
+    returns-2
+    returns-3)

@@ -1,0 +1,100 @@
+-- `fdr::change::note_rows`: what the whole walk notes is what the rows that are left note in the changes so far.
+use Prim.Native.Nat.{_-_}
+use mathlib.Core.Path.{_≡_, refl, sym, ap, _∙_}
+use mathlib.Core.Bool.{true, Bool}
+use native.Mathlib.Omega.{arith}
+use lib.Dec.{ltb}
+use lib.ListN.{length}
+use borrow.Author.Tests.{not-true, not-false}
+use Rattle.definitions.specs.Lists.{all, keep}
+use Rattle.definitions.specs.Fdr.{fdrAllTrue}
+use Rattle.definitions.specs.FdrStep.{fdrFired}
+use Rattle.fdr_image.specs.Walk.{operatorIn, parsesAt, rowsAt}
+use Rattle.fdr_image.proofs.RowLaws.{rows-done}
+use Rattle.fdr.specs.Change.{noted, noteRows}
+use Rattle.fdr.proofs.Notes.{rows-stop, rows-turn, rows-end, low-row}
+use borrow.Author.Needs.{needs}
+use Rattle.fdr.proofs.change.note_rows.Statement.{statement}
+use Rattle.fdr.proofs.change.note_rows.Tie as tie
+
+abbrev Inv-loop : tie.InvT-loop
+Inv-loop block state pass changes₀ at₀ left₀ changes at left = (parsesAt block at left ≡ true) × (all (λ r. ltb (r .variable) 1024) (rowsAt block at left) ≡ true) × (length changes ≡ length changes₀) × (noteRows state pass (fdrFired state (operatorIn block)) changes₀ ≡ noteRows state pass (keep (λ r. fdrAllTrue state (r .conditions)) (rowsAt block at left)) changes)
+
+abbrev μ-loop : tie.MeasureT-loop
+μ-loop block state pass changes₀ at₀ left₀ changes at left = left
+
+head-requires : tie.Need-head-requires Inv-loop μ-loop
+head-requires c κs = c .before .before .before .pre .0 .parses
+
+add-at : tie.Need-add-at Inv-loop μ-loop
+add-at c = omega (arith, c .before .head .ensures .high)
+
+loop-holds : tie.Need-loop-holds Inv-loop μ-loop
+unfolding fdrFired
+loop-holds c = (c .before .head .ensures .parses, rw (c .before .head .ensures .rows) (c .before .before .before .before .before .pre .0 .low), refl, rw (c .before .head .ensures .rows))
+
+row-requires : tie.Need-row-requires Inv-loop μ-loop
+row-requires c κs = (c .before .loop .inv .0, c .loop-test .taken)
+
+mul-all-true : tie.Need-mul-all-true Inv-loop μ-loop
+mul-all-true c = search needs
+
+sub-all-true : tie.Need-sub-all-true Inv-loop μ-loop
+sub-all-true c = search needs
+
+part-all-true-start : tie.Need-part-all-true-start Inv-loop μ-loop
+part-all-true-start c = search needs
+
+part-all-true-end : tie.Need-part-all-true-end Inv-loop μ-loop
+part-all-true-end c = search needs
+
+all-true-requires : tie.Need-all-true-requires Inv-loop μ-loop
+all-true-requires c κs = search needs
+
+note-row-requires : tie.Need-note-row-requires Inv-loop μ-loop
+note-row-requires c κs = (omega (arith, c .before .before .before .before .before .loop .inv .2, c .before .before .before .before .before .before .before .before .before .before .before .pre .1, low-row _ _ _ (c .before .before .before .row .ensures .row) (c .before .before .before .before .before .loop .inv .1) .0), c .before .before .before .row .ensures .word)
+
+same-length : tie.Need-same-length Inv-loop μ-loop
+same-length c = search needs
+
+returns : tie.Need-returns Inv-loop μ-loop
+returns c = sym (c .before .before .before .before .before .before .before .before .before .loop .inv .3 ∙ rows-stop _ _ _ _ _ (c .before .before .before .before .before .before .before .row .ensures .row) _ (c .before .before .before .before .before .all-true .ensures) _ (c .before .before .before .note-row .last .0) (ap (λ (b : Bool). noted b (c .before .before .before .note-row .last .0)) (sym (not-true _ (c .if1 .taken))) ∙ c .before .before .before .note-row .ensures))
+
+sub-left : tie.Need-sub-left Inv-loop μ-loop
+sub-left c = search needs
+
+loop-less : tie.Need-loop-less Inv-loop μ-loop
+loop-less c = search needs
+
+loop-again : tie.Need-loop-again Inv-loop μ-loop
+loop-again c = (c .before .before .before .before .before .before .before .row .ensures .next, low-row _ _ _ (c .before .before .before .before .before .before .before .row .ensures .row) (c .before .before .before .before .before .before .before .before .before .loop .inv .1) .1, c .before .before .before .note-row .kept .0 ∙ c .before .before .before .before .before .before .before .before .before .loop .inv .2, c .before .before .before .before .before .before .before .before .before .loop .inv .3 ∙ rows-turn _ _ _ _ _ (c .before .before .before .before .before .before .before .row .ensures .row) _ (c .before .before .before .before .before .all-true .ensures) _ (c .before .before .before .note-row .last .0) (ap (λ (b : Bool). noted b (c .before .before .before .note-row .last .0)) (sym (not-false _ (c .if1 .left))) ∙ c .before .before .before .note-row .ensures))
+
+same-length-2 : tie.Need-same-length-2 Inv-loop μ-loop
+same-length-2 c = search needs
+
+returns-2 : tie.Need-returns-2 Inv-loop μ-loop
+returns-2 c = sym (c .before .loop .inv .3 ∙ rows-end _ _ _ _ (rows-done _ (c .before .loop .at) (c .before .loop .left) (omega arith)))
+
+pub note-rows-spec : {M : Type 1} → statement M
+note-rows-spec =
+    tie.close
+    (tie.spec
+    Inv-loop
+    μ-loop
+    head-requires
+    add-at
+    loop-holds
+    row-requires
+    mul-all-true
+    sub-all-true
+    part-all-true-start
+    part-all-true-end
+    all-true-requires
+    note-row-requires
+    same-length
+    returns
+    sub-left
+    loop-less
+    loop-again
+    same-length-2
+    returns-2)

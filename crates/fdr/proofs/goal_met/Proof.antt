@@ -1,0 +1,44 @@
+use mathlib.Core.Path.{sym, ap, _∙_}
+use Rattle.definitions.specs.Answer.{finding}
+use Rattle.answer.specs.Answer.{placed, verdictAnswer}
+use Rattle.fdr.proofs.Calls.{standing, goal-rest, goal-refused}
+use borrow.Author.Needs.{needs}
+use Rattle.fdr.proofs.goal_met.Statement.{statement}
+use Rattle.fdr.proofs.goal_met.Tie as tie
+
+read-state-requires : tie.Need-read-state-requires
+read-state-requires c κs = search needs
+
+enum-known-reading : tie.Need-enum-known-reading
+enum-known-reading c = search needs
+
+enum-told : tie.Need-enum-told
+enum-told c = search needs
+
+goal-requires : tie.Need-goal-requires
+goal-requires c κs = standing _ _ (ap verdictAnswer (sym (c .enum-told .given .1)) ∙ c .before .before .read-state .ensures) .reads
+
+all-true-requires : tie.Need-all-true-requires
+all-true-requires c κs = search needs
+
+returns : tie.Need-returns
+returns c = goal-refused _ _ (placed (c .before .reading .given .0 .0)) (ap verdictAnswer (sym (c .before .reading .given .1)) ∙ c .before .before .before .read-state .ensures)
+
+returns-2 : tie.Need-returns-2
+returns-2 c = ap finding (sym (c .if1 .taken)) ∙ goal-rest _ _ (ap verdictAnswer (sym (c .before .before .before .enum-told .given .1)) ∙ c .before .before .before .before .before .read-state .ensures) _ _ (c .before .before .goal .ensures) (c .before .all-true .ensures)
+
+returns-3 : tie.Need-returns-3
+returns-3 c = ap finding (sym (c .if1 .left)) ∙ goal-rest _ _ (ap verdictAnswer (sym (c .before .before .before .enum-told .given .1)) ∙ c .before .before .before .before .before .read-state .ensures) _ _ (c .before .before .goal .ensures) (c .before .all-true .ensures)
+
+pub goal-met-spec : {M : Type 1} → statement M
+goal-met-spec =
+    tie.close
+    (tie.spec
+    read-state-requires
+    enum-known-reading
+    enum-told
+    goal-requires
+    all-true-requires
+    returns
+    returns-2
+    returns-3)

@@ -1,0 +1,47 @@
+-- What the functions below the calls ask and answer. Assumes nothing.
+use Prim.Native.Nat.{ℕ, _+_, _≤_, _<_}
+use mathlib.Core.List.{List}
+use mathlib.Core.Bool.{true}
+use mathlib.Core.Path.{_≡_}
+use lib.Dec.{ltb}
+use lib.ListN.{length, getD}
+use Rattle.definitions.specs.Lists.{all}
+use Rattle.definitions.specs.Answer.{Answer, ask, _>>=_}
+use Rattle.definitions.specs.Groups.{Domain}
+use Rattle.definitions.specs.Fdr.{noDomain}
+use Rattle.definitions.specs.FdrImage.{readFdr, fdrOperatorRight}
+use Rattle.definitions.specs.FdrStep.{isFdrState}
+use Rattle.fdr_image.specs.Reads.{fdrOf, ReadsFdr}
+use Rattle.fdr_image.specs.Walk.{blockParses, operatorIn}
+
+-- questions 17 and 18
+unfoldable pub stateAnswer : List ℕ → List ℕ → Answer (Unit {0})
+stateAnswer w s = readFdr w >>= λ t. ask 18 (isFdrState t s)
+
+-- an image that reads as a re-encoded task, and a state of its length
+pub record Standing (w s : List ℕ) : Type 0 where
+  pub reads : ReadsFdr w
+  pub size : length s ≡ length (fdrOf w .domains)
+
+-- besides, the block of an operator with right rows
+pub record Applying (w b s : List ℕ) : Type 0 where
+  pub standing : Standing w s
+  pub parses : blockParses b ≡ true
+  pub right : fdrOperatorRight (fdrOf w .domains) (operatorIn b) ≡ true
+
+-- a block that parses, whose rows have variables below 1,024
+pub record LowBlock (b : List ℕ) : Type 0 where
+  pub parses : blockParses b ≡ true
+  pub low : all (λ r. ltb (r .variable) 1024) (operatorIn b .rows) ≡ true
+
+-- what is noted for variable v lies in its domain
+pub record Changed (D : List Domain) (v change : ℕ) : Type 0 where
+  pub low : v < length D
+  pub size : 1 ≤ getD D v noDomain .values
+  pub inside : change < getD D v noDomain .values + 2
+
+-- what is noted for each variable lies in its domain
+pub record Changes (D : List Domain) (m : List ℕ) : Type 0 where
+  pub long : length D ≤ length m
+  pub sizes : (v : ℕ) → v < length D → 1 ≤ getD D v noDomain .values
+  pub inside : (v : ℕ) → v < length D → getD m v 0 < getD D v noDomain .values + 2

@@ -1,0 +1,64 @@
+-- `fdr_image::are_operators`: the test of all operators is the test of those that are left.
+use Prim.Native.Nat.{_≤_, _-_, _+_}
+use mathlib.Core.Path.{_≡_, sym, ap, _∙_}
+use native.Mathlib.Omega.{arith}
+use borrow.Author.Tests.{not-true, not-false}
+use Rattle.definitions.specs.Lists.{all, range, below}
+use Rattle.definitions.specs.FdrImage.{domainsIn}
+use Rattle.definitions.proofs.Walks.{range-all-end}
+use Rattle.directory.proofs.Laws.{directory-lies}
+use Rattle.fdr_image.specs.Walk.{operatorsRight}
+use Rattle.fdr_image.proofs.Reading.{blockThere, operators-off, operators-on}
+use borrow.Author.Needs.{needs}
+use Rattle.fdr_image.proofs.are_operators.Statement.{statement}
+use Rattle.fdr_image.proofs.are_operators.Tie as tie
+
+abbrev Inv-loop : tie.InvT-loop
+Inv-loop image domains operators i₀ i = (i ≤ operators) × (operatorsRight (domainsIn domains) image operators ≡ all (blockThere (domainsIn domains) image) (range i (operators - i)))
+
+abbrev μ-loop : tie.MeasureT-loop
+μ-loop image domains operators i₀ i = operators - i
+
+loop-holds : tie.Need-loop-holds Inv-loop μ-loop
+unfolding operatorsRight below
+loop-holds c = let e : c .before .before .args .operators ≡ c .before .before .args .operators - 0 = omega arith in (omega arith, ap (λ k. all (blockThere (domainsIn (c .before .before .args .domains .now)) (c .before .before .args .image .now)) (range 0 k)) e)
+
+add-part : tie.Need-add-part Inv-loop μ-loop
+add-part c = search needs
+
+part-requires : tie.Need-part-requires Inv-loop μ-loop
+part-requires c κs = directory-lies _ _ _ (c .before .before .before .before .pre .1) (omega arith)
+
+is-block-requires : tie.Need-is-block-requires Inv-loop μ-loop
+is-block-requires c κs = search needs
+
+returns : tie.Need-returns Inv-loop μ-loop
+returns c = sym (c .before .before .before .before .loop .inv .1 ∙ operators-off (domainsIn (c .before .before .before .before .before .before .before .args .domains .now)) (c .before .before .before .before .before .before .before .args .image .now) _ (c .before .before .before .before .loop .i) (c .before .before .before .before .before .before .before .args .operators - c .before .before .before .before .loop .i) (c .before .before .before .before .before .before .before .args .operators - (c .before .before .before .before .loop .i + 1)) (omega arith) (c .before .before .part .ensures) _ (c .before .is-block .ensures) (not-true _ (c .if1 .taken)))
+
+add-i : tie.Need-add-i Inv-loop μ-loop
+add-i c = search needs
+
+loop-less : tie.Need-loop-less Inv-loop μ-loop
+loop-less c = search needs
+
+loop-again : tie.Need-loop-again Inv-loop μ-loop
+loop-again c = (omega arith, c .before .before .before .before .loop .inv .1 ∙ operators-on (domainsIn (c .before .before .before .before .before .before .before .args .domains .now)) (c .before .before .before .before .before .before .before .args .image .now) _ (c .before .before .before .before .loop .i) (c .before .before .before .before .before .before .before .args .operators - c .before .before .before .before .loop .i) (c .before .before .before .before .before .before .before .args .operators - (c .before .before .before .before .loop .i + 1)) (omega arith) (c .before .before .part .ensures) _ (c .before .is-block .ensures) (not-false _ (c .if1 .left)))
+
+returns-2 : tie.Need-returns-2 Inv-loop μ-loop
+returns-2 c = sym (c .before .loop .inv .1 ∙ range-all-end (blockThere (domainsIn (c .before .before .before .before .args .domains .now)) (c .before .before .before .before .args .image .now)) (c .before .loop .i) (c .before .before .before .before .args .operators - c .before .loop .i) (omega arith))
+
+pub are-operators-spec : {M : Type 1} → statement M
+are-operators-spec =
+    tie.close
+    (tie.spec
+    Inv-loop
+    μ-loop
+    loop-holds
+    add-part
+    part-requires
+    is-block-requires
+    returns
+    add-i
+    loop-less
+    loop-again
+    returns-2)

@@ -1,0 +1,25 @@
+use native.Mathlib.Omega.{arith}
+use mathlib.Core.Path.{_∙_}
+use Rattle.fdr_image.proofs.Pairs.{place-inside, place-variable}
+use borrow.Author.Needs.{needs}
+use Rattle.fdr_image.proofs.atom.variable.Statement.{statement}
+use Rattle.fdr_image.proofs.atom.variable.Tie as tie
+
+mul-wide : tie.Need-mul-wide
+mul-wide c = omega (arith, place-inside _ _ (c .before .pre))
+
+mul-wide-2 : tie.Need-mul-wide-2
+mul-wide-2 c = omega (arith, place-inside _ _ (c .before .pre))
+
+shared-slice-read-wide : tie.Need-shared-slice-read-wide
+shared-slice-read-wide c = omega (arith, place-inside _ _ (c .before .before .pre))
+
+wide-requires : tie.Need-wide-requires
+wide-requires c κs = search needs
+
+returns : tie.Need-returns
+returns c = (c .wide .ensures .0 ∙ place-variable _ _ (c .before .before .before .pre), c .wide .ensures .1)
+
+pub variable-spec : {M : Type 1} → statement M
+variable-spec =
+    tie.close (tie.spec mul-wide mul-wide-2 shared-slice-read-wide wide-requires returns)

@@ -1,0 +1,90 @@
+-- `fdr_image::domain::are_literals`: the test of the whole list is the test of what is left of it.
+use Prim.Native.Nat.{_≤_, _-_, _/_}
+use mathlib.Core.Path.{_≡_, refl, sym, _∙_}
+use native.Mathlib.Omega.{arith}
+use lib.ListN.{length, drop}
+use borrow.Author.Tests.{not-true, not-false}
+use Rattle.definitions.specs.Lists.{all}
+use Rattle.definitions.specs.FdrImage.{domainsIn, literalsIn, fdrLiteralRight}
+use Rattle.fdr_image.proofs.Pairs.{literals-off, literals-on, literals-end}
+use Rattle.fdr_image.proofs.DomainLaws.{literal-right}
+use borrow.Author.Needs.{needs}
+use Rattle.fdr_image.proofs.domain.are_literals.Statement.{statement}
+use Rattle.fdr_image.proofs.domain.are_literals.Tie as tie
+
+abbrev Inv-loop : tie.InvT-loop
+Inv-loop domains words i₀ i = (i ≤ length words / 2) × (all (fdrLiteralRight (domainsIn domains)) (literalsIn words) ≡ all (fdrLiteralRight (domainsIn domains)) (drop i (literalsIn words)))
+
+abbrev μ-loop : tie.MeasureT-loop
+μ-loop domains words i₀ i = length words / 2 - i
+
+loop-holds : tie.Need-loop-holds Inv-loop μ-loop
+loop-holds c = (omega arith, refl)
+
+mul-wide : tie.Need-mul-wide Inv-loop μ-loop
+mul-wide c = search needs
+
+mul-wide-2 : tie.Need-mul-wide-2 Inv-loop μ-loop
+mul-wide-2 c = search needs
+
+shared-slice-read-wide : tie.Need-shared-slice-read-wide Inv-loop μ-loop
+shared-slice-read-wide c = search needs
+
+wide-requires : tie.Need-wide-requires Inv-loop μ-loop
+wide-requires c κs = search needs
+
+mul-wide-3 : tie.Need-mul-wide-3 Inv-loop μ-loop
+mul-wide-3 c = search needs
+
+add-wide : tie.Need-add-wide Inv-loop μ-loop
+add-wide c = search needs
+
+mul-wide-4 : tie.Need-mul-wide-4 Inv-loop μ-loop
+mul-wide-4 c = search needs
+
+shared-slice-read-wide-2 : tie.Need-shared-slice-read-wide-2 Inv-loop μ-loop
+shared-slice-read-wide-2 c = search needs
+
+wide-requires-2 : tie.Need-wide-requires-2 Inv-loop μ-loop
+wide-requires-2 c κs = search needs
+
+is-atom-value-requires : tie.Need-is-atom-value-requires Inv-loop μ-loop
+is-atom-value-requires c κs = search needs
+
+returns : tie.Need-returns Inv-loop μ-loop
+returns c = sym (c .before .before .before .before .before .before .before .loop .inv .1 ∙ literals-off _ _ (c .before .before .before .before .before .before .before .loop .i) _ _ (c .before .before .before .before .before .before .loop-test .taken) (c .before .before .before .before .wide .ensures .0) (c .before .before .wide2 .ensures .0) (literal-right _ _ _ _ (c .before .is-atom-value .ensures) ∙ not-true _ (c .if1 .taken)))
+
+add-i : tie.Need-add-i Inv-loop μ-loop
+add-i c = search needs
+
+loop-less : tie.Need-loop-less Inv-loop μ-loop
+loop-less c = search needs
+
+loop-again : tie.Need-loop-again Inv-loop μ-loop
+loop-again c = (omega arith, c .before .before .before .before .before .before .before .loop .inv .1 ∙ literals-on _ _ (c .before .before .before .before .before .before .before .loop .i) _ _ (c .before .before .before .before .before .before .loop-test .taken) (c .before .before .before .before .wide .ensures .0) (c .before .before .wide2 .ensures .0) (literal-right _ _ _ _ (c .before .is-atom-value .ensures) ∙ not-false _ (c .if1 .left)))
+
+returns-2 : tie.Need-returns-2 Inv-loop μ-loop
+returns-2 c = sym (c .before .loop .inv .1 ∙ literals-end _ _ (c .before .loop .i) (c .loop-test .left))
+
+pub are-literals-spec : {M : Type 1} → statement M
+are-literals-spec =
+    tie.close
+    (tie.spec
+    Inv-loop
+    μ-loop
+    loop-holds
+    mul-wide
+    mul-wide-2
+    shared-slice-read-wide
+    wide-requires
+    mul-wide-3
+    add-wide
+    mul-wide-4
+    shared-slice-read-wide-2
+    wide-requires-2
+    is-atom-value-requires
+    returns
+    add-i
+    loop-less
+    loop-again
+    returns-2)

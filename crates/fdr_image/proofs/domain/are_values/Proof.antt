@@ -1,0 +1,68 @@
+-- `fdr_image::domain::are_values`: the test of the whole is the test of the values that are left.
+use Prim.Native.Nat.{_≤_, _-_}
+use mathlib.Core.Path.{_≡_, refl, sym, _∙_}
+use native.Mathlib.Omega.{arith}
+use lib.ListN.{length, drop}
+use Rattle.definitions.specs.FdrImage.{domainsIn, valuesRight}
+use Rattle.fdr_image.proofs.Pairs.{domains-length}
+use Rattle.fdr_image.proofs.DomainLaws.{values-unlike, values-high, values-on, values-end}
+use borrow.Author.Needs.{needs}
+use Rattle.fdr_image.proofs.domain.are_values.Statement.{statement}
+use Rattle.fdr_image.proofs.domain.are_values.Tie as tie
+
+abbrev Inv-loop : tie.InvT-loop
+Inv-loop domains values v₀ v = (v ≤ length values) × (length values ≡ length (domainsIn domains)) × (valuesRight (domainsIn domains) values ≡ valuesRight (drop v (domainsIn domains)) (drop v values))
+
+abbrev μ-loop : tie.MeasureT-loop
+μ-loop domains values v₀ v = length values - v
+
+returns : tie.Need-returns Inv-loop μ-loop
+returns c = values-unlike (domainsIn (c .before .before .before .args .domains .now)) _ (λ e. c .if1 .taken (e ∙ domains-length _))
+
+loop-holds : tie.Need-loop-holds Inv-loop μ-loop
+loop-holds c = (omega arith, omega (arith, domains-length (c .before .before .before .args .domains .now)), refl)
+
+size-requires : tie.Need-size-requires Inv-loop μ-loop
+size-requires c κs = omega (arith, c .before .loop .inv .1)
+
+mul-wide : tie.Need-mul-wide Inv-loop μ-loop
+mul-wide c = search needs
+
+shared-slice-read-wide : tie.Need-shared-slice-read-wide Inv-loop μ-loop
+shared-slice-read-wide c = search needs
+
+wide-requires : tie.Need-wide-requires Inv-loop μ-loop
+wide-requires c κs = search needs
+
+returns-2 : tie.Need-returns-2 Inv-loop μ-loop
+returns-2 c = sym (c .before .before .before .before .before .loop .inv .2 ∙ values-high (domainsIn (c .before .before .before .before .before .before .before .before .before .args .domains .now)) _ (c .before .before .before .before .before .loop .v) (omega arith) (c .before .before .before .before .loop-test .taken) _ _ (c .before .before .before .size .ensures .0) (c .before .wide .ensures .0) (c .if2 .taken))
+
+add-v : tie.Need-add-v Inv-loop μ-loop
+add-v c = search needs
+
+loop-less : tie.Need-loop-less Inv-loop μ-loop
+loop-less c = search needs
+
+loop-again : tie.Need-loop-again Inv-loop μ-loop
+loop-again c = (omega arith, c .before .before .before .before .before .loop .inv .1, c .before .before .before .before .before .loop .inv .2 ∙ values-on (domainsIn (c .before .before .before .before .before .before .before .before .before .args .domains .now)) _ (c .before .before .before .before .before .loop .v) (omega arith) (c .before .before .before .before .loop-test .taken) _ _ (c .before .before .before .size .ensures .0) (c .before .wide .ensures .0) (c .if2 .left))
+
+returns-3 : tie.Need-returns-3 Inv-loop μ-loop
+returns-3 c = sym (c .before .loop .inv .2 ∙ values-end (domainsIn (c .before .before .before .before .before .args .domains .now)) _ (c .before .loop .v) (omega arith) (c .loop-test .left))
+
+pub are-values-spec : {M : Type 1} → statement M
+are-values-spec =
+    tie.close
+    (tie.spec
+    Inv-loop
+    μ-loop
+    returns
+    loop-holds
+    size-requires
+    mul-wide
+    shared-slice-read-wide
+    wide-requires
+    returns-2
+    add-v
+    loop-less
+    loop-again
+    returns-3)
