@@ -6,6 +6,9 @@ ghost use Rattle.definitions.specs.Answer.{verdict, stateAfter};
 ghost use Rattle.definitions.specs.Image.{readTask};
 ghost use Rattle.definitions.specs.Step.{stepTask, goalTask, startTask, runTask};
 ghost use Rattle.definitions.specs.Checker.{check, keeps};
+ghost use Rattle.definitions.specs.Groups.{written, groupsCall};
+ghost use Rattle.definitions.specs.Encoding.{encodeCall};
+ghost use Rattle.definitions.specs.Coding.{toAtomsCall, fromAtomsCall};
 ghost use Rattle.definitions.specs.FdrStep.{stepFdr, goalFdr, startFdr, runFdr};
 ghost use Rattle.exports.specs.Told.{told, toldVerdict, toldTest, toldCount};
 
@@ -107,6 +110,40 @@ pub extern "C" fn kb_check(
     tell::verdict(checker::accept(image, clauses, marks), first, second)
 }
 
+// Groups: the checker's questions, then 16. Writes the domains part and the atoms part; `first` is the number of variables.
+#[no_mangle]
+pub extern "C" fn kb_groups(
+    image: &[u16],
+    clauses: &[u16],
+    marks: &mut [u8],
+    target: &mut [u16],
+    first: &mut u64,
+    second: &mut u64,
+) -> u32
+    ensures { λ r. ⌜ (told r (now (first .exit)) (now (second .exit)) ≡ toldCount (written (now (target .entry)) (groupsCall (now (image .entry)) (now (clauses .entry)) (length (now (marks .entry))) (length (now (target .entry)))) .answer)) × (now (target .exit) ≡ written (now (target .entry)) (groupsCall (now (image .entry)) (now (clauses .entry)) (length (now (marks .entry))) (length (now (target .entry)))) .lent) ⌝ }
+{
+    tell::count(groups::groups(image, clauses, marks, target), first, second)
+}
+
+// Re-encoding: the checker's questions, then 16. Writes the re-encoded image; `first` is its length.
+#[no_mangle]
+pub extern "C" fn kb_reencode(
+    image: &[u16],
+    clauses: &[u16],
+    marks: &mut [u8],
+    target: &mut [u16],
+    first: &mut u64,
+    second: &mut u64,
+) -> u32
+    ensures { λ r. ⌜ (told r (now (first .exit)) (now (second .exit)) ≡ toldCount (written (now (target .entry)) (encodeCall (now (image .entry)) (now (clauses .entry)) (length (now (marks .entry))) (length (now (target .entry)))) .answer)) × (now (target .exit) ≡ written (now (target .entry)) (encodeCall (now (image .entry)) (now (clauses .entry)) (length (now (marks .entry))) (length (now (target .entry)))) .lent) ⌝ }
+{
+    tell::count(
+        reencoding::reencode(image, clauses, marks, target),
+        first,
+        second,
+    )
+}
+
 // Sets a finite-domain state to the initial one: 17, the length of 18.
 #[no_mangle]
 pub extern "C" fn kb_fdr_initial(
@@ -159,4 +196,32 @@ pub extern "C" fn kb_fdr_run(
     ensures { λ r. ⌜ (told r (now (first .exit)) (now (second .exit)) ≡ toldCount (runFdr (now (image .entry)) (now (state .entry)) (now (list .entry)) .answer)) × (now (state .exit) ≡ runFdr (now (image .entry)) (now (state .entry)) (now (list .entry)) .lent) ⌝ }
 {
     tell::count(fdr::run(image, state, list), first, second)
+}
+
+// The finite-domain state of a task's state: 17, 18, 23.
+#[no_mangle]
+pub extern "C" fn kb_encode(
+    image: &[u16],
+    state: &[u8],
+    target: &mut [u16],
+    first: &mut u64,
+    second: &mut u64,
+) -> u32
+    ensures { λ r. ⌜ (told r (now (first .exit)) (now (second .exit)) ≡ toldVerdict (verdict (fromAtomsCall (now (image .entry)) (now (state .entry)) (length (now (target .entry)))))) × (now (target .exit) ≡ stateAfter (now (target .entry)) (fromAtomsCall (now (image .entry)) (now (state .entry)) (length (now (target .entry))))) ⌝ }
+{
+    tell::verdict(coding::encode(image, state, target), first, second)
+}
+
+// The task's state of a finite-domain state: 17, 18.
+#[no_mangle]
+pub extern "C" fn kb_decode(
+    image: &[u16],
+    state: &[u16],
+    target: &mut [u8],
+    first: &mut u64,
+    second: &mut u64,
+) -> u32
+    ensures { λ r. ⌜ (told r (now (first .exit)) (now (second .exit)) ≡ toldVerdict (verdict (toAtomsCall (now (image .entry)) (now (state .entry)) (length (now (target .entry)))))) × (now (target .exit) ≡ stateAfter (now (target .entry)) (toAtomsCall (now (image .entry)) (now (state .entry)) (length (now (target .entry))))) ⌝ }
+{
+    tell::verdict(coding::decode(image, state, target), first, second)
 }

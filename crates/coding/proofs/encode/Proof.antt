@@ -1,0 +1,82 @@
+use Prim.Native.Nat.{ℕ}
+use mathlib.Core.Path.{_≡_, sym, ap, _∙_}
+use lib.ListN.{length}
+use borrow.Author.Tests.{not-true, not-false}
+use Rattle.definitions.specs.Literal.{isState}
+use Rattle.answer.specs.Answer.{placed, verdictAnswer}
+use Rattle.answer.proofs.Laws.{outcome-of}
+use Rattle.fdr_image.specs.Reads.{fdrOf, ReadsFdr}
+use Rattle.fdr_image.proofs.Reading.{reads}
+use Rattle.coding.proofs.Calls.{state-length, encode-codes, codes-17, codes-source, codes-target, codes-rest}
+use borrow.Author.Needs.{needs}
+use Rattle.coding.proofs.encode.Statement.{statement}
+use Rattle.coding.proofs.encode.Tie as tie
+
+read-fine : (c : tie.After-enum-told) → ReadsFdr (c .before .before .before .before .before .before .args .image .now)
+read-fine c = reads _ (ap verdictAnswer (sym (c .enum-told .given .1)) ∙ c .before .before .read .ensures)
+
+is-right : (c : tie.After-is-state) → c .is-state .result ≡ isState (length (fdrOf (c .before .before .before .before .before .before .before .before .args .image .now) .atoms)) (c .before .before .before .before .before .before .before .before .args .state .now)
+is-right c = c .is-state .ensures ∙ ap (λ (n : ℕ). isState n (c .before .before .before .before .before .before .before .before .args .state .now)) (c .before .atoms .ensures .0)
+
+read-requires : tie.Need-read-requires
+read-requires c κs = search needs
+
+enum-known-reading : tie.Need-enum-known-reading
+enum-known-reading c = search needs
+
+enum-told : tie.Need-enum-told
+enum-told c = search needs
+
+atoms-requires : tie.Need-atoms-requires
+atoms-requires c κs = read-fine c
+
+is-state-requires : tie.Need-is-state-requires
+is-state-requires c κs = search needs
+
+refuse-requires : tie.Need-refuse-requires
+refuse-requires c κs = search needs
+
+returns : tie.Need-returns
+returns c = outcome-of _ _ _ _ (c .refuse .ensures) (codes-source _ _ _ _ _ _ (encode-codes _ _ _) (read-fine (c .before .before .before .before)) _ (is-right (c .before .before)) (not-true _ (c .before .if1 .taken)))
+
+variables-requires : tie.Need-variables-requires
+variables-requires c κs = read-fine (c .before .before .before)
+
+refuse-requires-2 : tie.Need-refuse-requires-2
+refuse-requires-2 c κs = search needs
+
+returns-2 : tie.Need-returns-2
+returns-2 c = outcome-of _ _ _ _ (c .refuse2 .ensures) (codes-target _ _ _ _ _ _ (encode-codes _ _ _) (read-fine (c .before .before .before .before .before .before)) _ (is-right (c .before .before .before .before)) (not-false _ (c .before .before .before .if1 .left)) _ (c .before .before .variables .ensures .0) (c .before .if2 .taken))
+
+encode-read-requires : tie.Need-encode-read-requires
+encode-read-requires c κs = record { reads = read-fine (c .before .before .before .before .before .before); source = state-length _ _ _ (is-right (c .before .before .before .before)) (not-false _ (c .before .before .before .if1 .left)); target = c .before .if2 .left ∙ c .before .before .variables .ensures .0 }
+
+returns-3 : tie.Need-returns-3
+returns-3 c =
+    let f = c .before .reading .given in
+    codes-17 _ _ _ _ _ _ (encode-codes _ _ _) (placed (f .0 .0)) (ap verdictAnswer (sym (f .1)) ∙ c .before .before .before .read .ensures)
+
+same-length : tie.Need-same-length
+same-length c = search needs
+
+returns-4 : tie.Need-returns-4
+returns-4 c = c .before .before .encode-read .ensures ∙ codes-rest _ _ _ _ _ _ (encode-codes _ _ _) (read-fine (c .before .before .before .before .before .before .before .before .before)) _ (is-right (c .before .before .before .before .before .before .before)) (not-false _ (c .before .before .before .before .before .before .if1 .left)) _ (c .before .before .before .before .before .variables .ensures .0) (c .before .before .before .before .if2 .left)
+
+pub encode-spec : {M : Type 1} → statement M
+encode-spec =
+    tie.close
+    (tie.spec
+    read-requires
+    enum-known-reading
+    enum-told
+    atoms-requires
+    is-state-requires
+    refuse-requires
+    returns
+    variables-requires
+    refuse-requires-2
+    returns-2
+    encode-read-requires
+    returns-3
+    same-length
+    returns-4)

@@ -1,0 +1,88 @@
+// Coding of states: from a task's state to a finite-domain state and back (questions 17, 18 and, from atoms, 23).
+ghost use mathlib.Core.Path.{_≡_};
+ghost use lib.ListN.{length};
+ghost use Rattle.definitions.specs.Answer.{outcome, becomes};
+ghost use Rattle.definitions.specs.Literal.{isState};
+ghost use Rattle.definitions.specs.Coding.{fromAtoms, fromAtomsCall, toAtomsCall};
+ghost use Rattle.answer.specs.Answer.{verdictAnswer};
+ghost use Rattle.fdr_image.specs.Reads.{fdrOf};
+ghost use Rattle.coding.specs.Post.{Encodes};
+
+mod found; // found.rt: the values of the true atoms
+mod atom; // atom.rt: the truth of atoms in a finite-domain state
+
+// Whether a state has `atoms` bytes, each 0 or 1.
+fn is_state(state: &[u8], atoms: usize) -> bool
+    ensures { λ r. ⌜ r ≡ isState atoms (now (state .entry)) ⌝ }
+{
+    if state.len() != atoms {
+        return false;
+    }
+    let mut a: usize = 0;
+    while a < state.len() {
+        if 2 <= state[a] {
+            return false;
+        }
+        a += 1;
+    }
+    true
+}
+
+// Codes a task's state from atoms: question 23. The target is written only where no variable is refused.
+fn encode_read(image: &[u16], state: &[u8], target: &mut [u16]) -> answer::Verdict
+    requires { ⌜ Encodes (now image) (now state) (length (now target)) ⌝ }
+    ensures { λ r. ⌜ outcome (verdictAnswer r) (now (target .exit)) ≡ becomes (now (target .entry)) (fromAtoms (fdrOf (now (image .entry))) (now (state .entry))) ⌝ }
+{
+    let mut values = found::room();
+    let single = found::find(image, state, &mut values);
+    if !single {
+        return answer::refuse(answer::Refusal::NOT_CODABLE);
+    }
+    let codable = found::are_codable(image, &values);
+    if !codable {
+        return answer::refuse(answer::Refusal::NOT_CODABLE);
+    }
+    found::write(image, &values, target);
+    answer::Verdict::Fine
+}
+
+// Codes a task's state from atoms: the finite-domain state goes to the target.
+pub fn encode(image: &[u16], state: &[u8], target: &mut [u16]) -> answer::Verdict
+    ensures { λ r. ⌜ outcome (verdictAnswer r) (now (target .exit)) ≡ becomes (now (target .entry)) (fromAtomsCall (now (image .entry)) (now (state .entry)) (length (now (target .entry)))) ⌝ }
+{
+    let reading = fdr_image::read(image);
+    match reading {
+        answer::Verdict::Refused(f) => answer::Verdict::Refused(f),
+        answer::Verdict::Fine => {
+            let right = is_state(state, fdr_image::atoms(image));
+            if !right {
+                return answer::refuse(answer::Refusal::STATE);
+            }
+            if target.len() != fdr_image::variables(image) {
+                return answer::refuse(answer::Refusal::STATE);
+            }
+            encode_read(image, state, target)
+        }
+    }
+}
+
+// Codes a finite-domain state to atoms: the task's state goes to the target.
+pub fn decode(image: &[u16], state: &[u16], target: &mut [u8]) -> answer::Verdict
+    ensures { λ r. ⌜ outcome (verdictAnswer r) (now (target .exit)) ≡ becomes (now (target .entry)) (toAtomsCall (now (image .entry)) (now (state .entry)) (length (now (target .entry)))) ⌝ }
+{
+    let reading = fdr_image::read(image);
+    match reading {
+        answer::Verdict::Refused(f) => answer::Verdict::Refused(f),
+        answer::Verdict::Fine => {
+            let right = fdr_image::is_state(image, state);
+            if !right {
+                return answer::refuse(answer::Refusal::STATE);
+            }
+            if target.len() != fdr_image::atoms(image) {
+                return answer::refuse(answer::Refusal::STATE);
+            }
+            atom::write(image, state, target);
+            answer::Verdict::Fine
+        }
+    }
+}

@@ -1,0 +1,21 @@
+use mathlib.Core.Path.{ap, _∙_}
+use Rattle.exports.specs.Told.{toldVerdict}
+use Rattle.exports.proofs.Outcomes.{answered, left}
+use borrow.Author.Needs.{needs}
+use Rattle.exports.proofs.kb_decode.Statement.{statement}
+use Rattle.exports.proofs.kb_decode.Tie as tie
+
+decode-requires : tie.Need-decode-requires
+decode-requires c κs = search needs
+
+verdict-requires : tie.Need-verdict-requires
+verdict-requires c κs = search needs
+
+same-length : tie.Need-same-length
+same-length c = search needs
+
+returns : tie.Need-returns
+returns c = (c .verdict .ensures ∙ ap toldVerdict (answered _ _ _ _ (c .before .before .before .before .before .decode .ensures)), left _ _ _ _ (c .before .before .before .before .before .decode .ensures))
+
+pub kb-decode-spec : {M : Type 1} → statement M
+kb-decode-spec = tie.close (tie.spec decode-requires verdict-requires same-length returns)

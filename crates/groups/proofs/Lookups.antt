@@ -1,0 +1,123 @@
+-- Lookups of clauses in right rows, and mutex atoms by them. Assumes nothing.
+use mathlib.Core.Bool.{Bool, true, false, not, _&&_, _||_}
+use mathlib.Core.Path.{_≡_, refl, sym, _∙_, ap}
+use mathlib.Core.List.{List, [], _∷_, map}
+use Prim.Native.Nat.{ℕ, suc, _+_, _*_, _≤_, _<_, min, max}
+use native.Mathlib.Omega.{arith}
+use native.Mathlib.Decide.{decLt}
+use lib.Dec.{ltb}
+use lib.ListN.{length, getD, set, replicate, length-set}
+use lib.Seq.{getD-set-same, getD-set-other}
+use borrow.Author.Tests.{ltb-true, lt-ltb}
+use Rattle.definitions.specs.Lists.{all, empty, ascending, compareWords, isSame}
+use Rattle.definitions.specs.Literal.{atom, fill, allBelow, literalList}
+use Rattle.definitions.specs.Clauses.{width, rowOf, clauseOf, clauseRight, rowAt}
+use Rattle.definitions.specs.Groups.{hasClause, mutex}
+use Rattle.definitions.proofs.ListLaws.{and-left, and-right, and-both, or-left, or-right}
+use Rattle.clause.specs.Rows.{rowCount, clausesOf, RightRows}
+use Rattle.clause.specs.Search.{Sought, isThere}
+use Rattle.clause.specs.declared.Found.{Found}
+use Rattle.clause.proofs.ClauseLaws.{sought-clause}
+use Rattle.groups.specs.Mutex.{flag, Alone}
+
+-- ---- rows that are right for N atoms are right for more
+below-wider : (n m : ℕ) → n ≤ m → (f : List ℕ) → allBelow n f ≡ true → allBelow m f ≡ true
+unfolding allBelow all
+below-wider n m h [] e = refl
+below-wider n m h (x ∷ f) e =
+    let low = ltb-true x n (and-left (ltb x n) (all (λ x. ltb x n) f) e) in
+    and-both (lt-ltb x m (omega arith)) (below-wider n m h f (and-right (ltb x n) (all (λ x. ltb x n) f) e))
+
+list-wider : (N M : ℕ) → N ≤ M → (f : List ℕ) → literalList N f ≡ true → literalList M f ≡ true
+unfolding literalList
+list-wider N M h f e =
+    let a = ascending f in
+    let b = allBelow (2 * N) f in
+    let c = ascending (map atom f) in
+    let ab = and-left (a && b) c e in
+    and-both (and-both (and-left a b ab) (below-wider (2 * N) (2 * M) (omega arith) f (and-right a b ab))) (and-right (a && b) c e)
+
+row-wider : (N M : ℕ) → N ≤ M → (row : List ℕ) → clauseRight N row ≡ true → clauseRight M row ≡ true
+unfolding clauseRight
+row-wider N M h row e =
+    let f = clauseOf row in
+    let a = not (empty f) in
+    let b = literalList N f in
+    let c = isSame (compareWords row (rowOf f)) in
+    let ab = and-left (a && b) c e in
+    and-both (and-both (and-left a b ab) (list-wider N M h f (and-right a b ab))) (and-right (a && b) c e)
+
+pub rows-wider : (N M : ℕ) → N ≤ M → (w : List ℕ) → RightRows N w → RightRows M w
+rows-wider N M h w r =
+    record { ascending = r .ascending; right = λ i k. row-wider N M h (rowAt w i) (r .right i k) }
+
+-- ---- the rows that the code looks up
+pub row-one : (l : ℕ) → set (replicate width fill) 0 l ≡ rowOf (l ∷ [])
+unfolding rowOf width
+row-one l = refl
+
+pub row-two : (l m : ℕ) → set (set (replicate width fill) 0 l) 1 m ≡ rowOf (l ∷ m ∷ [])
+unfolding rowOf width
+row-two l m = refl
+
+module _ (w : List ℕ) (rows : RightRows 1024 w) where
+  pub looked-one : (l : ℕ) (row : List ℕ) (r : Found) (b : Bool) → l < 2048 → row ≡ rowOf (l ∷ []) → Sought w row r → b ≡ isThere r → b ≡ hasClause (clausesOf w) (l ∷ [])
+  unfolding allBelow all
+  looked-one l row r b h e s t = t ∙ sym (sought-clause 1024 w rows (l ∷ []) r (omega arith) (and-both (lt-ltb l 2048 h) refl) (rw e at s))
+
+  pub looked-two : (l m : ℕ) (row : List ℕ) (r : Found) (b : Bool) → l < 2048 → m < 2048 → row ≡ rowOf (l ∷ m ∷ []) → Sought w row r → b ≡ isThere r → b ≡ hasClause (clausesOf w) (l ∷ m ∷ [])
+  unfolding allBelow all
+  looked-two l m row r b h k e s t =
+      t
+      ∙ sym (sought-clause 1024 w rows (l ∷ m ∷ []) r (omega arith) (and-both (lt-ltb l 2048 h) (and-both (lt-ltb m 2048 k) refl)) (rw e at s))
+
+-- ---- marks of atoms that are mutex with every other
+flag-on : (b : Bool) → flag b ≡ 1 → b ≡ true
+flag-on true e = refl
+flag-on false e = absurd (omega arith)
+
+flag-off : (b : Bool) → (flag b ≡ 1 → ⊥) → b ≡ false
+flag-off true h = absurd (h refl)
+flag-off false h = refl
+
+module _ (C : List (List ℕ)) where
+  abbrev pub AloneBelow : List ℕ → ℕ → Type 0
+  AloneBelow alone n = (x : ℕ) → x < n → getD alone x 0 ≡ flag (hasClause C ((2 * x + 1) ∷ []))
+
+  pub alone-on : (alone : List ℕ) (a l v : ℕ) (b : Bool) → a < length alone → AloneBelow alone a → l ≡ 2 * a + 1 → b ≡ hasClause C (l ∷ []) → v ≡ flag b → AloneBelow (set alone a v) (a + 1)
+  alone-on alone a l v b inside h el eb ev x low = go (decLt x a)
+    where
+      go : Dec (x < a) → getD (set alone a v) x 0 ≡ flag (hasClause C ((2 * x + 1) ∷ []))
+      go (yes k) = getD-set-other alone a x v 0 (λ e. absurd (omega arith)) ∙ h x k
+      go (no k) =
+          let e : x ≡ a = omega arith in
+          rw e (getD-set-same alone a v 0 inside ∙ ev ∙ ap flag (eb ∙ ap (λ (z : ℕ). hasClause C (z ∷ [])) el))
+
+  module _ (alone : List ℕ) (known : Alone C alone) (a b : ℕ) (high : a < length alone) (low : b < a) where
+    mutex-is : mutex C a b ≡ (hasClause C ((2 * b + 1) ∷ (2 * a + 1) ∷ []) || hasClause C ((2 * a + 1) ∷ []) || hasClause C ((2 * b + 1) ∷ []))
+    unfolding mutex
+    mutex-is =
+        let e : min (2 * a + 1) (2 * b + 1) ≡ 2 * b + 1 = omega arith in
+        let f : max (2 * a + 1) (2 * b + 1) ≡ 2 * a + 1 = omega arith in
+        rw (e, f)
+
+    pub mutex-first : getD alone a 0 ≡ 1 → true ≡ mutex C a b
+    mutex-first h =
+        sym (mutex-is
+        ∙ or-left (hasClause C ((2 * b + 1) ∷ []))
+        (or-right (hasClause C ((2 * b + 1) ∷ (2 * a + 1) ∷ [])) (flag-on (hasClause C ((2 * a + 1) ∷ [])) (sym (known .told a high) ∙ h))))
+
+    pub mutex-second : getD alone b 0 ≡ 1 → true ≡ mutex C a b
+    mutex-second h =
+        sym (mutex-is
+        ∙ or-right (hasClause C ((2 * b + 1) ∷ (2 * a + 1) ∷ []) || hasClause C ((2 * a + 1) ∷ [])) (flag-on (hasClause C ((2 * b + 1) ∷ [])) (sym (known .told b (omega arith)) ∙ h)))
+
+    pub mutex-two : (getD alone a 0 ≡ 1 → ⊥) → (getD alone b 0 ≡ 1 → ⊥) → (r : Bool) (l m : ℕ) → l ≡ 2 * b + 1 → m ≡ 2 * a + 1 → r ≡ hasClause C (l ∷ m ∷ []) → r ≡ mutex C a b
+    mutex-two ha hb r l m el em er =
+        let fa : hasClause C ((2 * a + 1) ∷ []) ≡ false = flag-off (hasClause C ((2 * a + 1) ∷ [])) (λ e. ha (known .told a high ∙ e)) in
+        let fb : hasClause C ((2 * b + 1) ∷ []) ≡ false = flag-off (hasClause C ((2 * b + 1) ∷ [])) (λ e. hb (known .told b (omega arith) ∙ e)) in
+        er ∙ rw (mutex-is, fa, fb, el, em) (sym (or-none (hasClause C ((2 * b + 1) ∷ (2 * a + 1) ∷ []))))
+      where
+        or-none : (b : Bool) → (b || false || false) ≡ b
+        or-none true = refl
+        or-none false = refl

@@ -1,0 +1,55 @@
+use mathlib.Core.Path.{_≡_, sym, ap, _∙_}
+use lib.ListN.{length}
+use Rattle.answer.specs.Answer.{placed, verdictAnswer}
+use Rattle.groups.proofs.Accepting.{Accepts, accepted, groups-refused, groups-accepted}
+use borrow.Author.Needs.{needs}
+use Rattle.groups.proofs.groups.Statement.{statement}
+use Rattle.groups.proofs.groups.Tie as tie
+
+accepts : (c : tie.After-enum-told) → Accepts (c .before .before .before .before .before .before .before .before .before .before .args .image .now) (c .before .before .before .before .before .before .before .before .before .before .args .clauses .now) (length (c .before .before .before .before .before .before .before .before .before .before .args .marks .now))
+accepts c = accepted _ _ _ (ap verdictAnswer (sym (c .enum-told .given .1)) ∙ c .before .before .before .before .accept .ensures)
+
+accept-requires : tie.Need-accept-requires
+accept-requires c κs = search needs
+
+enum-known-checked : tie.Need-enum-known-checked
+enum-known-checked c = search needs
+
+enum-told : tie.Need-enum-told
+enum-told c = search needs
+
+groups-read-requires : tie.Need-groups-read-requires
+groups-read-requires c κs =
+    let a = accepts (c .before) in
+    (a .reads, a .rows)
+
+same-length : tie.Need-same-length
+same-length c = search needs
+
+returns : tie.Need-returns
+returns c =
+    let f = c .before .checked .given in
+    groups-refused _ _ _ _ (placed (f .0 .0)) (ap verdictAnswer (sym (f .1)) ∙ c .before .before .before .before .before .accept .ensures)
+
+same-length-2 : tie.Need-same-length-2
+same-length-2 c = search needs
+
+same-length-3 : tie.Need-same-length-3
+same-length-3 c = search needs
+
+returns-2 : tie.Need-returns-2
+returns-2 c = c .before .before .groups-read .ensures ∙ groups-accepted _ _ _ _ (accepts (c .before .before .before .before))
+
+pub groups-spec : {M : Type 1} → statement M
+groups-spec =
+    tie.close
+    (tie.spec
+    accept-requires
+    enum-known-checked
+    enum-told
+    groups-read-requires
+    same-length
+    returns
+    same-length-2
+    same-length-3
+    returns-2)

@@ -1,0 +1,309 @@
+-- The words of the image by the places of the atoms are those of the definitions. Assumes nothing.
+use mathlib.Core.Bool.{Bool, true, false, _&&_}
+use mathlib.Core.Path.{_≡_, refl, sym, _∙_, ap, ap₂}
+use mathlib.Core.List.{List, [], _∷_, _++_, map, append-assoc, List·Memᴰ, List·Memᴰ·head, List·Memᴰ·tail}
+use Prim.Native.Nat.{ℕ, zero, suc, _+_, _-_, _*_, _/_, _%_, _≤_, _<_}
+use native.Mathlib.Omega.{arith}
+use lib.Dec.{leb, ltb}
+use lib.ListN.{length, getD, take, drop, length-append, length-map}
+use lib.Seq.{length-take-le}
+use borrow.Author.Tests.{ltb-true}
+use Rattle.definitions.specs.Lists.{all, each, below, ascending}
+use Rattle.definitions.specs.Answer.{Answer, finding, refused, Refusal, outcome, verdict, ask, _>>=_}
+use Rattle.definitions.specs.Literal.{atom, allBelow, literalList}
+use Rattle.definitions.specs.Image.{Row, Operator, Task, initialState, rowRight, operatorRight}
+use Rattle.definitions.specs.Step.{noOperator, operatorAt}
+use Rattle.definitions.specs.Checker.{Accepted, check}
+use Rattle.definitions.specs.Groups.{groups, groupsBelow, Domain, domainOf, domainWords, Place, placeOf, placeWords, Written, written}
+use Rattle.definitions.specs.Fdr.{FdrLiteral, FdrRow, FdrOperator, FdrTask, fdrLiteralWords, countedWords, fdrRowWords, fdrOperatorWords, fdrParts, pairWords, fdrWords}
+use Rattle.definitions.specs.Encoding.{valueIn, encodeLiteral, encodeRow, encodeOperator, encode, encodedImage, encodeCall}
+use Rattle.definitions.proofs.ListLaws.{and-left, and-right}
+use Rattle.definitions.proofs.ImageSize.{operatorSize}
+use Rattle.answer.specs.Answer.{refusalAt}
+use Rattle.task.specs.Reads.{taskOf, Reads}
+use Rattle.task.specs.Walk.{row}
+use Rattle.task.proofs.Questions.{task-read, operator-right}
+use Rattle.clause.specs.Rows.{clausesOf}
+use Rattle.clause.proofs.ClauseLaws.{list-below}
+use Rattle.groups.specs.Join.{Placed}
+use Rattle.groups.specs.Cover.{Covered}
+use Rattle.groups.specs.Writing.{Wrote, domainBy}
+use Rattle.groups.proofs.Writes.{wrote-both, domains-size}
+use Rattle.groups.proofs.Joining.{variable-low}
+use Rattle.groups.proofs.Covering.{domains-are, places-are, fits-not, fits-done}
+use Rattle.groups.proofs.Accepting.{Accepts, call-refused, call-accepted}
+use Rattle.reencoding.specs.Words.{atomsOf, literalBy, literalsBy, countedBy, rowBy, rowsBy, operatorBy}
+use Rattle.reencoding.specs.Parts.{sum, wordsOf, lengthsOf, partsStart, imageSize, pairsOf, headerBy, lowered, operatorsBy, imageBy}
+use Rattle.reencoding.specs.Image.{Laid, encodeAnswer}
+use Rattle.reencoding.proofs.WordLaws.{literals-length}
+use Rattle.reencoding.proofs.SizeLaws.{operator-length}
+use Rattle.reencoding.proofs.PartLaws.{header-length}
+use Rattle.reencoding.proofs.InitialLaws.{initial-are, lowered-length}
+
+-- ---- lists of words
+each-map : {A B : Type 0} (f : B → List ℕ) (g : A → B) (xs : List A) → each f (map g xs) ≡ each (λ x. f (g x)) xs
+unfolding each
+each-map f g [] = refl
+each-map f g (x ∷ xs) = ap (λ (l : List ℕ). f (g x) ++ l) (each-map f g xs)
+
+each-same : {A : Type 0} (f g : A → List ℕ) (xs : List A) → ((x : A) → List·Memᴰ x xs → f x ≡ g x) → each f xs ≡ each g xs
+unfolding each
+each-same f g [] h = refl
+each-same f g (x ∷ xs) h = ap₂ _++_ (h x (List·Memᴰ·head refl)) (each-same f g xs (λ y m. h y (List·Memᴰ·tail m)))
+
+-- ---- one literal, one row, one operator
+module _ (N : ℕ) (C : List (List ℕ)) (ps : List ℕ) (placed : Placed C N ps) where
+  abbrev G : List (List ℕ)
+  G = groups N C
+
+  literal-is : (l : ℕ) → l < 2 * N → fdrLiteralWords (encodeLiteral G l) ≡ literalBy ps l
+  unfolding groups fdrLiteralWords encodeLiteral literalBy atom
+  literal-is l h = rw (placed .variable (l / 2) (omega arith), placed .value (l / 2) (omega arith))
+
+  literals-are : (ls : List ℕ) → allBelow (2 * N) ls ≡ true → each fdrLiteralWords (map (encodeLiteral G) ls) ≡ literalsBy ps ls
+  unfolding allBelow all each literalsBy
+  literals-are [] h = refl
+  literals-are (l ∷ ls) h =
+      ap₂ _++_ (literal-is l (ltb-true l (2 * N) (and-left (ltb l (2 * N)) (all (λ x. ltb x (2 * N)) ls) h)))
+      (literals-are ls (and-right (ltb l (2 * N)) (all (λ x. ltb x (2 * N)) ls) h))
+
+  counted-are : (ls : List ℕ) → allBelow (2 * N) ls ≡ true → countedWords (map (encodeLiteral G) ls) ≡ countedBy ps ls
+  unfolding countedWords countedBy
+  counted-are ls h = ap₂ (λ (n : ℕ) (l : List ℕ). n ∷ l) (length-map ls (encodeLiteral G)) (literals-are ls h)
+
+  row-is : (r : Row) → rowRight N r ≡ true → fdrRowWords (encodeRow G r) ≡ rowBy ps r
+  unfolding groups fdrRowWords encodeRow rowBy rowRight atom
+  row-is r h =
+      let low = ltb-true (r .effect) (2 * N) (and-left (ltb (r .effect) (2 * N)) (literalList N (r .conditions)) h) in
+      let c = counted-are (r .conditions) (list-below N (r .conditions) (and-right (ltb (r .effect) (2 * N)) (literalList N (r .conditions)) h)) in
+      rw (placed .variable (r .effect / 2) (omega arith), placed .value (r .effect / 2) (omega arith), ← c)
+
+  rows-are : (rs : List Row) → all (rowRight N) rs ≡ true → each fdrRowWords (map (encodeRow G) rs) ≡ rowsBy ps rs
+  unfolding all each rowsBy
+  rows-are [] h = refl
+  rows-are (r ∷ rs) h = ap₂ _++_ (row-is r (and-left (rowRight N r) (all (rowRight N) rs) h)) (rows-are rs (and-right (rowRight N r) (all (rowRight N) rs) h))
+
+  operator-is : (o : Operator) → operatorRight N o ≡ true → fdrOperatorWords (encodeOperator G o) ≡ operatorBy ps o
+  unfolding fdrOperatorWords encodeOperator operatorBy operatorRight
+  operator-is o h =
+      ap₂ _++_ (counted-are (o .precondition) (list-below N (o .precondition) (and-left (literalList N (o .precondition)) (all (rowRight N) (o .rows)) h)))
+      (ap₂ (λ (n : ℕ) (l : List ℕ). n ∷ l) (length-map (o .rows) (encodeRow G)) (rows-are (o .rows) (and-right (literalList N (o .precondition)) (all (rowRight N) (o .rows)) h)))
+
+  -- all operators
+  module _ where
+    Right : List Operator → Type 0
+    Right os = (i : ℕ) → i < length os → operatorRight N (getD os i noOperator) ≡ true
+
+    operators-are : (os : List Operator) → Right os → each (λ p. p) (map fdrOperatorWords (map (encodeOperator G) os)) ≡ operatorsBy ps os
+    unfolding Right each operatorsBy
+    operators-are [] h = refl
+    operators-are (o ∷ os) h = ap₂ _++_ (operator-is o (h 0 (omega arith))) (operators-are os (λ i k. h (suc i) (omega arith)))
+
+    lengths-are : (os : List Operator) → Right os → map length (map fdrOperatorWords (map (encodeOperator G) os)) ≡ map wordsOf os
+    unfolding Right wordsOf
+    lengths-are [] h = refl
+    lengths-are (o ∷ os) h =
+        let a = ap length (operator-is o (h 0 (omega arith))) in
+        let b = operator-length ps o in
+        ap₂ (λ (n : ℕ) (l : List ℕ). n ∷ l) (omega arith) (lengths-are os (λ i k. h (suc i) (omega arith)))
+
+-- ---- the directory
+pairs-are : (at : ℕ) (parts : List (List ℕ)) → pairWords at parts ≡ pairsOf at (map length parts)
+unfolding pairWords pairsOf
+pairs-are at [] = refl
+pairs-are at (p ∷ parts) = ap (λ (l : List ℕ). at ∷ length p ∷ l) (pairs-are (at + length p) parts)
+
+operators-length : (ps : List ℕ) (os : List Operator) → length (operatorsBy ps os) ≡ sum (map wordsOf os)
+unfolding operatorsBy each sum wordsOf
+operators-length ps [] = refl
+operators-length ps (o ∷ os) =
+    let a = length-append (operatorBy ps o) (operatorsBy ps os) in
+    let b = operator-length ps o in
+    let c = operators-length ps os in
+    omega arith
+
+cons-five : (a b c d a′ b′ c′ d′ : ℕ) (l l′ : List ℕ) → a ≡ a′ → b ≡ b′ → c ≡ c′ → d ≡ d′ → l ≡ l′ → (a ∷ b ∷ c ∷ d ∷ l) ≡ (a′ ∷ b′ ∷ c′ ∷ d′ ∷ l′)
+cons-five a b c d a′ b′ c′ d′ l l′ p q r s t = cc
+
+append-five : (a b c d e a′ b′ c′ d′ e′ : List ℕ) → a ≡ a′ → b ≡ b′ → c ≡ c′ → d ≡ d′ → e ≡ e′ → (a ++ (b ++ (c ++ (d ++ e)))) ≡ (a′ ++ (b′ ++ (c′ ++ (d′ ++ e′))))
+append-five a b c d e a′ b′ c′ d′ e′ p q r s t = cc
+
+-- ---- the task's lists are below its number of atoms
+pub goal-below : (w : List ℕ) → Reads w → allBelow (2 * taskOf w .atoms) (taskOf w .goal) ≡ true
+goal-below w rd = list-below (taskOf w .atoms) (taskOf w .goal) (task-read w rd .goal-right)
+
+pub initial-below : (w : List ℕ) → Reads w → allBelow (taskOf w .atoms) (taskOf w .initial) ≡ true
+initial-below w rd = and-right (ascending (taskOf w .initial)) (allBelow (taskOf w .atoms) (taskOf w .initial)) (task-read w rd .initial-right)
+
+-- ---- the image
+module _ (w : List ℕ) (rd : Reads w) (C : List (List ℕ)) (ps ss ns : List ℕ) (n : ℕ) (cov : Covered (taskOf w .atoms) C ps ss ns n) where
+  abbrev t : Task
+  t = taskOf w
+
+  abbrev groups-of : List (List ℕ)
+  groups-of = groups (taskOf w .atoms) C
+
+  rights : (i : ℕ) → i < length (taskOf w .operators) → operatorRight (taskOf w .atoms) (getD (taskOf w .operators) i noOperator) ≡ true
+  unfolding operatorAt
+  rights i h = operator-right w rd i h
+
+  variables : length groups-of ≡ n
+  unfolding groups
+  variables = sym (cov .grouped .count)
+
+  domains-part : each domainWords (map (domainOf C) groups-of) ≡ each (domainBy ss ns) (below n)
+  domains-part = each-map domainWords (domainOf C) groups-of ∙ domains-are (taskOf w .atoms) C ps ss ns n cov
+
+  atoms-part : each placeWords (map (λ a. placeOf a 0 groups-of) (below (taskOf w .atoms))) ≡ ps
+  atoms-part = each-map placeWords (λ a. placeOf a 0 groups-of) (below (taskOf w .atoms)) ∙ places-are (taskOf w .atoms) C ps ss ns n cov
+
+  initial-part : map (valueIn (initialState t) 0) groups-of ≡ lowered ps (taskOf w .initial) (take n ss)
+  initial-part = initial-are t C ps ss ns n cov (initial-below w rd)
+
+  goal-part : each fdrLiteralWords (map (encodeLiteral groups-of) (taskOf w .goal)) ≡ literalsBy ps (taskOf w .goal)
+  goal-part = literals-are (taskOf w .atoms) C ps (cov .grouped .placed) (taskOf w .goal) (goal-below w rd)
+
+  operators-part : each (λ p. p) (map fdrOperatorWords (map (encodeOperator groups-of) (taskOf w .operators))) ≡ operatorsBy ps (taskOf w .operators)
+  unfolding Right
+  operators-part = operators-are (taskOf w .atoms) C ps (cov .grouped .placed) (taskOf w .operators) rights
+
+  parts-lengths : map length (fdrParts (encode t C)) ≡ lengthsOf n t
+  unfolding fdrParts encode lengthsOf Right below
+  parts-lengths =
+      cons-five _ _ _ _ (2 * n) (2 * taskOf w .atoms) n (2 * length (taskOf w .goal)) _ (map wordsOf (taskOf w .operators))
+      (ap length domains-part ∙ domains-size ss ns 0 n)
+      (ap length atoms-part ∙ cov .places)
+      (length-map groups-of (valueIn (initialState t) 0) ∙ variables)
+      (ap length goal-part ∙ literals-length ps (taskOf w .goal))
+      (lengths-are (taskOf w .atoms) C ps (cov .grouped .placed) (taskOf w .operators) rights)
+
+  parts-start : 2 + 2 * length (fdrParts (encode t C)) ≡ partsStart t
+  unfolding fdrParts encode partsStart
+  parts-start =
+      let a = length-map (map (encodeOperator groups-of) (taskOf w .operators)) fdrOperatorWords in
+      let b = length-map (taskOf w .operators) (encodeOperator groups-of) in
+      omega arith
+
+  parts-words : each (λ p. p) (fdrParts (encode t C)) ≡ each (domainBy ss ns) (below n) ++ (ps ++ (lowered ps (taskOf w .initial) (take n ss) ++ (literalsBy ps (taskOf w .goal) ++ operatorsBy ps (taskOf w .operators))))
+  unfolding fdrParts encode each
+  parts-words = append-five _ _ _ _ _ _ _ _ _ _ domains-part atoms-part initial-part goal-part operators-part
+
+  header-is : length (encode t C .domains) ∷ length (encode t C .operators) ∷ pairWords (2 + 2 * length (fdrParts (encode t C))) (fdrParts (encode t C)) ≡ headerBy n t
+  unfolding encode headerBy
+  header-is =
+      let a : length (map (domainOf C) groups-of) ≡ n = length-map groups-of (domainOf C) ∙ variables in
+      let b : length (map (encodeOperator groups-of) (taskOf w .operators)) ≡ length (taskOf w .operators) = length-map (taskOf w .operators) (encodeOperator groups-of) in
+      let c : pairWords (2 + 2 * length (fdrParts (encode t C))) (fdrParts (encode t C)) ≡ pairsOf (partsStart t) (lengthsOf n t)
+      = pairs-are (2 + 2 * length (fdrParts (encode t C))) (fdrParts (encode t C)) ∙ ap₂ pairsOf parts-start parts-lengths in
+      cc
+
+  pub image-is : encodedImage t C ≡ imageBy t ps ss ns n
+  unfolding encodedImage fdrWords imageBy
+  image-is = ap₂ _++_ header-is parts-words
+
+  pub image-length : length (imageBy t ps ss ns n) ≡ imageSize n t
+  unfolding imageBy imageSize lengthsOf sum below
+  image-length =
+      let d = each (domainBy ss ns) (below n) in
+      let l = lowered ps (taskOf w .initial) (take n ss) in
+      let g = literalsBy ps (taskOf w .goal) in
+      let o = operatorsBy ps (taskOf w .operators) in
+      let e1 = length-append (headerBy n t) (d ++ (ps ++ (l ++ (g ++ o)))) in
+      let e2 = length-append d (ps ++ (l ++ (g ++ o))) in
+      let e3 = length-append ps (l ++ (g ++ o)) in
+      let e4 = length-append l (g ++ o) in
+      let e5 = length-append g o in
+      let s1 = header-length n t in
+      let s2 = domains-size ss ns 0 n in
+      let s3 = cov .places in
+      let s4 = lowered-length ps (taskOf w .initial) (take n ss) in
+      let s5 = length-take-le n ss (let a = cov .sizes in let b = cov .grouped .few in let c = cov .few in omega arith) in
+      let s6 = literals-length ps (taskOf w .goal) in
+      let s7 = operators-length ps (taskOf w .operators) in
+      omega arith
+
+  pub laid : Laid t ps ss ns n
+  laid =
+      record {
+        few = (let a = cov .grouped .few in let b = cov .few in omega arith);
+        places = cov .places;
+        low = cov .low;
+        variable = λ a h. (let v = variable-low C (taskOf w .atoms) ps (cov .grouped .placed) a h in let c = cov .grouped .count in omega arith);
+        sizes = cov .sizes;
+        small = λ v. (let a = cov .grouped .small v in let b = cov .few in omega arith);
+        nones = cov .nones;
+        flags = cov .flags;
+      }
+
+  -- question 16, and the image written
+  module _ (old : List ℕ) (size : ℕ) (es : size ≡ imageSize n t) where
+    pub encode-not : length old < size → outcome (refused (refusalAt 16 0 0)) old ≡ written old (encodeAnswer t C (length old))
+    unfolding encodeAnswer
+    encode-not h = fits-not (length (encodedImage t C)) (encodedImage t C) old (let a = ap length image-is in let b = image-length in omega arith)
+
+    pub encode-done : size ≤ length old → (new : List ℕ) (end : ℕ) → Wrote old 0 (imageBy t ps ss ns n) new end → outcome (finding size) new ≡ written old (encodeAnswer t C (length old))
+    unfolding encodeAnswer
+    encode-done h new end wrote =
+        let a = ap length image-is in
+        let b = image-length in
+        let e : size ≡ length (encodedImage t C) = omega arith in
+        ap (λ (k : ℕ). outcome (finding k) new) e
+        ∙ fits-done (length (encodedImage t C)) (encodedImage t C) old (omega arith) new end (rw image-is wrote)
+
+-- ---- the call
+module _ (w c : List ℕ) (marks : ℕ) (old : List ℕ) where
+  pub encode-refused : (r : Refusal) → refused r ≡ verdict (check w c marks) → outcome (refused r) old ≡ written old (encodeCall w c marks (length old))
+  unfolding encodeCall
+  encode-refused r e = call-refused w c marks _ old r e
+
+  pub encode-accepted : Accepts w c marks → written old (encodeAnswer (taskOf w) (clausesOf c) (length old)) ≡ written old (encodeCall w c marks (length old))
+  unfolding encodeCall encodeAnswer
+  encode-accepted a = call-accepted w c marks (λ (x : Accepted). encodeAnswer (x .task) (x .clauses) (length old)) old a
+
+-- ---- the image written part after part
+module _ (w : List ℕ) (rd : Reads w) (ps ss ns : List ℕ) (n : ℕ) (lay : Laid (taskOf w) ps ss ns n) where
+  pub atoms-of : taskOf w .atoms ≡ atomsOf ps
+  unfolding atomsOf
+  atoms-of = let e = lay .places in omega arith
+
+  -- the place where each part ends, by the lengths of the parts
+  pub record Ends (total : ℕ) : Type 0 where
+    pub header : length (headerBy n (taskOf w)) ≡ 10 + 2 * length (taskOf w .operators)
+    pub domains : length (each (domainBy ss ns) (below n)) ≡ 2 * n
+    pub values : length (lowered ps (taskOf w .initial) (take n ss)) ≡ n
+    pub all : total ≡ length (headerBy n (taskOf w)) + length (each (domainBy ss ns) (below n)) + length ps + length (lowered ps (taskOf w .initial) (take n ss)) + length (literalsBy ps (taskOf w .goal)) + length (operatorsBy ps (taskOf w .operators))
+
+  pub ends : Ends (length (imageBy (taskOf w) ps ss ns n))
+  unfolding imageBy partsStart below
+  ends =
+      let d = each (domainBy ss ns) (below n) in
+      let l = lowered ps (taskOf w .initial) (take n ss) in
+      let g = literalsBy ps (taskOf w .goal) in
+      let o = operatorsBy ps (taskOf w .operators) in
+      let e1 = length-append (headerBy n (taskOf w)) (d ++ (ps ++ (l ++ (g ++ o)))) in
+      let e2 = length-append d (ps ++ (l ++ (g ++ o))) in
+      let e3 = length-append ps (l ++ (g ++ o)) in
+      let e4 = length-append l (g ++ o) in
+      let e5 = length-append g o in
+      record {
+        header = header-length n (taskOf w);
+        domains = domains-size ss ns 0 n;
+        values = lowered-length ps (taskOf w .initial) (take n ss) ∙ length-take-le n ss (let a = lay .sizes in let b = lay .few in omega arith);
+        all = omega arith;
+      }
+
+  pub image-wrote : (t₀ t₁ t₂ t₃ t₄ t₅ t₆ : List ℕ) (e₁ e₂ e₃ e₄ e₅ e₆ : ℕ)
+      → Wrote t₀ 0 (headerBy n (taskOf w)) t₁ e₁ → Wrote t₁ e₁ (each (domainBy ss ns) (below n)) t₂ e₂ → Wrote t₂ e₂ ps t₃ e₃
+      → Wrote t₃ e₃ (lowered ps (taskOf w .initial) (take n ss)) t₄ e₄ → Wrote t₄ e₄ (literalsBy ps (taskOf w .goal)) t₅ e₅
+      → Wrote t₅ e₅ (operatorsBy ps (taskOf w .operators)) t₆ e₆ → Wrote t₀ 0 (imageBy (taskOf w) ps ss ns n) t₆ e₆
+  unfolding imageBy
+  image-wrote t₀ t₁ t₂ t₃ t₄ t₅ t₆ e₁ e₂ e₃ e₄ e₅ e₆ w₁ w₂ w₃ w₄ w₅ w₆ =
+      let d = each (domainBy ss ns) (below n) in
+      let l = lowered ps (taskOf w .initial) (take n ss) in
+      let g = literalsBy ps (taskOf w .goal) in
+      let o = operatorsBy ps (taskOf w .operators) in
+      wrote-both t₀ 0 (headerBy n (taskOf w)) (d ++ (ps ++ (l ++ (g ++ o)))) t₁ t₆ e₁ e₆ w₁
+      (wrote-both t₁ e₁ d (ps ++ (l ++ (g ++ o))) t₂ t₆ e₂ e₆ w₂
+      (wrote-both t₂ e₂ ps (l ++ (g ++ o)) t₃ t₆ e₃ e₆ w₃
+      (wrote-both t₃ e₃ l (g ++ o) t₄ t₆ e₄ e₆ w₄
+      (wrote-both t₄ e₄ g o t₅ t₆ e₅ e₆ w₅ w₆))))

@@ -1,0 +1,5 @@
+pub mod WordLaws
+pub mod SizeLaws
+pub mod PartLaws
+pub mod InitialLaws
+pub mod ImageLaws

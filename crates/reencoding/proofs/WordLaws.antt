@@ -1,0 +1,102 @@
+-- Laws of the words of literals, rows and operators, for the walks that write them. Assumes nothing.
+use mathlib.Core.Bool.{Bool, true, false, _&&_}
+use mathlib.Core.Path.{_≡_, refl, sym, _∙_, ap}
+use mathlib.Core.List.{List, [], _∷_, _++_}
+use Prim.Native.Nat.{ℕ, zero, suc, _+_, _-_, _*_, _/_, _%_, _≤_, _<_}
+use native.Mathlib.Nat.{mul-suc, mul-zero}
+use native.Mathlib.Omega.{arith}
+use lib.Dec.{ltb}
+use lib.ListN.{length, getD, set, take, drop, length-append, length-take, length-drop, drop-of-length-le}
+use borrow.Author.Tests.{ltb-true}
+use Rattle.definitions.specs.Lists.{all, each, ascending}
+use Rattle.definitions.specs.Literal.{atom, allBelow, literalList}
+use Rattle.definitions.specs.Image.{Row, Operator, rowRight, operatorRight}
+use Rattle.definitions.proofs.ListLaws.{and-left, and-right}
+use Rattle.definitions.proofs.Walks.{left-here}
+use Rattle.task.specs.Walk.{row}
+use Rattle.clause.proofs.ClauseLaws.{list-below}
+use Rattle.groups.specs.Writing.{Wrote, Writing}
+use Rattle.groups.proofs.Writes.{write-two, write-same}
+use Rattle.groups.proofs.Omitting.{low-at}
+use Rattle.reencoding.specs.Words.{atomsOf, literalBy, literalsBy, countedBy, rowBy, rowsBy, operatorBy}
+
+-- ---- lengths
+pub each-length : {A : Type 0} (k : ℕ) (f : A → List ℕ) → ((x : A) → length (f x) ≡ k) → (xs : List A) → length (each f xs) ≡ k * length xs
+unfolding each
+each-length k f h [] = omega (arith, mul-zero k)
+each-length k f h (x ∷ xs) =
+    let a = length-append (f x) (each f xs) in
+    let b = h x in
+    let c = each-length k f h xs in
+    omega (arith, mul-suc k (length xs))
+
+pub literals-length : (places ls : List ℕ) → length (literalsBy places ls) ≡ 2 * length ls
+unfolding literalsBy literalBy
+literals-length places ls = each-length 2 (literalBy places) (λ l. refl) ls
+
+pub counted-length : (places ls : List ℕ) → length (countedBy places ls) ≡ 1 + 2 * length ls
+unfolding countedBy
+counted-length places ls = let a = literals-length places ls in omega arith
+
+-- ---- a literal's place lies within the places
+pub literal-inside : (places ls : List ℕ) (i l : ℕ) → allBelow (2 * atomsOf places) ls ≡ true → i < length ls → l ≡ getD ls i 0 → 2 * (l / 2) + 1 < length places
+unfolding atomsOf
+literal-inside places ls i l h low e = let k = low-at (2 * (length places / 2)) ls i h low in omega arith
+
+-- ---- the next literal is written
+module _ (places ls : List ℕ) (i : ℕ) where
+  pub literals-next : (x : ℕ) → i < length ls → x ≡ getD ls i 0 → literalsBy places (drop i ls) ≡ getD places (2 * (x / 2)) 0 ∷ (2 * getD places (2 * (x / 2) + 1) 0 + getD ls i 0 % 2) ∷ literalsBy places (drop (i + 1) ls)
+  unfolding literalsBy literalBy each atom
+  literals-next x h e = rw (left-here ls i 0 (getD ls i 0) refl h, e)
+
+  pub literals-end : length ls ≤ i → literalsBy places (drop i ls) ≡ []
+  unfolding literalsBy each
+  literals-end h = rw (drop-of-length-le ls {i = i} h)
+
+-- ---- a row
+module _ (places : List ℕ) (e : ℕ) (cs : List ℕ) (right : rowRight (atomsOf places) (row e cs) ≡ true) where
+  pub row-inside : 2 * (e / 2) + 1 < length places
+  unfolding rowRight atomsOf
+  row-inside =
+      let N = length places / 2 in
+      let k = ltb-true e (2 * N) (and-left (ltb e (2 * N)) (literalList N cs) right) in
+      omega arith
+
+  pub row-conditions : allBelow (2 * atomsOf places) cs ≡ true
+  unfolding rowRight
+  row-conditions = list-below (atomsOf places) cs (and-right (ltb e (2 * atomsOf places)) (literalList (atomsOf places) cs) right)
+
+pub row-words : (places : List ℕ) (e : ℕ) (cs : List ℕ) → rowBy places (row e cs) ≡ e % 2 ∷ getD places (2 * (e / 2)) 0 ∷ getD places (2 * (e / 2) + 1) 0 ∷ countedBy places cs
+unfolding rowBy atom
+row-words places e cs = refl
+
+pub row-length : (places : List ℕ) (e : ℕ) (cs : List ℕ) → length (rowBy places (row e cs)) ≡ 4 + 2 * length cs
+row-length places e cs = let a = counted-length places cs in ap length (row-words places e cs) ∙ omega arith
+
+pub counted-words : (places ls : List ℕ) → countedBy places ls ≡ length ls ∷ literalsBy places ls
+unfolding countedBy
+counted-words places ls = refl
+
+-- ---- rows
+module _ (places : List ℕ) (xs : List Row) (r : Row) (rs : List Row) (e : xs ≡ r ∷ rs) where
+  pub rows-next : rowsBy places xs ≡ rowBy places r ++ rowsBy places rs
+  unfolding rowsBy each
+  rows-next = rw e
+
+  pub rows-room : length (rowsBy places xs) ≡ length (rowBy places r) + length (rowsBy places rs)
+  rows-room = ap length rows-next ∙ length-append (rowBy places r) (rowsBy places rs)
+
+  pub rows-first : (N : ℕ) → all (rowRight N) xs ≡ true → rowRight N r ≡ true
+  unfolding all
+  rows-first N h = and-left (rowRight N r) (all (rowRight N) rs) (rw e at h)
+
+  pub rows-others : (N : ℕ) → all (rowRight N) xs ≡ true → all (rowRight N) rs ≡ true
+  unfolding all
+  rows-others N h = and-right (rowRight N r) (all (rowRight N) rs) (rw e at h)
+
+pub rows-nothing : (places : List ℕ) (xs : List Row) → xs ≡ [] → rowsBy places xs ≡ []
+unfolding rowsBy each
+rows-nothing places xs e = rw e
+
+pub part-short : (b : List ℕ) (k from : ℕ) → length (take k (drop from b)) ≤ length b
+part-short b k from = let a = length-take k (drop from b) in let c = length-drop from b in omega arith

@@ -1,0 +1,94 @@
+use Prim.Native.Nat.{ℕ, _≤_, _<_, _-_, _+_}
+use mathlib.Core.Path.{_≡_, refl, _∙_}
+use mathlib.Core.Bool.{true}
+use native.Mathlib.Omega.{arith}
+use lib.ListN.{length}
+use Rattle.definitions.specs.Lists.{all}
+use Rattle.definitions.specs.Image.{rowRight}
+use Rattle.task.specs.Walk.{parsesAt, rowsAt}
+use Rattle.task.proofs.Blocks.{rows-none}
+use Rattle.groups.specs.Writing.{Writing}
+use Rattle.groups.proofs.Writes.{write-start, write-same, write-part, write-end, write-room}
+use Rattle.reencoding.specs.Words.{atomsOf, rowsBy}
+use Rattle.reencoding.proofs.WordLaws.{rows-next, rows-room, rows-first, rows-others, rows-nothing, part-short}
+use borrow.Author.Needs.{needs}
+use Rattle.reencoding.proofs.block.rows.Statement.{statement}
+use Rattle.reencoding.proofs.block.rows.Tie as tie
+use Rattle.task.proofs.block.row.Reads as block-row-reads′
+
+abbrev Inv-loop : tie.InvT-loop
+Inv-loop block from count places target₀ at to₀ next₀ left₀ target to next left = (parsesAt block next left ≡ true) × ((all (rowRight (atomsOf places)) (rowsAt block next left) ≡ true) × Writing target₀ at (rowsBy places (rowsAt block from count)) target to (rowsBy places (rowsAt block next left)))
+
+abbrev μ-loop : tie.MeasureT-loop
+μ-loop block from count places target₀ at to₀ next₀ left₀ target to next left = left
+
+loop-holds : tie.Need-loop-holds Inv-loop μ-loop
+loop-holds c =
+    let p = c .before .before .before .pre in
+    (p .1, (p .2, write-start _ _ _))
+
+row-requires : tie.Need-row-requires Inv-loop μ-loop
+row-requires c κs = (c .before .loop .inv .0, omega arith)
+
+mul-row : tie.Need-mul-row Inv-loop μ-loop
+mul-row c = omega (arith, c .row .ensures .low, c .row .ensures .high)
+
+sub-row : tie.Need-sub-row Inv-loop μ-loop
+sub-row c = c .row .ensures .low
+
+part-row-start : tie.Need-part-row-start Inv-loop μ-loop
+part-row-start c = c .row .ensures .low
+
+part-row-end : tie.Need-part-row-end Inv-loop μ-loop
+part-row-end c = c .row .ensures .high
+
+row-requires-2 : tie.Need-row-requires-2 Inv-loop μ-loop
+row-requires-2 c κs =
+    let l = c .before .before .before .before .loop in
+    let s = c .before .before .before .before .before .before .before .before in
+    let r = c .before .before .row .ensures .row in
+    let w = write-room _ _ _ _ _ _ (l .inv .1 .1) (s .pre .0 .room) in
+    let q = rows-room (s .args .places .now) _ _ _ r in
+    let short = part-short (s .args .block .now) (c .before .before .row .result .end - c .before .before .row .result .from) (c .before .before .row .result .from) in
+    let h = s .pre .3 in
+    (record { low = s .pre .0 .low; room = omega arith }, rows-first (s .args .places .now) _ _ _ r _ (l .inv .1 .0), omega arith)
+
+sub-left : tie.Need-sub-left Inv-loop μ-loop
+sub-left c = search needs
+
+loop-less : tie.Need-loop-less Inv-loop μ-loop
+loop-less c = search needs
+
+loop-again : tie.Need-loop-again Inv-loop μ-loop
+loop-again c =
+    let l = c .before .before .before .before .before .before .before .loop in
+    let s = c .before .before .before .before .before .before .before .before .before .before .before in
+    let r = c .before .before .before .before .before .row .ensures in
+    (r .next, (rows-others (s .args .places .now) _ _ _ (r .row) _ (l .inv .1 .0), write-part _ _ _ _ _ _ _ _ _ (write-same _ _ _ _ _ _ _ (rows-next _ _ _ _ (r .row)) (l .inv .1 .1)) (c .before .before .row2 .ensures)))
+
+same-length : tie.Need-same-length Inv-loop μ-loop
+same-length c = c .before .loop .inv .1 .1 .size
+
+returns : tie.Need-returns Inv-loop μ-loop
+returns c =
+    let l = c .before .loop in
+    write-end _ _ _ _ _ (write-same _ _ _ _ _ _ _ (rows-nothing _ _ (rows-none _ (l .next) (l .left) (omega arith))) (l .inv .1 .1))
+
+pub rows-spec : {M : Type 1} → statement M
+rows-spec =
+    tie.close
+    (tie.spec
+    Inv-loop
+    μ-loop
+    loop-holds
+    row-requires
+    mul-row
+    sub-row
+    part-row-start
+    part-row-end
+    row-requires-2
+    sub-left
+    loop-less
+    loop-again
+    same-length
+    returns)

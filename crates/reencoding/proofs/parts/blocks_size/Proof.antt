@@ -1,0 +1,61 @@
+use Prim.Native.Nat.{ℕ, _≤_, _<_, _-_, _+_}
+use mathlib.Core.Path.{_≡_, refl, sym, _∙_, ap}
+use mathlib.Core.List.{map}
+use native.Mathlib.Omega.{arith}
+use lib.ListN.{length}
+use Rattle.task.specs.Reads.{taskOf}
+use Rattle.reencoding.specs.Parts.{sum, wordsOf}
+use Rattle.reencoding.proofs.PartLaws.{sizesLeft, sizes-next, sizes-end, sizes-most}
+use borrow.Author.Needs.{needs}
+use Rattle.reencoding.proofs.parts.blocks_size.Statement.{statement}
+use Rattle.reencoding.proofs.parts.blocks_size.Tie as tie
+
+abbrev Inv-loop : tie.InvT-loop
+Inv-loop image count size₀ i₀ size i = sum (map wordsOf (taskOf image .operators)) ≡ size + sizesLeft image i
+
+abbrev μ-loop : tie.MeasureT-loop
+μ-loop image count size₀ i₀ size i = count - i
+
+next : (c : tie.After-block-size Inv-loop μ-loop) → sizesLeft (c .before .before .before .before .before .args .image .now) (c .before .before .loop .i) ≡ c .block-size .result + sizesLeft (c .before .before .before .before .before .args .image .now) (c .before .before .loop .i + 1)
+next c =
+    let n = sizes-next (c .before .before .before .before .before .args .image .now) (c .before .before .loop .i) (omega (arith, c .before .loop-test .taken, c .before .before .before .operators .ensures .0)) in
+    omega (arith, c .block-size .ensures .0)
+
+operators-requires : tie.Need-operators-requires Inv-loop μ-loop
+operators-requires c κs = search needs
+
+loop-holds : tie.Need-loop-holds Inv-loop μ-loop
+loop-holds c = omega arith
+
+block-size-requires : tie.Need-block-size-requires Inv-loop μ-loop
+block-size-requires c κs = (c .before .before .before .before .pre, omega (arith, c .loop-test .taken, c .before .before .operators .ensures .0))
+
+add-size : tie.Need-add-size Inv-loop μ-loop
+add-size c = omega (arith, next c, c .before .before .loop .inv, sizes-most _ (c .before .before .before .before .before .pre))
+
+add-i : tie.Need-add-i Inv-loop μ-loop
+add-i c = search needs
+
+loop-less : tie.Need-loop-less Inv-loop μ-loop
+loop-less c = search needs
+
+loop-again : tie.Need-loop-again Inv-loop μ-loop
+loop-again c = omega (arith, next c, c .before .before .loop .inv)
+
+returns : tie.Need-returns Inv-loop μ-loop
+returns c = omega (arith, c .before .loop .inv, sizes-end (c .before .before .before .before .args .image .now) (c .before .loop .i) (omega (arith, c .loop-test .left, c .before .before .operators .ensures .0)))
+
+pub blocks-size-spec : {M : Type 1} → statement M
+blocks-size-spec =
+    tie.close
+    (tie.spec
+    Inv-loop
+    μ-loop
+    operators-requires
+    loop-holds
+    block-size-requires
+    add-size
+    add-i
+    loop-less
+    loop-again
+    returns)

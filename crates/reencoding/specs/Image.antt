@@ -1,0 +1,28 @@
+-- What writing the re-encoded image asks, and what the call answers once the checker has accepted. Assumes nothing.
+use mathlib.Core.Path.{_≡_}
+use mathlib.Core.List.{List}
+use Prim.Native.Nat.{ℕ, _*_, _≤_, _<_}
+use lib.Dec.{leb}
+use lib.ListN.{length, getD}
+use Rattle.definitions.specs.Answer.{Answer, finding, ask, _>>=_}
+use Rattle.definitions.specs.Image.{Task}
+use Rattle.definitions.specs.Groups.{Written}
+use Rattle.definitions.specs.Encoding.{encodedImage}
+
+-- the n groups of a task's atoms are words: places of the atoms, size of each group, whether none is a value of it
+pub record Laid (t : Task) (ps ss ns : List ℕ) (n : ℕ) : Type 0 where
+  pub few : n ≤ 1024
+  pub places : length ps ≡ 2 * t .atoms
+  pub low : (i : ℕ) → getD ps i 0 < 1024
+  pub variable : (a : ℕ) → a < t .atoms → getD ps (2 * a) 0 < n
+  pub sizes : length ss ≡ 1024
+  pub small : (v : ℕ) → getD ss v 0 ≤ 1024
+  pub nones : length ns ≡ 1024
+  pub flags : (v : ℕ) → getD ns v 0 ≤ 1
+
+-- question 16 of re-encoding, and the finding
+unfoldable pub encodeAnswer : Task → List (List ℕ) → ℕ → Answer Written
+encodeAnswer t C target = do
+  let ws = encodedImage t C
+  _ ← ask 16 (leb (length ws) target)
+  finding (record { count = length ws; words = ws })

@@ -1,0 +1,89 @@
+// Literals, rows and operators as words of the re-encoded image. Each function gives the place behind the words that it wrote.
+ghost use mathlib.Core.Path.{_≡_};
+ghost use mathlib.Core.Bool.{true};
+ghost use Prim.Native.Nat.{_+_, _*_, _≤_, _<_};
+ghost use lib.ListN.{length};
+ghost use Rattle.definitions.specs.Lists.{all};
+ghost use Rattle.definitions.specs.Literal.{allBelow, literalList};
+ghost use Rattle.definitions.specs.Image.{rowRight, operatorRight};
+ghost use Rattle.task.specs.Walk.{row, blockParses, operatorIn, parsesAt, rowsAt};
+ghost use Rattle.groups.specs.Writing.{Wrote};
+ghost use Rattle.reencoding.specs.Words.{atomsOf, literalsBy, countedBy, rowBy, rowsBy, operatorBy, Ready};
+
+// Writes literals: of each the variable, and twice the value, plus 1 if it is negated.
+pub fn literals(list: &[u16], places: &[u16], target: &mut [u16], at: usize) -> usize
+    requires { ⌜ (Ready (now places) (literalsBy (now places) (now list)) (now target) at) × (allBelow (2 * atomsOf (now places)) (now list) ≡ true) ⌝ }
+    ensures { λ r. ⌜ Wrote (now (target .entry)) at (literalsBy (now (places .entry)) (now (list .entry))) (now (target .exit)) r ⌝ }
+{
+    let mut to = at;
+    let mut i: usize = 0;
+    while i < list.len() {
+        let l = list[i];
+        let a = literal::wide(l) / 2;
+        target[to] = places[2 * a];
+        target[to + 1] = 2 * places[2 * a + 1] + l % 2;
+        to += 2;
+        i += 1;
+    }
+    to
+}
+
+// Writes the number of literals, then the literals.
+fn counted(list: &[u16], places: &[u16], target: &mut [u16], at: usize) -> usize
+    requires { ⌜ (Ready (now places) (countedBy (now places) (now list)) (now target) at) × (allBelow (2 * atomsOf (now places)) (now list) ≡ true) × (length (now list) < 65536) ⌝ }
+    ensures { λ r. ⌜ Wrote (now (target .entry)) at (countedBy (now (places .entry)) (now (list .entry))) (now (target .exit)) r ⌝ }
+{
+    target[at] = list.len() as u16;
+    literals(list, places, target, at + 1)
+}
+
+// Writes a row: 0 for a set, 1 for a clear, variable and value of the effect's atom, and the conditions.
+fn row(effect: usize, conditions: &[u16], places: &[u16], target: &mut [u16], at: usize) -> usize
+    requires { ⌜ (Ready (now places) (rowBy (now places) (row effect (now conditions))) (now target) at) × (rowRight (atomsOf (now places)) (row effect (now conditions)) ≡ true) × (length (now conditions) < 65536) ⌝ }
+    ensures { λ r. ⌜ Wrote (now (target .entry)) at (rowBy (now (places .entry)) (row effect (now (conditions .entry)))) (now (target .exit)) r ⌝ }
+{
+    let a = effect / 2;
+    target[at] = (effect % 2) as u16;
+    target[at + 1] = places[2 * a];
+    target[at + 2] = places[2 * a + 1];
+    counted(conditions, places, target, at + 3)
+}
+
+// Writes the `count` rows of a block that begin at `from`.
+fn rows(
+    block: &[u16],
+    from: usize,
+    count: usize,
+    places: &[u16],
+    target: &mut [u16],
+    at: usize,
+) -> usize
+    requires { ⌜ (Ready (now places) (rowsBy (now places) (rowsAt (now block) from count)) (now target) at) × (parsesAt (now block) from count ≡ true) × (all (rowRight (atomsOf (now places))) (rowsAt (now block) from count) ≡ true) × (length (now block) ≤ 8192) ⌝ }
+    ensures { λ r. ⌜ Wrote (now (target .entry)) at (rowsBy (now (places .entry)) (rowsAt (now (block .entry)) from count)) (now (target .exit)) r ⌝ }
+{
+    let mut to = at;
+    let mut next = from;
+    let mut left = count;
+    while 0 < left {
+        let task::block::RowPart {
+            effect,
+            from: start,
+            end,
+        } = task::block::row(block, next, left);
+        to = row(effect, &block[start..end], places, target, to);
+        next = end;
+        left -= 1;
+    }
+    to
+}
+
+// Writes the operator of a block.
+pub fn operator(block: &[u16], places: &[u16], target: &mut [u16], at: usize) -> usize
+    requires { ⌜ (Ready (now places) (operatorBy (now places) (operatorIn (now block))) (now target) at) × (blockParses (now block) ≡ true) × (operatorRight (atomsOf (now places)) (operatorIn (now block)) ≡ true) × (length (now block) ≤ 8192) ⌝ }
+    ensures { λ r. ⌜ Wrote (now (target .entry)) at (operatorBy (now (places .entry)) (operatorIn (now (block .entry)))) (now (target .exit)) r ⌝ }
+{
+    let task::block::BlockHead { end, rows: count } = task::block::head(block);
+    let behind = counted(&block[1..end], places, target, at);
+    target[behind] = count as u16;
+    rows(block, end + 1, count, places, target, behind + 1)
+}
