@@ -1,24 +1,23 @@
 -- Conflict, the omitted none and the state after a step, by what the two passes note. Assumes nothing.
 use mathlib.Core.Path.{_≡_, refl, sym, ap, _∙_}
 use mathlib.Core.Logic.{_⊎_, inl, inr}
-use mathlib.Core.List.{List, [], _∷_, _++_, map, append-nil, List·Memᴰ}
+use mathlib.Core.List.{List, [], _∷_, map, List·Memᴰ}
 use mathlib.Core.Bool.{Bool, true, false, not, cond, _&&_}
 use mathlib.Core.Option.{Option, none, some}
 use Prim.Native.Nat.{ℕ, zero, suc, _+_, _-_, _≤_, _<_}
-use native.Mathlib.Numerals.{add-one, add-two}
+use native.Mathlib.Numerals.{add-two}
 use native.Mathlib.Omega.{arith}
 use lib.Dec.{eqb}
-use lib.ListN.{length, getD, take, drop, set, replicate, length-replicate, drop-of-length-le}
-use lib.Seq.{take-suc-set, drop-set-lt, append-snoc, drop-cons, take-all, ext-getD}
+use lib.ListN.{length, getD, replicate, length-replicate}
+use lib.Seq.{ext-getD}
 use borrow.Author.Tests.{eq-eqb, ne-eqb, eqb-true}
-use Rattle.definitions.specs.Lists.{any, all, range, below}
+use Rattle.definitions.specs.Lists.{any, all, below}
 use Rattle.definitions.specs.Groups.{Domain}
 use Rattle.definitions.specs.Fdr.{FdrRow, FdrTask, noDomain, domainAt}
 use Rattle.definitions.specs.FdrStep.{isSet, clash, fdrConflict, setValue, cleared, sentToNone, fdrAfter, noneThere}
 use Rattle.definitions.proofs.ListLaws.{never, and-left, and-right, any-in, any-of, table-at, table-length}
 use Rattle.definitions.proofs.Simulation.{set-some, set-none}
-use Rattle.definitions.proofs.Walks.{range-all-off, range-all-on}
-use Rattle.fdr.specs.Change.{noChanges, noteRows, become, nonesThere, changed}
+use Rattle.fdr.specs.Change.{noChanges, noteRows, become}
 use Rattle.fdr.specs.Post.{Changes}
 use Rattle.fdr.proofs.StepLaws.{Rows, Sets, Clash, Late, Clears, Refused, sets-some, sets-none, clears-some, clears-none, clear-clash}
 
@@ -27,23 +26,21 @@ unfolding all
 all-same p q [] h = refl
 all-same p q (x ∷ xs) h = rw (h x, all-same p q xs h)
 
--- ---- the state, written variable by variable
+-- ---- question 22 and the state, variable by variable
+unfoldable pub nonesThere : List Domain → List ℕ → Bool
+nonesThere D m = all (λ v. not (eqb (getD m v 0) 1 && eqb (getD D v noDomain .none) 0)) (below (length D))
+
+-- the state from variable v on
+abbrev pub changed : List Domain → List ℕ → ℕ → List ℕ → List ℕ
+changed D m v [] = []
+changed D m v (x ∷ xs) = become (getD D v noDomain) (getD m v 0) x ∷ changed D m (v + 1) xs
+
 module _ (D : List Domain) (m : List ℕ) where
-  -- what is done, and what is left
-  pub changed-on : (s : List ℕ) (v x : ℕ) → v < length s → x ≡ become (getD D v noDomain) (getD m v 0) (getD s v 0)
-      → take v s ++ changed D m v (drop v s) ≡ take (v + 1) (set s v x) ++ changed D m (v + 1) (drop (v + 1) (set s v x))
-  changed-on s v x h e =
-      let one = add-one v in
-      rw (one, take-suc-set s v x h, drop-set-lt (suc v) s v x (omega arith), append-snoc, e, drop-cons s v 0 h, one)
-
-  pub changed-end : (s : List ℕ) (v : ℕ) → length s ≤ v → take v s ++ changed D m v (drop v s) ≡ s
-  changed-end s v h = rw (drop-of-length-le s {i = v} h, take-all v s h) (append-nil s)
-
-  changed-length : (v : ℕ) (s : List ℕ) → length (changed D m v s) ≡ length s
+  pub changed-length : (v : ℕ) (s : List ℕ) → length (changed D m v s) ≡ length s
   changed-length v [] = refl
   changed-length v (x ∷ s) = ap suc (changed-length (v + 1) s)
 
-  changed-at : (i : ℕ) (s : List ℕ) (v : ℕ) → v < length s → getD (changed D m i s) v 0 ≡ become (getD D (i + v) noDomain) (getD m (i + v) 0) (getD s v 0)
+  pub changed-at : (i : ℕ) (s : List ℕ) (v : ℕ) → v < length s → getD (changed D m i s) v 0 ≡ become (getD D (i + v) noDomain) (getD m (i + v) 0) (getD s v 0)
   changed-at i [] v h = absurd (omega arith)
   changed-at i (x ∷ s) zero h = let z : i + 0 ≡ i = omega arith in rw z
   changed-at i (x ∷ s) (suc v) h = let z : i + suc v ≡ i + 1 + v = omega arith in rw z (changed-at (i + 1) s v (omega arith))
@@ -66,30 +63,15 @@ module _ (d : Domain) (c x : ℕ) where
   pub become-value : (c ≡ 0 → ⊥) → (c ≡ 1 → ⊥) → c - 2 ≡ become d c x
   become-value = become-more d c x
 
--- ---- question 22, variable by variable
+-- ---- question 22, for one variable
 pub omitted-not : (c f : ℕ) → (c ≡ 1 → ⊥) → false ≡ (eqb c 1 && eqb f 0)
 omitted-not c f h = rw (ne-eqb c 1 h)
 
 pub omitted-none : (c f g : ℕ) → c ≡ 1 → f ≡ g → eqb f 0 ≡ (eqb c 1 && eqb g 0)
 omitted-none c f g h e = rw (eq-eqb c 1 h, e)
 
-module _ (D : List Domain) (m : List ℕ) where
-  abbrev pub noneThere-at : ℕ → Bool
-  noneThere-at v = not (eqb (getD m v 0) 1 && eqb (getD D v noDomain .none) 0)
-
-  module _ (v k k′ : ℕ) (more : k ≡ suc k′) (r : Bool) (er : r ≡ (eqb (getD m v 0) 1 && eqb (getD D v noDomain .none) 0)) where
-    pub nones-off : r ≡ true → all noneThere-at (range v k) ≡ false
-    nones-off h = range-all-off noneThere-at v k k′ more (ap not (sym er ∙ h))
-
-    pub nones-on : r ≡ false → all noneThere-at (range v k) ≡ all noneThere-at (range (v + 1) k′)
-    nones-on h = range-all-on noneThere-at v k k′ more (ap not (sym er ∙ h))
-
-  pub nones-start : nonesThere D m ≡ all noneThere-at (range 0 (length D))
-  unfolding nonesThere below
-  nones-start = refl
-
 -- nothing is noted at first
-blank : (v : ℕ) → getD noChanges v 0 ≡ 0
+pub blank : (v : ℕ) → getD noChanges v 0 ≡ 0
 unfolding noChanges
 blank v = go v 1024
   where
@@ -158,7 +140,7 @@ module _ (s : List ℕ) (rs : List FdrRow) (low : Rows 1024 rs) where
       clears : Clears s rs m m′
       clears = clears-some s 1024 rs m m′ low m-length em′
 
-      pub noted-length : length m′ ≡ 1024
+      noted-length : length m′ ≡ 1024
       noted-length = clears .size ∙ m-length
 
       pub calm : fdrConflict rs ≡ false
@@ -242,7 +224,7 @@ module _ (s : List ℕ) (rs : List FdrRow) (low : Rows 1024 rs) where
         pub changes-inside : (few : length (t .domains) ≤ 1024) (sizes : (v : ℕ) → v < length (t .domains) → 1 ≤ getD (t .domains) v noDomain .values)
             (right : (r : FdrRow) → List·Memᴰ r rs → r .value < getD (t .domains) (r .variable) noDomain .values) → Changes (t .domains) m′
         changes-inside few sizes right =
-            record { long = (let z = noted-length in omega arith); sizes = sizes; inside = λ v h. go v (setValue rs v) refl }
+            record { few = few; long = (let z = noted-length in omega arith); sizes = sizes; inside = λ v h. go v (setValue rs v) refl }
           where
             bit : (b : Bool) → cond b 1 0 ≤ 1
             bit true = omega arith

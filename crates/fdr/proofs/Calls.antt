@@ -23,10 +23,11 @@ use Rattle.answer.specs.Answer.{refusalAt}
 use Rattle.fdr_image.specs.Reads.{fdrOf, ReadsFdr}
 use Rattle.fdr_image.specs.Walk.{operatorIn}
 use Rattle.fdr_image.proofs.Reading.{reads, variables-are, initial-right}
-use Rattle.fdr.specs.Change.{noChanges, noted, noteRows, nonesThere, changed, applied}
-use Rattle.fdr.specs.Post.{stateAnswer, Standing, Applying, LowBlock, Changes}
+use Rattle.fdr.specs.Change.{noChanges, noted, noteRows, nonesIn, written, applied}
+use Rattle.fdr.specs.Post.{stateAnswer, Standing, Applying, LowBlock, Changes, NotedFor}
 use Rattle.fdr.proofs.StepLaws.{Rows}
-use Rattle.fdr.proofs.Applied.{conflict-sets, conflict-clears, calm, nones-is, changed-is, changes-inside}
+use Rattle.fdr.proofs.Applied.{conflict-sets, conflict-clears, calm, nonesThere, changed, nones-is, changed-is, changes-inside}
+use Rattle.fdr.proofs.ByRows.{nones-by-rows, written-is}
 
 -- ---- questions 17 and 18
 verdict-refused : {A B : Type 0} (m : Answer A) (k : A → Answer B) (r : Refusal) → refused r ≡ verdict m → refused r ≡ (m >>= k)
@@ -190,8 +191,8 @@ module _ (D : List Domain) (o : FdrOperator) (few : length D ≤ 1024) (right : 
   unfolding fdrOperatorRight
   row-right r mem = row-tests D r (all-at (fdrRowRight D) (and-right (all (fdrLiteralRight D) (o .precondition)) (all (fdrRowRight D) (o .rows)) right) mem)
 
-  pub low-rows : all (λ r. ltb (r .variable) 1024) (o .rows) ≡ true
-  low-rows = all-of (λ r. ltb (r .variable) 1024) (o .rows) (λ r mem. lt-ltb (r .variable) 1024 (let z = row-right r mem .1 in omega arith))
+  pub low-rows : (n : ℕ) → length D ≤ n → all (λ r. ltb (r .variable) n) (o .rows) ≡ true
+  low-rows n h = all-of (λ r. ltb (r .variable) n) (o .rows) (λ r mem. lt-ltb (r .variable) n (let z = row-right r mem .1 in omega arith))
 
   pub fired-low : (s : List ℕ) → Rows 1024 (fdrFired s o)
   unfolding fdrFired
@@ -209,8 +210,14 @@ module _ (w b s : List ℕ) (a : Applying w b s) where
   few : length (fdrOf w .domains) ≤ 1024
   few = let z = variables-are w (a .standing .reads) in let y = z .0 in let x = z .1 in omega arith
 
-  pub low-block : LowBlock b
-  low-block = record { parses = a .parses; low = low-rows (fdrOf w .domains) (operatorIn b) few (a .right) }
+  low-below : (n : ℕ) → length (fdrOf w .domains) ≤ n → LowBlock n b
+  low-below n h = record { parses = a .parses; low = low-rows (fdrOf w .domains) (operatorIn b) few (a .right) n h }
+
+  pub low-block : LowBlock 1024 b
+  low-block = low-below 1024 few
+
+  pub low-variables : (D : List Domain) → D ≡ fdrOf w .domains → LowBlock (length D) b
+  low-variables D e = low-below (length D) (let z : length D ≡ length (fdrOf w .domains) = ap length e in omega arith)
 
   rows : Rows 1024 (fdrFired s (operatorIn b))
   rows = fired-low (fdrOf w .domains) (operatorIn b) few (a .right) s
@@ -242,9 +249,12 @@ module _ (w b s : List ℕ) (a : Applying w b s) where
             (values-some (fdrOf w .domains) (fdrOf w .initial) (initial-right w (a .standing .reads)))
             (fired-inside (fdrOf w .domains) (operatorIn b) few (a .right) s))
 
-        module _ (r : Bool) (er : r ≡ nonesThere D m′) where
+        module _ (nf₀ : NotedFor (operatorIn b .rows) m₀ m′) (r : Bool) (er : r ≡ nonesIn D m′ (operatorIn b .rows)) where
+          nf : NotedFor (operatorIn b .rows) noChanges m′
+          nf = subst (λ (l : List ℕ). NotedFor (operatorIn b .rows) l m′) e₀ nf₀
+
           nones : r ≡ noneThere (fdrOf w) s (fdrFired s (operatorIn b))
-          nones = er ∙ ap (λ (x : List Domain). nonesThere x m′) eD ∙ nones-is s (fdrFired s (operatorIn b)) rows m (first .1 yes-sets) m′ (second .1 yes-clears) (fdrOf w)
+          nones = er ∙ nones-by-rows D m′ (operatorIn b .rows) nf (low-variables D eD .low) ∙ ap (λ (x : List Domain). nonesThere x m′) eD ∙ nones-is s (fdrFired s (operatorIn b)) rows m (first .1 yes-sets) m′ (second .1 yes-clears) (fdrOf w)
 
           no-conflict : fdrConflict (fdrFired s (operatorIn b)) ≡ false
           no-conflict = calm s (fdrFired s (operatorIn b)) rows m (first .1 yes-sets) m′ (second .1 yes-clears)
@@ -252,10 +262,10 @@ module _ (w b s : List ℕ) (a : Applying w b s) where
           pub nones-refused : r ≡ false → outcome (refused (refusalAt 22 0 0)) s ≡ becomes s (applied (fdrOf w) s (fdrFired s (operatorIn b)))
           nones-refused h = applied-22 (fdrOf w) s (fdrFired s (operatorIn b)) no-conflict (sym nones ∙ h)
 
-          pub rows-done : r ≡ true → (s′ : List ℕ) → s′ ≡ changed D m′ 0 s → outcome (finding tt) s′ ≡ becomes s (applied (fdrOf w) s (fdrFired s (operatorIn b)))
+          pub rows-done : r ≡ true → (s′ : List ℕ) → s′ ≡ written D m′ (operatorIn b .rows) s → outcome (finding tt) s′ ≡ becomes s (applied (fdrOf w) s (fdrFired s (operatorIn b)))
           rows-done h s′ es =
               applied-done (fdrOf w) s (fdrFired s (operatorIn b)) no-conflict (sym nones ∙ h) s′
-              (es ∙ ap (λ (x : List Domain). changed x m′ 0 s) eD ∙ changed-is s (fdrFired s (operatorIn b)) rows m (first .1 yes-sets) m′ (second .1 yes-clears) (fdrOf w) (a .standing .size))
+              (es ∙ written-is D m′ (operatorIn b .rows) nf s ∙ ap (λ (x : List Domain). changed x m′ 0 s) eD ∙ changed-is s (fdrFired s (operatorIn b)) rows m (first .1 yes-sets) m′ (second .1 yes-clears) (fdrOf w) (a .standing .size))
 
 -- ---- copying
 pub copy-on : (xs s : List ℕ) (v : ℕ) → v < length s → take v s ≡ take v xs → length xs ≡ length s → take (v + 1) (set s v (getD xs v 0)) ≡ take (v + 1) xs

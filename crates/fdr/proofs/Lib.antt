@@ -1,4 +1,5 @@
 pub mod Notes
 pub mod StepLaws
 pub mod Applied
+pub mod ByRows
 pub mod Calls

@@ -75,9 +75,13 @@ module _ (s : List ℕ) (fires : Bool) (pass k v x : ℕ) (m : List ℕ) where
   unfolding noteIf noted
   row-idle e = rw e
 
-  pub row-later : fires ≡ true → (k ≡ pass → ⊥) → noted true m ≡ noteIf fires (noteWords s pass k v x m) m
+  pub row-later : (k ≡ pass → ⊥) → noted true m ≡ noteIf fires (noteWords s pass k v x m) m
   unfolding noteIf noteWords noted
-  row-later e h = rw (e, noteIf, ne-eqb k pass h, noteWords)
+  row-later h = go fires refl
+    where
+      go : (b : Bool) → fires ≡ b → noted true m ≡ noteIf fires (noteWords s pass k v x m) m
+      go true e = rw (e, noteIf, ne-eqb k pass h, noteWords)
+      go false e = rw (e, noteIf)
 
   pub row-now : fires ≡ true → k ≡ pass → noteKind s (kindOf k) v x m ≡ noteIf fires (noteWords s pass k v x m) m
   unfolding noteIf noteWords
@@ -118,9 +122,9 @@ pub rows-end : (s : List ℕ) (pass : ℕ) (rows : List FdrRow) (m : List ℕ) �
 unfolding noteRows keep noted
 rows-end s pass rows m e = rw e
 
-pub low-row : (rows rest : List FdrRow) (r : FdrRow) → rows ≡ r ∷ rest → all (λ r. ltb (r .variable) 1024) rows ≡ true → (r .variable < 1024) × (all (λ r. ltb (r .variable) 1024) rest ≡ true)
+pub low-row : (n : ℕ) (rows rest : List FdrRow) (r : FdrRow) → rows ≡ r ∷ rest → all (λ r. ltb (r .variable) n) rows ≡ true → (r .variable < n) × (all (λ r. ltb (r .variable) n) rest ≡ true)
 unfolding all
-low-row rows rest r e h =
+low-row n rows rest r e h =
     let h′ = rw e at h in
-    let more = all (λ r. ltb (r .variable) 1024) rest in
-    (ltb-true (r .variable) 1024 (and-left (ltb (r .variable) 1024) more h′), and-right (ltb (r .variable) 1024) more h′)
+    let more = all (λ r. ltb (r .variable) n) rest in
+    (ltb-true (r .variable) n (and-left (ltb (r .variable) n) more h′), and-right (ltb (r .variable) n) more h′)

@@ -5,7 +5,7 @@ use mathlib.Core.Bool.{Bool, true, false, not, cond, _&&_}
 use mathlib.Core.Option.{Option, none, some}
 use lib.Dec.{eqb}
 use lib.ListN.{length, getD, set, replicate}
-use Rattle.definitions.specs.Lists.{all, below}
+use Rattle.definitions.specs.Lists.{any, all, below}
 use Rattle.definitions.specs.Answer.{Answer, finding, ask, _>>=_}
 use Rattle.definitions.specs.Groups.{Domain}
 use Rattle.definitions.specs.Fdr.{FdrRow, FdrTask, noDomain}
@@ -61,14 +61,23 @@ become d zero x = x
 become d (suc zero) x = d .values - 1
 become d (suc (suc y)) x = y
 
--- question 22, by what is noted
-unfoldable pub nonesThere : List Domain → List ℕ → Bool
-nonesThere D m = all (λ v. not (eqb (getD m v 0) 1 && eqb (getD D v noDomain .none) 0)) (below (length D))
+-- some row names variable v
+unfoldable pub named : List FdrRow → ℕ → Bool
+named rs v = any (λ r. eqb v (r .variable)) rs
 
--- the state from variable v on
-abbrev pub changed : List Domain → List ℕ → ℕ → List ℕ → List ℕ
-changed D m v [] = []
-changed D m v (x ∷ xs) = become (getD D v noDomain) (getD m v 0) x ∷ changed D m (v + 1) xs
+-- question 22, by what is noted for the variables that the rows name
+unfoldable pub nonesIn : List Domain → List ℕ → List FdrRow → Bool
+nonesIn D m rs = all (λ r. not (eqb (getD m (r .variable) 0) 1 && eqb (getD D (r .variable) noDomain .none) 0)) rs
+
+-- the state with what is noted for the variables that the rows name
+abbrev pub written : List Domain → List ℕ → List FdrRow → List ℕ → List ℕ
+written D m [] s = s
+written D m (r ∷ rs) s = written D m rs (set s (r .variable) (become (getD D (r .variable) noDomain) (getD m (r .variable) 0) (getD s (r .variable) 0)))
+
+-- nothing noted for the variables that the rows name
+abbrev pub unnoted : List FdrRow → List ℕ → List ℕ
+unnoted [] m = m
+unnoted (r ∷ rs) m = unnoted rs (set m (r .variable) 0)
 
 -- questions 21 and 22, and the step, by the fired rows
 unfoldable pub applied : FdrTask → List ℕ → List FdrRow → Answer (List ℕ)

@@ -1,18 +1,19 @@
 -- What the functions below the calls ask and answer. Assumes nothing.
 use Prim.Native.Nat.{ℕ, _+_, _≤_, _<_}
 use mathlib.Core.List.{List}
-use mathlib.Core.Bool.{true}
+use mathlib.Core.Bool.{true, false}
 use mathlib.Core.Path.{_≡_}
 use lib.Dec.{ltb}
 use lib.ListN.{length, getD}
 use Rattle.definitions.specs.Lists.{all}
 use Rattle.definitions.specs.Answer.{Answer, ask, _>>=_}
 use Rattle.definitions.specs.Groups.{Domain}
-use Rattle.definitions.specs.Fdr.{noDomain}
+use Rattle.definitions.specs.Fdr.{FdrRow, noDomain}
 use Rattle.definitions.specs.FdrImage.{readFdr, fdrOperatorRight}
 use Rattle.definitions.specs.FdrStep.{isFdrState}
 use Rattle.fdr_image.specs.Reads.{fdrOf, ReadsFdr}
 use Rattle.fdr_image.specs.Walk.{blockParses, operatorIn}
+use Rattle.fdr.specs.Change.{named}
 
 -- questions 17 and 18
 unfoldable pub stateAnswer : List ℕ → List ℕ → Answer (Unit {0})
@@ -29,10 +30,18 @@ pub record Applying (w b s : List ℕ) : Type 0 where
   pub parses : blockParses b ≡ true
   pub right : fdrOperatorRight (fdrOf w .domains) (operatorIn b) ≡ true
 
--- a block that parses, whose rows have variables below 1,024
-pub record LowBlock (b : List ℕ) : Type 0 where
+-- a block that parses, whose rows have variables below n
+pub record LowBlock (n : ℕ) (b : List ℕ) : Type 0 where
   pub parses : blockParses b ≡ true
-  pub low : all (λ r. ltb (r .variable) 1024) (operatorIn b .rows) ≡ true
+  pub low : all (λ r. ltb (r .variable) n) (operatorIn b .rows) ≡ true
+
+-- nothing is noted but for variable v
+pub record NotedAt (v : ℕ) (m m′ : List ℕ) : Type 0 where
+  pub apart : (w : ℕ) → (w ≡ v → ⊥) → getD m′ w 0 ≡ getD m w 0
+
+-- nothing is noted but for the variables that the rows name
+pub record NotedFor (rs : List FdrRow) (m m′ : List ℕ) : Type 0 where
+  pub apart : (w : ℕ) → named rs w ≡ false → getD m′ w 0 ≡ getD m w 0
 
 -- what is noted for variable v lies in its domain
 pub record Changed (D : List Domain) (v change : ℕ) : Type 0 where
@@ -42,6 +51,7 @@ pub record Changed (D : List Domain) (v change : ℕ) : Type 0 where
 
 -- what is noted for each variable lies in its domain
 pub record Changes (D : List Domain) (m : List ℕ) : Type 0 where
+  pub few : length D ≤ 1024
   pub long : length D ≤ length m
   pub sizes : (v : ℕ) → v < length D → 1 ≤ getD D v noDomain .values
   pub inside : (v : ℕ) → v < length D → getD m v 0 < getD D v noDomain .values + 2

@@ -1,16 +1,17 @@
 // The change of one step: for each variable a number that says what becomes of it.
-// Rows fire by the state before the step, so they are noted first and the state is written last.
+// Rows fire by the state before the step, so they are noted first and the state is written last. Only numbers of the variables
+// that the operator's rows name are touched, so a step takes the time of its rows, however many variables there are.
 ghost use mathlib.Core.Path.{_≡_};
 ghost use mathlib.Core.Bool.{_&&_};
-ghost use Prim.Native.Nat.{_+_, _≤_, _<_};
+ghost use Prim.Native.Nat.{_+_, _<_};
 ghost use lib.Dec.{eqb};
 ghost use lib.ListN.{length, getD};
-ghost use Rattle.definitions.specs.Fdr.{noDomain};
-ghost use Rattle.definitions.specs.FdrImage.{domainsIn};
+ghost use Rattle.definitions.specs.Fdr.{noDomain, fdrAllTrue};
+ghost use Rattle.definitions.specs.FdrImage.{domainsIn, literalsIn};
 ghost use Rattle.definitions.specs.FdrStep.{fdrFired};
 ghost use Rattle.fdr_image.specs.Walk.{kindOf, operatorIn};
-ghost use Rattle.fdr.specs.Change.{noChanges, noted, noteSet, noteClear, noteKind, noteWords, noteIf, noteRows, become, nonesThere, changed};
-ghost use Rattle.fdr.specs.Post.{LowBlock, Changed, Changes};
+ghost use Rattle.fdr.specs.Change.{noChanges, noted, noteSet, noteClear, noteKind, noteWords, noteIf, noteRows, become, nonesIn, written, unnoted};
+ghost use Rattle.fdr.specs.Post.{LowBlock, Changed, Changes, NotedAt, NotedFor};
 
 // What becomes of a variable: it stays, it becomes none, or it becomes the value x, noted as x more than `FIRST_VALUE`.
 const STAYS: usize = 0;
@@ -33,7 +34,7 @@ pub fn room() -> [usize; 1024]
 // Notes a set. False if the variable is set to another value.
 fn note_set(changes: &mut [usize], variable: usize, value: usize) -> bool
     requires { ⌜ (variable < length (now changes)) × (value < 65536) ⌝ }
-    ensures { λ r. ⌜ noted r (now (changes .exit)) ≡ noteSet variable value (now (changes .entry)) ⌝ }
+    ensures { λ r. ⌜ (noted r (now (changes .exit)) ≡ noteSet variable value (now (changes .entry))) × NotedAt variable (now (changes .entry)) (now (changes .exit)) ⌝ }
 {
     let change = changes[variable];
     let set = value + FIRST_VALUE;
@@ -47,7 +48,7 @@ fn note_set(changes: &mut [usize], variable: usize, value: usize) -> bool
 // Notes a clear, once all sets are noted. False if the variable is set to this value.
 fn note_clear(changes: &mut [usize], state: &[u16], variable: usize, value: usize) -> bool
     requires { ⌜ (variable < length (now changes)) × (value < 65536) ⌝ }
-    ensures { λ r. ⌜ noted r (now (changes .exit)) ≡ noteClear (now (state .entry)) variable value (now (changes .entry)) ⌝ }
+    ensures { λ r. ⌜ (noted r (now (changes .exit)) ≡ noteClear (now (state .entry)) variable value (now (changes .entry))) × NotedAt variable (now (changes .entry)) (now (changes .exit)) ⌝ }
 {
     let change = changes[variable];
     let set = value + FIRST_VALUE;
@@ -67,7 +68,7 @@ fn note_clear(changes: &mut [usize], state: &[u16], variable: usize, value: usiz
 
 fn note_kind(changes: &mut [usize], state: &[u16], word: u16, variable: usize, value: usize) -> bool
     requires { ⌜ (variable < length (now changes)) × (value < 65536) ⌝ }
-    ensures { λ r. ⌜ noted r (now (changes .exit)) ≡ noteKind (now (state .entry)) (kindOf word) variable value (now (changes .entry)) ⌝ }
+    ensures { λ r. ⌜ (noted r (now (changes .exit)) ≡ noteKind (now (state .entry)) (kindOf word) variable value (now (changes .entry))) × NotedAt variable (now (changes .entry)) (now (changes .exit)) ⌝ }
 {
     let kind = fdr_image::block::kind_of(word);
     match kind {
@@ -77,23 +78,24 @@ fn note_kind(changes: &mut [usize], state: &[u16], word: u16, variable: usize, v
     }
 }
 
-// Notes a row, if it fires and is of the kind that this pass notes.
+// Notes a row, if it is of the kind that this pass notes and fires.
 fn note_row(
     changes: &mut [usize],
     state: &[u16],
-    fires: bool,
+    conditions: &[u16],
     pass: u16,
     kind: u16,
     variable: usize,
     value: usize,
 ) -> bool
     requires { ⌜ (variable < length (now changes)) × (value < 65536) ⌝ }
-    ensures { λ r. ⌜ noted r (now (changes .exit)) ≡ noteIf fires (noteWords (now (state .entry)) pass kind variable value (now (changes .entry))) (now (changes .entry)) ⌝ }
+    ensures { λ r. ⌜ (noted r (now (changes .exit)) ≡ noteIf (fdrAllTrue (now (state .entry)) (literalsIn (now (conditions .entry)))) (noteWords (now (state .entry)) pass kind variable value (now (changes .entry))) (now (changes .entry))) × NotedAt variable (now (changes .entry)) (now (changes .exit)) ⌝ }
 {
-    if !fires {
+    if kind != pass {
         return true;
     }
-    if kind != pass {
+    let fires = super::truth::all_true(state, conditions);
+    if !fires {
         return true;
     }
     note_kind(changes, state, kind, variable, value)
@@ -101,8 +103,8 @@ fn note_row(
 
 // Notes the rows of one kind that fire in a state: first the sets, then the clears. False at a conflict.
 pub fn note_rows(block: &[u16], state: &[u16], pass: u16, changes: &mut [usize]) -> bool
-    requires { ⌜ LowBlock (now block) × (length (now changes) ≡ 1024) ⌝ }
-    ensures { λ r. ⌜ noted r (now (changes .exit)) ≡ noteRows (now (state .entry)) pass (fdrFired (now (state .entry)) (operatorIn (now (block .entry)))) (now (changes .entry)) ⌝ }
+    requires { ⌜ LowBlock 1024 (now block) × (length (now changes) ≡ 1024) ⌝ }
+    ensures { λ r. ⌜ (noted r (now (changes .exit)) ≡ noteRows (now (state .entry)) pass (fdrFired (now (state .entry)) (operatorIn (now (block .entry)))) (now (changes .entry))) × NotedFor (operatorIn (now (block .entry)) .rows) (now (changes .entry)) (now (changes .exit)) ⌝ }
 {
     let head = fdr_image::block::head(block);
     let mut at = head.end + 1;
@@ -115,8 +117,8 @@ pub fn note_rows(block: &[u16], state: &[u16], pass: u16, changes: &mut [usize])
             from,
             end,
         } = fdr_image::block::row(block, at, left);
-        let fires = super::truth::all_true(state, &block[from..end]);
-        let free = note_row(changes, state, fires, pass, kind, variable, value);
+        let conditions = &block[from..end];
+        let free = note_row(changes, state, conditions, pass, kind, variable, value);
         if !free {
             return false;
         }
@@ -137,18 +139,23 @@ fn is_omitted(domains: &[u16], change: usize, variable: usize) -> bool
     fdr_image::domain::none_flag(domains, variable) == 0
 }
 
-// Whether no variable becomes an omitted none.
-pub fn are_nones_there(domains: &[u16], changes: &[usize]) -> bool
-    requires { ⌜ length (domainsIn (now domains)) ≤ length (now changes) ⌝ }
-    ensures { λ r. ⌜ r ≡ nonesThere (domainsIn (now (domains .entry))) (now (changes .entry)) ⌝ }
+// Whether no variable that a row names becomes an omitted none.
+pub fn are_nones_there(block: &[u16], domains: &[u16], changes: &[usize]) -> bool
+    requires { ⌜ LowBlock (length (domainsIn (now domains))) (now block) × Changes (domainsIn (now domains)) (now changes) ⌝ }
+    ensures { λ r. ⌜ r ≡ nonesIn (domainsIn (now (domains .entry))) (now (changes .entry)) (operatorIn (now (block .entry)) .rows) ⌝ }
 {
-    let mut v: usize = 0;
-    while v < domains.len() / 2 {
-        let omitted = is_omitted(domains, changes[v], v);
+    let head = fdr_image::block::head(block);
+    let mut at = head.end + 1;
+    let mut left = head.rows;
+    while 0 < left {
+        let row = fdr_image::block::row(block, at, left);
+        let variable = row.variable;
+        let omitted = is_omitted(domains, changes[variable], variable);
         if omitted {
             return false;
         }
-        v += 1;
+        at = row.end;
+        left -= 1;
     }
     true
 }
@@ -167,14 +174,36 @@ fn new_value(domains: &[u16], change: usize, variable: usize, old: u16) -> u16
     (change - FIRST_VALUE) as u16
 }
 
-// Writes the change into the state.
-pub fn write(domains: &[u16], changes: &[usize], state: &mut [u16])
-    requires { ⌜ Changes (domainsIn (now domains)) (now changes) × (length (now state) ≡ length (domainsIn (now domains))) ⌝ }
-    ensures { λ _. ⌜ now (state .exit) ≡ changed (domainsIn (now (domains .entry))) (now (changes .entry)) 0 (now (state .entry)) ⌝ }
+// Writes the change of the variables that the rows name into the state. A variable named twice is written twice, with the same value.
+pub fn write(block: &[u16], domains: &[u16], changes: &[usize], state: &mut [u16])
+    requires { ⌜ LowBlock (length (domainsIn (now domains))) (now block) × (Changes (domainsIn (now domains)) (now changes) × (length (now state) ≡ length (domainsIn (now domains)))) ⌝ }
+    ensures { λ _. ⌜ now (state .exit) ≡ written (domainsIn (now (domains .entry))) (now (changes .entry)) (operatorIn (now (block .entry)) .rows) (now (state .entry)) ⌝ }
 {
-    let mut v: usize = 0;
-    while v < state.len() {
-        state[v] = new_value(domains, changes[v], v, state[v]);
-        v += 1;
+    let head = fdr_image::block::head(block);
+    let mut at = head.end + 1;
+    let mut left = head.rows;
+    while 0 < left {
+        let row = fdr_image::block::row(block, at, left);
+        let variable = row.variable;
+        state[variable] = new_value(domains, changes[variable], variable, state[variable]);
+        at = row.end;
+        left -= 1;
+    }
+}
+
+// Clears what is noted for the variables that the rows name.
+pub fn unnote(block: &[u16], changes: &mut [usize])
+    requires { ⌜ LowBlock 1024 (now block) × (length (now changes) ≡ 1024) ⌝ }
+    ensures { λ _. ⌜ now (changes .exit) ≡ unnoted (operatorIn (now (block .entry)) .rows) (now (changes .entry)) ⌝ }
+{
+    let head = fdr_image::block::head(block);
+    let mut at = head.end + 1;
+    let mut left = head.rows;
+    while 0 < left {
+        let row = fdr_image::block::row(block, at, left);
+        let variable = row.variable;
+        changes[variable] = STAYS;
+        at = row.end;
+        left -= 1;
     }
 }

@@ -7,8 +7,8 @@ ghost use Rattle.definitions.specs.FdrStep.{fdrFired, fdrStep, stepFdr, goalFdr
 ghost use Rattle.answer.specs.Answer.{verdictAnswer, testAnswer, countAnswer};
 ghost use Rattle.fdr_image.specs.Reads.{fdrOf};
 ghost use Rattle.fdr_image.specs.Walk.{operatorIn};
-ghost use Rattle.fdr.specs.Change.{applied};
-ghost use Rattle.fdr.specs.Post.{stateAnswer, Standing, Applying};
+ghost use Rattle.fdr.specs.Change.{noChanges, applied};
+ghost use Rattle.fdr.specs.Post.{stateAnswer, Standing, Applying, NotedFor};
 
 pub mod truth; // truth.rt: the truth of literals in a state
 pub mod change; // change.rt: what a step makes of each variable
@@ -31,33 +31,37 @@ pub fn read_state(image: &[u16], state: &[u16]) -> answer::Verdict
     }
 }
 
-// The rows of a block, done in a state: questions 21 and 22.
-fn apply(image: &[u16], block: &[u16], state: &mut [u16]) -> answer::Verdict
-    requires { ⌜ Applying (now image) (now block) (now state) ⌝ }
-    ensures { λ r. ⌜ outcome (verdictAnswer r) (now (state .exit)) ≡ becomes (now (state .entry)) (applied (fdrOf (now (image .entry))) (now (state .entry)) (fdrFired (now (state .entry)) (operatorIn (now (block .entry))))) ⌝ }
+// The rows of a block, done in a state, with changes that note nothing before it: questions 21 and 22. What is noted stays.
+fn apply(image: &[u16], block: &[u16], state: &mut [u16], changes: &mut [usize]) -> answer::Verdict
+    requires { ⌜ Applying (now image) (now block) (now state) × (now changes ≡ noChanges) ⌝ }
+    ensures { λ r. ⌜ (outcome (verdictAnswer r) (now (state .exit)) ≡ becomes (now (state .entry)) (applied (fdrOf (now (image .entry))) (now (state .entry)) (fdrFired (now (state .entry)) (operatorIn (now (block .entry)))))) × NotedFor (operatorIn (now (block .entry)) .rows) (now (changes .entry)) (now (changes .exit)) ⌝ }
 {
     let domains = fdr_image::domains(image);
-    let mut changes = change::room();
-    let agree = change::note_rows(block, state, change::SETS, &mut changes);
+    let agree = change::note_rows(block, state, change::SETS, changes);
     if !agree {
         return answer::refuse(answer::Refusal::CONFLICT);
     }
-    let free = change::note_rows(block, state, change::CLEARS, &mut changes);
+    let free = change::note_rows(block, state, change::CLEARS, changes);
     if !free {
         return answer::refuse(answer::Refusal::CONFLICT);
     }
-    let there = change::are_nones_there(domains, &changes);
+    let there = change::are_nones_there(block, domains, changes);
     if !there {
         return answer::refuse(answer::Refusal::OMITTED_NONE);
     }
-    change::write(domains, &changes, state);
+    change::write(block, domains, changes, state);
     answer::Verdict::Fine
 }
 
-// A step in a state: questions 19 to 22.
-fn step_read(image: &[u16], state: &mut [u16], operator: u16) -> answer::Verdict
-    requires { ⌜ Standing (now image) (now state) ⌝ }
-    ensures { λ r. ⌜ outcome (verdictAnswer r) (now (state .exit)) ≡ becomes (now (state .entry)) (fdrStep (fdrOf (now (image .entry))) (now (state .entry)) operator) ⌝ }
+// A step in a state, with changes that note nothing before and behind it: questions 19 to 22.
+fn step_noted(
+    image: &[u16],
+    state: &mut [u16],
+    operator: u16,
+    changes: &mut [usize],
+) -> answer::Verdict
+    requires { ⌜ Standing (now image) (now state) × (now changes ≡ noChanges) ⌝ }
+    ensures { λ r. ⌜ (outcome (verdictAnswer r) (now (state .exit)) ≡ becomes (now (state .entry)) (fdrStep (fdrOf (now (image .entry))) (now (state .entry)) operator)) × (now (changes .exit) ≡ now (changes .entry)) ⌝ }
 {
     let i = literal::wide(operator);
     if fdr_image::operators(image) <= i {
@@ -70,7 +74,18 @@ fn step_read(image: &[u16], state: &mut [u16], operator: u16) -> answer::Verdict
     if !holds {
         return answer::refuse(answer::Refusal::PRECONDITION);
     }
-    apply(image, block, state)
+    let applied = apply(image, block, state, changes);
+    change::unnote(block, changes);
+    applied
+}
+
+// A step in a state: questions 19 to 22.
+fn step_read(image: &[u16], state: &mut [u16], operator: u16) -> answer::Verdict
+    requires { ⌜ Standing (now image) (now state) ⌝ }
+    ensures { λ r. ⌜ outcome (verdictAnswer r) (now (state .exit)) ≡ becomes (now (state .entry)) (fdrStep (fdrOf (now (image .entry))) (now (state .entry)) operator) ⌝ }
+{
+    let mut changes = change::room();
+    step_noted(image, state, operator, &mut changes)
 }
 
 // A step, done in the lent state.
@@ -84,14 +99,19 @@ pub fn step(image: &[u16], state: &mut [u16], operator: u16) -> answer::Verdict
     }
 }
 
-// The steps of a list in a state: questions 19 to 22 at each operator in turn.
-fn run_read(image: &[u16], state: &mut [u16], list: &[u16]) -> answer::Counted
-    requires { ⌜ Standing (now image) (now state) ⌝ }
+// The steps of a list in a state, with changes that note nothing: questions 19 to 22 at each operator in turn.
+fn run_noted(
+    image: &[u16],
+    state: &mut [u16],
+    list: &[u16],
+    changes: &mut [usize],
+) -> answer::Counted
+    requires { ⌜ Standing (now image) (now state) × (now changes ≡ noChanges) ⌝ }
     ensures { λ r. ⌜ outcome (countAnswer r) (now (state .exit)) ≡ runFrom (fdrStep (fdrOf (now (image .entry)))) (now (state .entry)) 0 (now (list .entry)) ⌝ }
 {
     let mut steps: usize = 0;
     while steps < list.len() {
-        let stepped = step_read(image, state, list[steps]);
+        let stepped = step_noted(image, state, list[steps], changes);
         match stepped {
             answer::Verdict::Refused(f) => {
                 return answer::Counted::Refused(answer::Refusal {
@@ -105,6 +125,15 @@ fn run_read(image: &[u16], state: &mut [u16], list: &[u16]) -> answer::Counted
         steps += 1;
     }
     answer::Counted::Count(steps)
+}
+
+// The steps of a list in a state: questions 19 to 22 at each operator in turn.
+fn run_read(image: &[u16], state: &mut [u16], list: &[u16]) -> answer::Counted
+    requires { ⌜ Standing (now image) (now state) ⌝ }
+    ensures { λ r. ⌜ outcome (countAnswer r) (now (state .exit)) ≡ runFrom (fdrStep (fdrOf (now (image .entry)))) (now (state .entry)) 0 (now (list .entry)) ⌝ }
+{
+    let mut changes = change::room();
+    run_noted(image, state, list, &mut changes)
 }
 
 // A list run, done in the lent state. A refused one keeps the steps that it took.

@@ -1,50 +1,74 @@
--- `fdr::change::are_nones_there`: the test of all variables is the test of those that are left.
-use Prim.Native.Nat.{ℕ, _≤_, _-_, _/_, _+_}
-use mathlib.Core.Path.{_≡_, sym, ap, _∙_}
+-- `fdr::change::are_nones_there`: the test of all rows is the test of those that are left.
+use Prim.Native.Nat.{ℕ}
+use mathlib.Core.Path.{_≡_, refl, sym, ap, _∙_}
+use mathlib.Core.Bool.{true}
+use mathlib.Core.List.{List}
 use native.Mathlib.Omega.{arith}
-use lib.ListN.{length}
-use Rattle.definitions.specs.Lists.{all, range}
+use lib.Dec.{ltb}
+use lib.ListN.{length, length-set}
+use Rattle.definitions.specs.Lists.{all}
+use Rattle.definitions.specs.Fdr.{FdrRow}
 use Rattle.definitions.specs.FdrImage.{domainsIn}
-use Rattle.definitions.proofs.Walks.{range-all-end}
-use Rattle.fdr_image.proofs.Pairs.{domains-length}
-use Rattle.fdr.specs.Change.{nonesThere}
-use Rattle.fdr.proofs.Applied.{noneThere-at, nones-off, nones-on, nones-start}
+use Rattle.fdr_image.specs.Walk.{operatorIn, parsesAt, rowsAt}
+use Rattle.fdr_image.proofs.RowLaws.{rows-done}
+use Rattle.fdr.specs.Change.{nonesIn}
+use Rattle.fdr.proofs.Notes.{low-row}
+use Rattle.fdr.proofs.ByRows.{nones-off, nones-on, nones-end}
 use borrow.Author.Needs.{needs}
 use Rattle.fdr.proofs.change.are_nones_there.Statement.{statement}
 use Rattle.fdr.proofs.change.are_nones_there.Tie as tie
 
 abbrev Inv-loop : tie.InvT-loop
-Inv-loop domains changes v₀ v = (v ≤ length domains / 2) × (nonesThere (domainsIn domains) changes ≡ all (noneThere-at (domainsIn domains) changes) (range v (length domains / 2 - v)))
+Inv-loop block domains changes at₀ left₀ at left = (parsesAt block at left ≡ true) × (all (λ r. ltb (r .variable) (length (domainsIn domains))) (rowsAt block at left) ≡ true) × (nonesIn (domainsIn domains) changes (operatorIn block .rows) ≡ nonesIn (domainsIn domains) changes (rowsAt block at left))
 
 abbrev μ-loop : tie.MeasureT-loop
-μ-loop domains changes v₀ v = length domains / 2 - v
+μ-loop block domains changes at₀ left₀ at left = left
+
+head-requires : tie.Need-head-requires Inv-loop μ-loop
+head-requires c κs = c .before .before .before .pre .0 .parses
+
+add-at : tie.Need-add-at Inv-loop μ-loop
+add-at c = omega (arith, c .before .head .ensures .high)
 
 loop-holds : tie.Need-loop-holds Inv-loop μ-loop
-loop-holds c = let e : length (domainsIn (c .before .before .args .domains .now)) ≡ length (c .before .before .args .domains .now) / 2 - 0 = omega (arith, domains-length (c .before .before .args .domains .now)) in (omega arith, nones-start _ _ ∙ ap (λ (k : ℕ). all (noneThere-at (domainsIn (c .before .before .args .domains .now)) (c .before .before .args .changes .now)) (range 0 k)) e)
+loop-holds c =
+    let h = c .before .head .ensures in
+    let a = c .before .before .before .before .before .args in
+    (h .parses, rw (h .rows) (c .before .before .before .before .before .pre .0 .low), ap (nonesIn (domainsIn (a .domains .now)) (a .changes .now)) (sym (h .rows)))
+
+row-requires : tie.Need-row-requires Inv-loop μ-loop
+row-requires c κs = (c .before .loop .inv .0, c .loop-test .taken)
 
 mul-is-omitted : tie.Need-mul-is-omitted Inv-loop μ-loop
-mul-is-omitted c = search needs
+mul-is-omitted c =
+    let z = low-row _ _ _ _ (c .row .ensures .row) (c .before .before .loop .inv .1) .0 in
+    omega (arith, z, c .before .before .before .before .before .before .before .before .pre .1 .few)
 
 shared-slice-read-is-omitted : tie.Need-shared-slice-read-is-omitted Inv-loop μ-loop
-shared-slice-read-is-omitted c = omega (arith, c .before .before .before .before .before .pre, domains-length (c .before .before .before .before .before .args .domains .now))
+shared-slice-read-is-omitted c =
+    let z = low-row _ _ _ _ (c .before .row .ensures .row) (c .before .before .before .loop .inv .1) .0 in
+    omega (arith, z, c .before .before .before .before .before .before .before .before .before .pre .1 .long)
 
 is-omitted-requires : tie.Need-is-omitted-requires Inv-loop μ-loop
-is-omitted-requires c κs = omega (arith, domains-length (c .before .before .before .before .before .args .domains .now))
+is-omitted-requires c κs = low-row _ _ _ _ (c .before .row .ensures .row) (c .before .before .before .loop .inv .1) .0
 
 returns : tie.Need-returns Inv-loop μ-loop
-returns c = sym (c .before .before .before .before .loop .inv .1 ∙ nones-off (domainsIn (c .before .before .before .before .before .before .before .args .domains .now)) (c .before .before .before .before .before .before .before .args .changes .now) (c .before .before .before .before .loop .v) (length (c .before .before .before .before .before .before .before .args .domains .now) / 2 - c .before .before .before .before .loop .v) (length (c .before .before .before .before .before .before .before .args .domains .now) / 2 - (c .before .before .before .before .loop .v + 1)) (omega arith) _ (c .before .is-omitted .ensures) (c .if1 .taken))
+returns c = sym (c .before .before .before .before .before .loop .inv .2 ∙ nones-off _ _ _ (c .before .before .before .row .ensures .row) _ _ _ (c .before .is-omitted .ensures) (c .if1 .taken))
 
-add-v : tie.Need-add-v Inv-loop μ-loop
-add-v c = search needs
+sub-left : tie.Need-sub-left Inv-loop μ-loop
+sub-left c = search needs
 
 loop-less : tie.Need-loop-less Inv-loop μ-loop
 loop-less c = search needs
 
 loop-again : tie.Need-loop-again Inv-loop μ-loop
-loop-again c = (omega arith, c .before .before .before .before .loop .inv .1 ∙ nones-on (domainsIn (c .before .before .before .before .before .before .before .args .domains .now)) (c .before .before .before .before .before .before .before .args .changes .now) (c .before .before .before .before .loop .v) (length (c .before .before .before .before .before .before .before .args .domains .now) / 2 - c .before .before .before .before .loop .v) (length (c .before .before .before .before .before .before .before .args .domains .now) / 2 - (c .before .before .before .before .loop .v + 1)) (omega arith) _ (c .before .is-omitted .ensures) (c .if1 .left))
+loop-again c =
+    let r = c .before .before .before .row .ensures in
+    let l = c .before .before .before .before .before .loop in
+    (r .next, low-row _ _ _ _ (r .row) (l .inv .1) .1, l .inv .2 ∙ nones-on _ _ _ (r .row) _ _ _ (c .before .is-omitted .ensures) (c .if1 .left))
 
 returns-2 : tie.Need-returns-2 Inv-loop μ-loop
-returns-2 c = sym (c .before .loop .inv .1 ∙ range-all-end (noneThere-at (domainsIn (c .before .before .before .before .args .domains .now)) (c .before .before .before .before .args .changes .now)) (c .before .loop .v) (length (c .before .before .before .before .args .domains .now) / 2 - c .before .loop .v) (omega arith))
+returns-2 c = sym (c .before .loop .inv .2 ∙ nones-end _ (rows-done _ (c .before .loop .at) (c .before .loop .left) (omega arith)) _ _)
 
 pub are-nones-there-spec : {M : Type 1} → statement M
 are-nones-there-spec =
@@ -52,12 +76,15 @@ are-nones-there-spec =
     (tie.spec
     Inv-loop
     μ-loop
+    head-requires
+    add-at
     loop-holds
+    row-requires
     mul-is-omitted
     shared-slice-read-is-omitted
     is-omitted-requires
     returns
-    add-v
+    sub-left
     loop-less
     loop-again
     returns-2)

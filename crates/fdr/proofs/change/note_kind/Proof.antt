@@ -1,5 +1,6 @@
 use mathlib.Core.Path.{sym, _∙_}
 use Rattle.fdr.proofs.Notes.{kind-set, kind-clear, kind-other}
+use Rattle.fdr.proofs.ByRows.{at-same}
 use borrow.Author.Needs.{needs}
 use Rattle.fdr.proofs.change.note_kind.Statement.{statement}
 use Rattle.fdr.proofs.change.note_kind.Tie as tie
@@ -26,16 +27,16 @@ same-length : tie.Need-same-length
 same-length c = search needs
 
 returns : tie.Need-returns
-returns c = c .before .before .note-set .ensures ∙ kind-set _ _ _ _ _ (sym (c .before .before .before .before .before .before .kind-of .ensures) ∙ c .before .before .before .before .enum-told .given .1)
+returns c = (c .before .before .note-set .ensures .0 ∙ kind-set _ _ _ _ _ (sym (c .before .before .before .before .before .before .kind-of .ensures) ∙ c .before .before .before .before .enum-told .given .1), c .before .before .note-set .ensures .1)
 
 same-length-2 : tie.Need-same-length-2
 same-length-2 c = search needs
 
 returns-2 : tie.Need-returns-2
-returns-2 c = c .before .before .note-clear .ensures ∙ kind-clear _ _ _ _ _ (sym (c .before .before .before .before .before .before .kind-of .ensures) ∙ c .before .before .before .before .enum-told2 .given .1)
+returns-2 c = (c .before .before .note-clear .ensures .0 ∙ kind-clear _ _ _ _ _ (sym (c .before .before .before .before .before .before .kind-of .ensures) ∙ c .before .before .before .before .enum-told2 .given .1), c .before .before .note-clear .ensures .1)
 
 returns-3 : tie.Need-returns-3
-returns-3 c = kind-other _ _ _ _ _ (sym (c .before .before .kind-of .ensures) ∙ c .enum-told3 .given .1)
+returns-3 c = (kind-other _ _ _ _ _ (sym (c .before .before .kind-of .ensures) ∙ c .enum-told3 .given .1), at-same _ _)
 
 pub note-kind-spec : {M : Type 1} → statement M
 note-kind-spec =

@@ -1,15 +1,19 @@
-use mathlib.Core.Path.{_∙_}
+use mathlib.Core.Path.{sym, _∙_}
 use borrow.Author.Tests.{not-true, not-false}
 use Rattle.fdr.proofs.Notes.{row-idle, row-later, row-now}
+use Rattle.fdr.proofs.ByRows.{at-same}
 use borrow.Author.Needs.{needs}
 use Rattle.fdr.proofs.change.note_row.Statement.{statement}
 use Rattle.fdr.proofs.change.note_row.Tie as tie
 
 returns : tie.Need-returns
-returns c = row-idle _ _ _ _ _ _ _ (not-true _ (c .if1 .taken))
+returns c = (row-later _ _ _ _ _ _ _ (c .if1 .taken), at-same _ _)
+
+all-true-requires : tie.Need-all-true-requires
+all-true-requires c κs = search needs
 
 returns-2 : tie.Need-returns-2
-returns-2 c = row-later _ _ _ _ _ _ _ (not-false _ (c .before .if1 .left)) (c .if2 .taken)
+returns-2 c = (row-idle _ _ _ _ _ _ _ (sym (c .before .all-true .ensures) ∙ not-true _ (c .if2 .taken)), at-same _ _)
 
 note-kind-requires : tie.Need-note-kind-requires
 note-kind-requires c κs = search needs
@@ -18,7 +22,9 @@ same-length : tie.Need-same-length
 same-length c = search needs
 
 returns-3 : tie.Need-returns-3
-returns-3 c = c .before .before .note-kind .ensures ∙ row-now _ _ _ _ _ _ _ (not-false _ (c .before .before .before .before .before .if1 .left)) (c .before .before .before .before .if2 .left)
+returns-3 c = (c .before .before .note-kind .ensures .0 ∙ row-now _ _ _ _ _ _ _ (sym (c .before .before .before .before .before .all-true .ensures) ∙ not-false _ (c .before .before .before .before .if2 .left)) (c .before .before .before .before .before .before .if1 .left), c .before .before .note-kind .ensures .1)
 
 pub note-row-spec : {M : Type 1} → statement M
-note-row-spec = tie.close (tie.spec returns returns-2 note-kind-requires same-length returns-3)
+note-row-spec =
+    tie.close
+    (tie.spec returns all-true-requires returns-2 note-kind-requires same-length returns-3)

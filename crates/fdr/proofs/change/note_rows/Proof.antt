@@ -11,14 +11,18 @@ use Rattle.definitions.specs.Fdr.{fdrAllTrue}
 use Rattle.definitions.specs.FdrStep.{fdrFired}
 use Rattle.fdr_image.specs.Walk.{operatorIn, parsesAt, rowsAt}
 use Rattle.fdr_image.proofs.RowLaws.{rows-done}
+use mathlib.Core.List.{List}
+use Prim.Native.Nat.{ℕ}
 use Rattle.fdr.specs.Change.{noted, noteRows}
+use Rattle.fdr.specs.Post.{NotedFor}
+use Rattle.fdr.proofs.ByRows.{for-turn, for-stop, for-same}
 use Rattle.fdr.proofs.Notes.{rows-stop, rows-turn, rows-end, low-row}
 use borrow.Author.Needs.{needs}
 use Rattle.fdr.proofs.change.note_rows.Statement.{statement}
 use Rattle.fdr.proofs.change.note_rows.Tie as tie
 
 abbrev Inv-loop : tie.InvT-loop
-Inv-loop block state pass changes₀ at₀ left₀ changes at left = (parsesAt block at left ≡ true) × (all (λ r. ltb (r .variable) 1024) (rowsAt block at left) ≡ true) × (length changes ≡ length changes₀) × (noteRows state pass (fdrFired state (operatorIn block)) changes₀ ≡ noteRows state pass (keep (λ r. fdrAllTrue state (r .conditions)) (rowsAt block at left)) changes)
+Inv-loop block state pass changes₀ at₀ left₀ changes at left = (parsesAt block at left ≡ true) × (all (λ r. ltb (r .variable) 1024) (rowsAt block at left) ≡ true) × (length changes ≡ length changes₀) × (noteRows state pass (fdrFired state (operatorIn block)) changes₀ ≡ noteRows state pass (keep (λ r. fdrAllTrue state (r .conditions)) (rowsAt block at left)) changes) × ((x : List ℕ) → NotedFor (rowsAt block at left) changes x → NotedFor (operatorIn block .rows) changes₀ x)
 
 abbrev μ-loop : tie.MeasureT-loop
 μ-loop block state pass changes₀ at₀ left₀ changes at left = left
@@ -31,34 +35,37 @@ add-at c = omega (arith, c .before .head .ensures .high)
 
 loop-holds : tie.Need-loop-holds Inv-loop μ-loop
 unfolding fdrFired
-loop-holds c = (c .before .head .ensures .parses, rw (c .before .head .ensures .rows) (c .before .before .before .before .before .pre .0 .low), refl, rw (c .before .head .ensures .rows))
+loop-holds c =
+    let h = c .before .head .ensures in
+    (h .parses, rw (h .rows) (c .before .before .before .before .before .pre .0 .low), refl, rw (h .rows), λ x n. rw (← h .rows) n)
 
 row-requires : tie.Need-row-requires Inv-loop μ-loop
 row-requires c κs = (c .before .loop .inv .0, c .loop-test .taken)
 
-mul-all-true : tie.Need-mul-all-true Inv-loop μ-loop
-mul-all-true c = search needs
+mul-conditions : tie.Need-mul-conditions Inv-loop μ-loop
+mul-conditions c = search needs
 
-sub-all-true : tie.Need-sub-all-true Inv-loop μ-loop
-sub-all-true c = search needs
+sub-conditions : tie.Need-sub-conditions Inv-loop μ-loop
+sub-conditions c = search needs
 
-part-all-true-start : tie.Need-part-all-true-start Inv-loop μ-loop
-part-all-true-start c = search needs
+part-conditions-start : tie.Need-part-conditions-start Inv-loop μ-loop
+part-conditions-start c = search needs
 
-part-all-true-end : tie.Need-part-all-true-end Inv-loop μ-loop
-part-all-true-end c = search needs
-
-all-true-requires : tie.Need-all-true-requires Inv-loop μ-loop
-all-true-requires c κs = search needs
+part-conditions-end : tie.Need-part-conditions-end Inv-loop μ-loop
+part-conditions-end c = search needs
 
 note-row-requires : tie.Need-note-row-requires Inv-loop μ-loop
-note-row-requires c κs = (omega (arith, c .before .before .before .before .before .loop .inv .2, c .before .before .before .before .before .before .before .before .before .before .before .pre .1, low-row _ _ _ (c .before .before .before .row .ensures .row) (c .before .before .before .before .before .loop .inv .1) .0), c .before .before .before .row .ensures .word)
+note-row-requires c κs = (omega (arith, c .before .before .before .before .loop .inv .2, c .before .before .before .before .before .before .before .before .before .before .pre .1, low-row 1024 _ _ _ (c .before .before .row .ensures .row) (c .before .before .before .before .loop .inv .1) .0), c .before .before .row .ensures .word)
 
 same-length : tie.Need-same-length Inv-loop μ-loop
 same-length c = search needs
 
 returns : tie.Need-returns Inv-loop μ-loop
-returns c = sym (c .before .before .before .before .before .before .before .before .before .loop .inv .3 ∙ rows-stop _ _ _ _ _ (c .before .before .before .before .before .before .before .row .ensures .row) _ (c .before .before .before .before .before .all-true .ensures) _ (c .before .before .before .note-row .last .0) (ap (λ (b : Bool). noted b (c .before .before .before .note-row .last .0)) (sym (not-true _ (c .if1 .taken))) ∙ c .before .before .before .note-row .ensures))
+returns c =
+    let l = c .before .before .before .before .before .before .before .before .loop in
+    let r = c .before .before .before .before .before .before .row .ensures in
+    let n = c .before .before .before .note-row in
+    (sym (l .inv .3 ∙ rows-stop _ _ _ _ _ (r .row) _ refl _ (n .last .0) (ap (λ (b : Bool). noted b (n .last .0)) (sym (not-true _ (c .if1 .taken))) ∙ n .ensures .0)), l .inv .4 _ (for-stop _ _ _ (r .row) _ _ (n .ensures .1)))
 
 sub-left : tie.Need-sub-left Inv-loop μ-loop
 sub-left c = search needs
@@ -67,13 +74,22 @@ loop-less : tie.Need-loop-less Inv-loop μ-loop
 loop-less c = search needs
 
 loop-again : tie.Need-loop-again Inv-loop μ-loop
-loop-again c = (c .before .before .before .before .before .before .before .row .ensures .next, low-row _ _ _ (c .before .before .before .before .before .before .before .row .ensures .row) (c .before .before .before .before .before .before .before .before .before .loop .inv .1) .1, c .before .before .before .note-row .kept .0 ∙ c .before .before .before .before .before .before .before .before .before .loop .inv .2, c .before .before .before .before .before .before .before .before .before .loop .inv .3 ∙ rows-turn _ _ _ _ _ (c .before .before .before .before .before .before .before .row .ensures .row) _ (c .before .before .before .before .before .all-true .ensures) _ (c .before .before .before .note-row .last .0) (ap (λ (b : Bool). noted b (c .before .before .before .note-row .last .0)) (sym (not-false _ (c .if1 .left))) ∙ c .before .before .before .note-row .ensures))
+loop-again c =
+    let l = c .before .before .before .before .before .before .before .before .loop in
+    let r = c .before .before .before .before .before .before .row .ensures in
+    let n = c .before .before .before .note-row in (
+      r .next,
+      low-row 1024 _ _ _ (r .row) (l .inv .1) .1,
+      n .kept .0 ∙ l .inv .2,
+      l .inv .3 ∙ rows-turn _ _ _ _ _ (r .row) _ refl _ (n .last .0) (ap (λ (b : Bool). noted b (n .last .0)) (sym (not-false _ (c .if1 .left))) ∙ n .ensures .0),
+      λ x f. l .inv .4 x (for-turn _ _ _ (r .row) _ _ _ (n .ensures .1) f),
+    )
 
 same-length-2 : tie.Need-same-length-2 Inv-loop μ-loop
 same-length-2 c = search needs
 
 returns-2 : tie.Need-returns-2 Inv-loop μ-loop
-returns-2 c = sym (c .before .loop .inv .3 ∙ rows-end _ _ _ _ (rows-done _ (c .before .loop .at) (c .before .loop .left) (omega arith)))
+returns-2 c = (sym (c .before .loop .inv .3 ∙ rows-end _ _ _ _ (rows-done _ (c .before .loop .at) (c .before .loop .left) (omega arith))), c .before .loop .inv .4 _ (for-same _ _))
 
 pub note-rows-spec : {M : Type 1} → statement M
 note-rows-spec =
@@ -85,11 +101,10 @@ note-rows-spec =
     add-at
     loop-holds
     row-requires
-    mul-all-true
-    sub-all-true
-    part-all-true-start
-    part-all-true-end
-    all-true-requires
+    mul-conditions
+    sub-conditions
+    part-conditions-start
+    part-conditions-end
     note-row-requires
     same-length
     returns

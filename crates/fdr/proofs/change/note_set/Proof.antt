@@ -1,4 +1,5 @@
 use Rattle.fdr.proofs.Notes.{set-first, set-again}
+use Rattle.fdr.proofs.ByRows.{at-same, at-set}
 use borrow.Author.Needs.{needs}
 use Rattle.fdr.proofs.change.note_set.Statement.{statement}
 use Rattle.fdr.proofs.change.note_set.Tie as tie
@@ -22,10 +23,10 @@ same-length : tie.Need-same-length
 same-length c = search needs
 
 returns : tie.Need-returns
-returns c = set-first _ _ _ (c .if1 .taken)
+returns c = (set-first _ _ _ (c .if1 .taken), at-set _ _ _)
 
 returns-2 : tie.Need-returns-2
-returns-2 c = set-again _ _ _ (c .if1 .left)
+returns-2 c = (set-again _ _ _ (c .if1 .left), at-same _ _)
 
 pub note-set-spec : {M : Type 1} → statement M
 note-set-spec =

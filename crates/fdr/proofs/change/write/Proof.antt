@@ -1,60 +1,96 @@
--- `fdr::change::write`: what is done, and what is left to change, make the whole state after the change.
-use Prim.Native.Nat.{_≤_, _<_, _-_, _+_}
-use mathlib.Core.Path.{_≡_, refl, sym, _∙_}
-use mathlib.Core.List.{_++_}
+-- `fdr::change::write`: what all rows write is what those that are left write in the state so far.
+use Prim.Native.Nat.{ℕ}
+use mathlib.Core.Path.{_≡_, refl, sym, ap, _∙_}
+use mathlib.Core.Bool.{true}
+use mathlib.Core.List.{List}
 use native.Mathlib.Omega.{arith}
-use lib.ListN.{length, take, drop, length-set}
+use lib.Dec.{ltb}
+use lib.ListN.{length, length-set}
+use Rattle.definitions.specs.Lists.{all}
+use Rattle.definitions.specs.Fdr.{FdrRow}
 use Rattle.definitions.specs.FdrImage.{domainsIn}
-use Rattle.fdr.specs.Change.{changed}
-use Rattle.fdr.proofs.Applied.{changed-on, changed-end}
+use Rattle.fdr_image.specs.Walk.{operatorIn, parsesAt, rowsAt}
+use Rattle.fdr_image.proofs.RowLaws.{rows-done}
+use Rattle.fdr.specs.Change.{written}
+use Rattle.fdr.proofs.Notes.{low-row}
+use Rattle.fdr.proofs.ByRows.{written-turn, written-end}
 use borrow.Author.Needs.{needs}
 use Rattle.fdr.proofs.change.write.Statement.{statement}
 use Rattle.fdr.proofs.change.write.Tie as tie
 
 abbrev Inv-loop : tie.InvT-loop
-Inv-loop domains changes state₀ v₀ state v = (v ≤ length state) × (length state ≡ length state₀) × (changed (domainsIn domains) changes 0 state₀ ≡ take v state ++ changed (domainsIn domains) changes v (drop v state))
+Inv-loop block domains changes state₀ at₀ left₀ state at left = (parsesAt block at left ≡ true) × (all (λ r. ltb (r .variable) (length (domainsIn domains))) (rowsAt block at left) ≡ true) × (length state ≡ length state₀) × (written (domainsIn domains) changes (operatorIn block .rows) state₀ ≡ written (domainsIn domains) changes (rowsAt block at left) state)
 
 abbrev μ-loop : tie.MeasureT-loop
-μ-loop domains changes state₀ v₀ state v = length state₀ - v
+μ-loop block domains changes state₀ at₀ left₀ state at left = left
+
+head-requires : tie.Need-head-requires Inv-loop μ-loop
+head-requires c κs = c .before .before .before .before .pre .0 .parses
+
+add-at : tie.Need-add-at Inv-loop μ-loop
+add-at c = omega (arith, c .before .head .ensures .high)
 
 loop-holds : tie.Need-loop-holds Inv-loop μ-loop
-loop-holds c = (omega arith, refl, refl)
+loop-holds c =
+    let h = c .before .head .ensures in
+    let a = c .before .before .before .before .before .before .args in
+    (h .parses, rw (h .rows) (c .before .before .before .before .before .before .pre .0 .low), refl, ap (λ (rs : List FdrRow). written (domainsIn (a .domains .now)) (a .changes .now) rs (a .state .now)) (sym (h .rows)))
+
+row-requires : tie.Need-row-requires Inv-loop μ-loop
+row-requires c κs = (c .before .loop .inv .0, c .loop-test .taken)
 
 mul-new-value : tie.Need-mul-new-value Inv-loop μ-loop
-mul-new-value c = search needs
+mul-new-value c =
+    let z = low-row _ _ _ _ (c .row .ensures .row) (c .before .before .loop .inv .1) .0 in
+    omega (arith, z, c .before .before .before .before .before .before .before .before .before .pre .1 .0 .few)
 
 shared-slice-read-new-value : tie.Need-shared-slice-read-new-value Inv-loop μ-loop
-shared-slice-read-new-value c = omega (arith, c .before .before .loop .inv .1, c .before .before .before .before .before .before .pre .1, c .before .before .before .before .before .before .pre .0 .long)
+shared-slice-read-new-value c =
+    let z = low-row _ _ _ _ (c .before .row .ensures .row) (c .before .before .before .loop .inv .1) .0 in
+    omega (arith, z, c .before .before .before .before .before .before .before .before .before .before .pre .1 .0 .long)
 
 mul-new-value-2 : tie.Need-mul-new-value-2 Inv-loop μ-loop
-mul-new-value-2 c = search needs
+mul-new-value-2 c =
+    let z = low-row _ _ _ _ (c .before .row .ensures .row) (c .before .before .before .loop .inv .1) .0 in
+    omega (arith, z, c .before .before .before .before .before .before .before .before .before .before .pre .1 .0 .few)
 
 slice-read-new-value : tie.Need-slice-read-new-value Inv-loop μ-loop
-slice-read-new-value c = search needs
+slice-read-new-value c =
+    let z = low-row _ _ _ _ (c .before .before .row .ensures .row) (c .before .before .before .before .loop .inv .1) .0 in
+    omega (arith, z, c .before .before .before .before .before .before .before .before .before .before .before .pre .1 .1, c .before .before .before .before .loop .inv .2)
 
 new-value-requires : tie.Need-new-value-requires Inv-loop μ-loop
-new-value-requires c κs = let low : c .before .before .before .loop .v < length (domainsIn (c .before .before .before .before .before .before .before .args .domains .now)) = omega (arith, c .before .before .before .loop .inv .1, c .before .before .before .before .before .before .before .pre .1) in record { low = low; size = c .before .before .before .before .before .before .before .pre .0 .sizes (c .before .before .before .loop .v) low; inside = c .before .before .before .before .before .before .before .pre .0 .inside (c .before .before .before .loop .v) low }
+new-value-requires c κs =
+    let z = low-row _ _ _ _ (c .before .before .row .ensures .row) (c .before .before .before .before .loop .inv .1) .0 in
+    record { low = z; size = c .before .before .before .before .before .before .before .before .before .before .before .pre .1 .0 .sizes _ z; inside = c .before .before .before .before .before .before .before .before .before .before .before .pre .1 .0 .inside _ z }
 
 mul-state : tie.Need-mul-state Inv-loop μ-loop
-mul-state c = search needs
+mul-state c =
+    let z = low-row _ _ _ _ (c .before .before .before .row .ensures .row) (c .before .before .before .before .before .loop .inv .1) .0 in
+    omega (arith, z, c .before .before .before .before .before .before .before .before .before .before .before .before .pre .1 .0 .few)
 
 slice-write-state : tie.Need-slice-write-state Inv-loop μ-loop
-slice-write-state c = search needs
+slice-write-state c =
+    let z = low-row _ _ _ _ (c .before .before .before .row .ensures .row) (c .before .before .before .before .before .loop .inv .1) .0 in
+    omega (arith, z, c .before .before .before .before .before .before .before .before .before .before .before .before .pre .1 .1, c .before .before .before .before .before .loop .inv .2)
 
-add-v : tie.Need-add-v Inv-loop μ-loop
-add-v c = search needs
+sub-left : tie.Need-sub-left Inv-loop μ-loop
+sub-left c = search needs
 
 loop-less : tie.Need-loop-less Inv-loop μ-loop
 loop-less c = search needs
 
 loop-again : tie.Need-loop-again Inv-loop μ-loop
-loop-again c = (simp length-set (omega arith), simp length-set (c .before .before .before .before .loop .inv .1), c .before .before .before .before .loop .inv .2 ∙ changed-on _ _ (c .before .before .before .before .loop .state) (c .before .before .before .before .loop .v) _ (c .before .before .before .loop-test .taken) (c .new-value .ensures))
+loop-again c =
+    let r = c .before .before .before .row .ensures in
+    let l = c .before .before .before .before .before .loop in
+    (r .next, low-row _ _ _ _ (r .row) (l .inv .1) .1, simp length-set (l .inv .2), l .inv .3 ∙ written-turn _ _ _ (r .row) _ _ (l .state) _ (c .new-value .ensures))
 
 same-length : tie.Need-same-length Inv-loop μ-loop
-same-length c = search needs
+same-length c = c .before .loop .inv .2
 
 returns : tie.Need-returns Inv-loop μ-loop
-returns c = sym (c .before .loop .inv .2 ∙ changed-end _ _ (c .before .loop .state) (c .before .loop .v) (c .loop-test .left))
+returns c = sym (c .before .loop .inv .3 ∙ written-end _ (rows-done _ (c .before .loop .at) (c .before .loop .left) (omega arith)) _ _ _)
 
 pub write-spec : {M : Type 1} → statement M
 write-spec =
@@ -62,7 +98,10 @@ write-spec =
     (tie.spec
     Inv-loop
     μ-loop
+    head-requires
+    add-at
     loop-holds
+    row-requires
     mul-new-value
     shared-slice-read-new-value
     mul-new-value-2
@@ -70,7 +109,7 @@ write-spec =
     new-value-requires
     mul-state
     slice-write-state
-    add-v
+    sub-left
     loop-less
     loop-again
     same-length
