@@ -2,6 +2,7 @@
 use Prim.Native.Nat.{ℕ}
 use mathlib.Core.Bool.{Bool, cond}
 use Rattle.definitions.specs.Answer.{Refusal, Answer, finding, refused}
+use Rattle.definitions.specs.Synthesis.{Made}
 
 pub record Told : Type 0 where
   pub number : ℕ
@@ -26,3 +27,7 @@ toldTest (refused r) = toldRefusal r
 abbrev pub toldCount : Answer ℕ → Told
 toldCount (finding k) = told 0 k 0
 toldCount (refused r) = toldRefusal r
+
+abbrev pub toldMade : Answer Made → Told
+toldMade (finding x) = told 0 (x .rows) (x .rounds)
+toldMade (refused r) = toldRefusal r

@@ -6,11 +6,12 @@ ghost use Rattle.definitions.specs.Answer.{verdict, stateAfter};
 ghost use Rattle.definitions.specs.Image.{readTask};
 ghost use Rattle.definitions.specs.Step.{stepTask, goalTask, startTask, runTask};
 ghost use Rattle.definitions.specs.Checker.{check, keeps};
+ghost use Rattle.definitions.specs.Synthesis.{synthesisCall};
 ghost use Rattle.definitions.specs.Groups.{written, groupsCall};
 ghost use Rattle.definitions.specs.Encoding.{encodeCall};
 ghost use Rattle.definitions.specs.Coding.{toAtomsCall, fromAtomsCall};
 ghost use Rattle.definitions.specs.FdrStep.{stepFdr, goalFdr, startFdr, runFdr};
-ghost use Rattle.exports.specs.Told.{told, toldVerdict, toldTest, toldCount};
+ghost use Rattle.exports.specs.Told.{told, toldVerdict, toldTest, toldCount, toldMade};
 
 mod tell; // tell.rt: answers as numbers
 
@@ -108,6 +109,27 @@ pub extern "C" fn kb_check(
     ensures { λ r. ⌜ told r (now (first .exit)) (now (second .exit)) ≡ toldVerdict (verdict (check (now (image .entry)) (now (clauses .entry)) (length (now (marks .entry))))) ⌝ }
 {
     tell::verdict(checker::accept(image, clauses, marks), first, second)
+}
+
+// Synthesis: 1 to 7, 12 to 15. `first` is the number of rows, `second` that of rounds.
+#[no_mangle]
+pub extern "C" fn kb_synthesize(
+    image: &[u16],
+    n: u16,
+    limit: u16,
+    clauses: &mut [u16],
+    work: &mut [u16],
+    marks: &mut [u8],
+    first: &mut u64,
+    second: &mut u64,
+) -> u32
+    ensures { λ r. ⌜ (told r (now (first .exit)) (now (second .exit)) ≡ toldMade (synthesisCall (now (image .entry)) n limit (now (clauses .entry)) (length (now (work .entry))) (length (now (marks .entry))) .answer)) × (now (clauses .exit) ≡ synthesisCall (now (image .entry)) n limit (now (clauses .entry)) (length (now (work .entry))) (length (now (marks .entry))) .lent) ⌝ }
+{
+    tell::made(
+        synthesis::synthesize(image, n, limit, clauses, work, marks),
+        first,
+        second,
+    )
 }
 
 // Groups: the checker's questions, then 16. Writes the domains part and the atoms part; `first` is the number of variables.

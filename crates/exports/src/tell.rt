@@ -1,14 +1,21 @@
 // Answers as numbers: the number of the question, 0 for a finding, and two values or places.
 ghost use mathlib.Core.Path.{_≡_};
 ghost use Rattle.answer.specs.Answer.{placed, verdictAnswer, testAnswer, countAnswer};
-ghost use Rattle.exports.specs.Told.{told, toldRefusal, toldVerdict, toldTest, toldCount};
+ghost use Rattle.exports.specs.Told.{told, toldRefusal, toldVerdict, toldTest, toldCount, toldMade};
+ghost use Rattle.synthesis.specs.Answer.{synthesisAnswer};
+
+fn findings(value: usize, other: usize, first: &mut u64, second: &mut u64) -> u32
+    ensures { λ r. ⌜ told r (now (first .exit)) (now (second .exit)) ≡ told 0 value other ⌝ }
+{
+    *first = value as u64;
+    *second = other as u64;
+    0
+}
 
 fn finding(value: usize, first: &mut u64, second: &mut u64) -> u32
     ensures { λ r. ⌜ told r (now (first .exit)) (now (second .exit)) ≡ told 0 value 0 ⌝ }
 {
-    *first = value as u64;
-    *second = 0;
-    0
+    findings(value, 0, first, second)
 }
 
 fn refusal(f: answer::Refusal, first: &mut u64, second: &mut u64) -> u32
@@ -44,5 +51,14 @@ pub fn count(c: answer::Counted, first: &mut u64, second: &mut u64) -> u32
     match c {
         answer::Counted::Count(k) => finding(k, first, second),
         answer::Counted::Refused(f) => refusal(f, first, second),
+    }
+}
+
+pub fn made(s: synthesis::Synthesis, first: &mut u64, second: &mut u64) -> u32
+    ensures { λ r. ⌜ told r (now (first .exit)) (now (second .exit)) ≡ toldMade (synthesisAnswer s) ⌝ }
+{
+    match s {
+        synthesis::Synthesis::Found(rows, rounds) => findings(rows, rounds, first, second),
+        synthesis::Synthesis::Refused(f) => refusal(f, first, second),
     }
 }

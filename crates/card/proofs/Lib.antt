@@ -1,0 +1,6 @@
+pub mod CardText
+pub mod FoundText
+pub mod GroupText
+pub mod LineLaws
+pub mod Size
+pub mod TextLaws

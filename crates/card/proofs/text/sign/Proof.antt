@@ -1,0 +1,13 @@
+use Rattle.card.proofs.TextLaws.{sign-plus, sign-minus}
+use borrow.Author.Needs.{needs}
+use Rattle.card.proofs.text.sign.Statement.{statement}
+use Rattle.card.proofs.text.sign.Tie as tie
+
+returns : tie.Need-returns
+returns c = sign-plus _ (c .if1 .taken)
+
+returns-2 : tie.Need-returns-2
+returns-2 c = sign-minus _ (c .if1 .left)
+
+pub sign-spec : {M : Type 1} → statement M
+sign-spec = tie.close (tie.spec returns returns-2)

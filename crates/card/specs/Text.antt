@@ -1,0 +1,63 @@
+-- The lines of the card, field by field as they are written. Assumes nothing.
+use mathlib.Core.Bool.{Bool, cond, _&&_}
+use mathlib.Core.List.{List, [], _∷_, _++_}
+use Prim.Native.Nat.{ℕ, zero, suc, _+_, _*_, _/_, _%_}
+use lib.Dec.{eqb, leb}
+use lib.ListN.{length, getD, drop}
+use Rattle.definitions.specs.Lists.{each, below}
+use Rattle.definitions.specs.Literal.{positive}
+use Rattle.definitions.specs.Answer.{finding, refused}
+use Rattle.definitions.specs.Clauses.{width, mostRows}
+use Rattle.definitions.specs.Synthesis.{Found, synthesis}
+use Rattle.definitions.specs.Card.{decimal, line, clausesWord, roundsWord, groupsWord, noneWord, foundText, refusedText}
+
+-- what stands in front of field i of a line
+unfoldable pub separator : ℕ → List ℕ
+separator zero = []
+separator (suc i) = 32 ∷ []
+
+-- the fields of a line from field i on, and the line's end
+unfoldable pub fieldsFrom : ℕ → List (List ℕ) → List ℕ
+fieldsFrom i [] = 10 ∷ []
+fieldsFrom i (x ∷ xs) = separator i ++ (x ++ fieldsFrom (suc i) xs)
+
+-- the sign of a literal
+unfoldable pub signOf : ℕ → ℕ
+signOf l = cond (positive l) 43 45
+
+-- the line of the numbers of clauses and rounds, and that of the number of groups
+unfoldable pub countsLine : ℕ → ℕ → List ℕ
+countsLine clauses rounds = line (clausesWord ∷ decimal clauses ∷ roundsWord ∷ decimal rounds ∷ [])
+
+unfoldable pub groupsLine : ℕ → List ℕ
+groupsLine groups = line (groupsWord ∷ decimal groups ∷ [])
+
+-- atom a, as a field of the line of group v, by the places of the atoms
+unfoldable pub memberText : List ℕ → ℕ → ℕ → List ℕ
+memberText ps v a = cond (eqb (getD ps (2 * a) 0) v) (separator (getD ps (2 * a + 1) 0) ++ decimal a) []
+
+-- "none" behind the atoms, if it is a value
+unfoldable pub noneText : ℕ → List ℕ
+noneText none = cond (eqb none 0) [] (32 ∷ noneWord)
+
+-- the line of group v
+unfoldable pub groupText : List ℕ → ℕ → ℕ → List ℕ
+groupText ps v none = each (memberText ps v) (below (length ps / 2)) ++ (noneText none ++ (10 ∷ []))
+
+-- the lines of n groups
+unfoldable pub groupTexts : List ℕ → List ℕ → ℕ → List ℕ
+groupTexts ps ns n = each (λ v. groupText ps v (getD ns v 0)) (below n)
+
+-- a finding
+abbrev pub findingOf : List (List ℕ) → ℕ → Found
+findingOf C r = record { clauses = C; rounds = r }
+
+-- the input's bytes: four or more, even, at most 16,388
+abbrev pub isInput : List ℕ → Bool
+isInput bs = leb 4 (length bs) && eqb (length bs % 2) 0 && leb (length bs) 16388
+
+-- the text of the words of an input
+unfoldable pub wordsText : List ℕ → List ℕ
+wordsText w =
+    elim (synthesis (drop 2 w) (getD w 0 0) (getD w 1 0) (width * mostRows) (width * mostRows) 2048)
+    [ finding x ↦ foundText (getD w 2 0) x | refused r ↦ refusedText r ]

@@ -1,0 +1,74 @@
+-- A clause with one literal more put in. Assumes nothing.
+use mathlib.Core.Bool.{Bool, true, false, cond}
+use mathlib.Core.Option.{Option, none, some}
+use mathlib.Core.Path.{_≡_, refl, sym, _∙_, ap}
+use mathlib.Core.List.{List, [], _∷_, _++_, map}
+use Prim.Native.Nat.{ℕ, zero, suc, _+_, _*_, _≤_, _<_}
+use native.Mathlib.Numerals.{add-one}
+use native.Mathlib.Omega.{arith}
+use lib.ListN.{length, getD, drop, drop-of-length-le}
+use borrow.Author.Tests.{ltb-true}
+use lib.Dec.{ltb}
+use Rattle.definitions.specs.Lists.{all, each, range, member}
+use Rattle.definitions.specs.Literal.{atom, allBelow}
+use Rattle.definitions.specs.Clauses.{width, rowOf, clauseOf}
+use Rattle.definitions.specs.Synthesis.{insertLiteral}
+use Rattle.definitions.proofs.ListLaws.{and-left, and-right}
+use Rattle.definitions.proofs.Walks.{left-here}
+use Rattle.definitions.proofs.SetRight.{GoodClause}
+use Rattle.clause.proofs.ClauseLaws.{row-back, row-wide, good-right, list-below}
+use Rattle.clause_set.specs.Put.{put, putAll, extended}
+use Rattle.clause_set.specs.Held.{mostAtoms, ClauseRow, Extensible}
+use Rattle.clause_set.proofs.Inserted.{new-atom, insert-good}
+
+module _ (rows : ℕ) (f : List ℕ) (l : ℕ) (s : Option (List (List ℕ))) where
+  pub extend-none : member (atom l) (map atom f) ≡ true → putAll rows (extended f l) s ≡ s
+  unfolding extended putAll
+  extend-none h = rw h
+
+  pub extend-one : member (atom l) (map atom f) ≡ false → putAll rows (extended f l) s ≡ put rows (insertLiteral l f) s
+  unfolding extended putAll
+  extend-one h = rw h
+
+module _ (f : List ℕ) (l : ℕ) (e : Extensible f) (low : l < 2 * mostAtoms) (new : member (atom l) (map atom f) ≡ false) where
+  good : GoodClause mostAtoms width (insertLiteral l f)
+  good = insert-good mostAtoms width l f (e .good) (e .short) low (new-atom l f new)
+
+  pub extend-row : ClauseRow (rowOf (insertLiteral l f))
+  extend-row =
+      record {
+        wide = row-wide mostAtoms (insertLiteral l f) (omega arith) (good .most);
+        right = good-right mostAtoms (insertLiteral l f) (omega arith) good;
+      }
+
+  pub extend-back : clauseOf (rowOf (insertLiteral l f)) ≡ insertLiteral l f
+  extend-back = row-back mostAtoms (insertLiteral l f) (omega arith) (list-below mostAtoms (insertLiteral l f) (good .list))
+
+-- ---- what a list of which the elements from i on are left gives
+module _ {A B : Type 0} (g : B → List A) (xs : List B) (i : ℕ) where
+  pub each-left : (d x : B) → x ≡ getD xs i d → i < length xs → each g (drop i xs) ≡ g x ++ each g (drop (i + 1) xs)
+  unfolding each
+  each-left d x at h = rw (left-here xs i d x at h)
+
+  pub each-done : length xs ≤ i → each g (drop i xs) ≡ []
+  unfolding each
+  each-done h = rw (drop-of-length-le xs {i = i} h)
+
+-- the numbers from i on, k of them
+module _ {A : Type 0} (g : ℕ → List A) (i k : ℕ) where
+  pub range-left : (k′ : ℕ) → k ≡ suc k′ → each g (range i k) ≡ g i ++ each g (range (i + 1) k′)
+  unfolding each range
+  range-left k′ e = rw (e, add-one)
+
+  pub range-done : k ≡ 0 → each g (range i k) ≡ []
+  unfolding each range
+  range-done e = rw e
+
+pub low-at : (n i : ℕ) (xs : List ℕ) → allBelow n xs ≡ true → i < length xs → getD xs i 0 < n
+unfolding allBelow all
+low-at n i xs h k = ltb-true (getD xs i 0) n (at-all xs i h k)
+  where
+    at-all : (xs : List ℕ) (i : ℕ) → all (λ x. ltb x n) xs ≡ true → i < length xs → ltb (getD xs i 0) n ≡ true
+    at-all [] i h k = absurd (omega arith)
+    at-all (x ∷ xs) zero h k = and-left (ltb x n) (all (λ x. ltb x n) xs) h
+    at-all (x ∷ xs) (suc i) h k = at-all xs i (and-right (ltb x n) (all (λ x. ltb x n) xs) h) (omega arith)

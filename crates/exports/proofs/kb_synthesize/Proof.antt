@@ -1,0 +1,31 @@
+use mathlib.Core.Path.{ap, _∙_}
+use Rattle.definitions.specs.Answer.{Outcome, outcome}
+use Rattle.definitions.specs.Synthesis.{Made}
+use Rattle.exports.specs.Told.{toldMade}
+use borrow.Author.Needs.{needs}
+use Rattle.exports.proofs.kb_synthesize.Statement.{statement}
+use Rattle.exports.proofs.kb_synthesize.Tie as tie
+
+synthesize-requires : tie.Need-synthesize-requires
+synthesize-requires c κs = search needs
+
+made-requires : tie.Need-made-requires
+made-requires c κs = search needs
+
+same-length : tie.Need-same-length
+same-length c = search needs
+
+same-length-2 : tie.Need-same-length-2
+same-length-2 c = search needs
+
+same-length-3 : tie.Need-same-length-3
+same-length-3 c = search needs
+
+returns : tie.Need-returns
+unfolding outcome
+returns c = (c .made .ensures ∙ ap toldMade (ap (λ (x : Outcome Made). x .answer) (c .before .before .before .before .before .before .before .before .before .synthesize .ensures)), ap (λ (x : Outcome Made). x .lent) (c .before .before .before .before .before .before .before .before .before .synthesize .ensures))
+
+pub kb-synthesize-spec : {M : Type 1} → statement M
+kb-synthesize-spec =
+    tie.close
+    (tie.spec synthesize-requires made-requires same-length same-length-2 same-length-3 returns)

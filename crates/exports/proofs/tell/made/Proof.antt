@@ -1,0 +1,30 @@
+use mathlib.Core.Path.{sym, ap, _∙_}
+use Rattle.synthesis.specs.Answer.{synthesisAnswer}
+use Rattle.synthesis.specs.declared.Synthesis.{Synthesis}
+use Rattle.exports.specs.Told.{toldMade}
+use borrow.Author.Needs.{needs}
+use Rattle.exports.proofs.tell.made.Statement.{statement}
+use Rattle.exports.proofs.tell.made.Tie as tie
+
+enum-known-s : tie.Need-enum-known-s
+enum-known-s c = search needs
+
+findings-requires : tie.Need-findings-requires
+findings-requires c κs = search needs
+
+enum-known-s-2 : tie.Need-enum-known-s-2
+enum-known-s-2 c = search needs
+
+refusal-requires : tie.Need-refusal-requires
+refusal-requires c κs = search needs
+
+returns : tie.Need-returns
+returns c = c .findings .ensures ∙ ap (λ (x : Synthesis). toldMade (synthesisAnswer x)) (sym (c .before .before .before .before .s .given .1))
+
+returns-2 : tie.Need-returns-2
+returns-2 c = c .refusal .ensures ∙ ap (λ (x : Synthesis). toldMade (synthesisAnswer x)) (sym (c .before .before .before .before .s2 .given .1))
+
+pub made-spec : {M : Type 1} → statement M
+made-spec =
+    tie.close
+    (tie.spec enum-known-s findings-requires enum-known-s-2 refusal-requires returns returns-2)

@@ -1,0 +1,190 @@
+-- What an operator adds, by rows, flags and a list of literals. Assumes nothing.
+use mathlib.Core.Bool.{Bool, true, false, not, _&&_, _||_, cond, false≢true}
+use mathlib.Core.Logic.{_⊎_, inl, inr}
+use mathlib.Core.Option.{Option, none, some}
+use mathlib.Core.Path.{_≡_, refl, sym, _∙_, ap, subst}
+use mathlib.Core.List.{List, [], _∷_, _++_, map, List·Memᴰ, List·Memᴰ·head, List·Memᴰ·tail}
+use Prim.Native.Nat.{ℕ, zero, suc, _+_, _-_, _*_, _≤_, _<_}
+use native.Mathlib.Omega.{arith}
+use lib.Dec.{eqb, ltb}
+use lib.ListN.{length, getD, take}
+use borrow.Author.Tests.{ltb-true, lt-ltb}
+use Rattle.definitions.specs.Lists.{any, all, keep, each, range, below, member, empty, ascending, compareWords, isSame}
+use Rattle.definitions.specs.Literal.{atom, allBelow, literalList}
+use Rattle.definitions.specs.Image.{Operator, Task}
+use Rattle.definitions.specs.Closure.{has, bit, closure, contradictory}
+use Rattle.definitions.specs.Clauses.{width, clauseOf, rowOf, clauseRight, rowAt}
+use Rattle.definitions.specs.Kept.{kept, guaranteed}
+use Rattle.definitions.specs.Synthesis.{insertLiteral, guarantees, weakenedBy}
+use Rattle.definitions.proofs.ListLaws.{decide, not-false, and-left, and-right, and-both, all-at, all-of, keep-of, table-length, any-in, any-of}
+use Rattle.definitions.proofs.SetLaws.{below-of, range-of}
+use Rattle.definitions.proofs.Walks.{below-in}
+use Rattle.clause.specs.Rows.{rowCount, clausesOf, ClausesRead, RightRows, Ascending}
+use Rattle.clause.proofs.RowLaws.{clauses-length}
+use Rattle.clause.proofs.ReadLaws.{read-right}
+use Rattle.judge.specs.Judging.{failFlags, guaranteedFlags}
+use Rattle.judge.proofs.Guaranteed.{guaranteed-has}
+use Rattle.clause_set.specs.Put.{putAll, extended}
+use Rattle.clause_set.specs.Held.{mostAtoms}
+use Rattle.next_set.specs.Build.{isDue, addedRow, addedFor, addedBy}
+use Rattle.next_set.specs.Post.{Listed, Weakening}
+use Rattle.next_set.proofs.Flags.{flag-has, flags-length}
+use Rattle.next_set.proofs.NextSet.{keep-yes, keep-no}
+
+-- ---- lists of lists
+pub each-agree : {A B : Type 0} (g h : A → List B) (xs : List A) → ((x : A) → List·Memᴰ x xs → g x ≡ h x) → each g xs ≡ each h xs
+unfolding each
+each-agree g h [] e = refl
+each-agree g h (x ∷ xs) e = rw (e x (List·Memᴰ·head refl), each-agree g h xs (λ y m. e y (List·Memᴰ·tail m)))
+
+each-none : {A B : Type 0} (g : A → List B) (xs : List A) → ((x : A) → List·Memᴰ x xs → g x ≡ []) → each g xs ≡ []
+unfolding each
+each-none g [] e = refl
+each-none g (x ∷ xs) e = rw (e x (List·Memᴰ·head refl)) (each-none g xs (λ y m. e y (List·Memᴰ·tail m)))
+
+-- by the places of a list
+pub each-places : {A B : Type 0} (g : A → List B) (d : A) (xs : List A) → each (λ i. g (getD xs i d)) (range 0 (length xs)) ≡ each g xs
+unfolding each range
+each-places g d [] = refl
+each-places g d (x ∷ xs) = ap (λ l. g x ++ l) (shift (λ i. g (getD (x ∷ xs) i d)) 0 (length xs) ∙ each-places g d xs)
+  where
+    shift : {B : Type 0} (h : ℕ → List B) (i k : ℕ) → each h (range (suc i) k) ≡ each (λ j. h (suc j)) (range i k)
+    shift h i zero = refl
+    shift h i (suc k) = ap (λ l. h (suc i) ++ l) (shift h (suc i) k)
+
+keep-agree : (p q : ℕ → Bool) (xs : List ℕ) → ((x : ℕ) → List·Memᴰ x xs → p x ≡ q x) → keep p xs ≡ keep q xs
+unfolding keep
+keep-agree p q [] e = refl
+keep-agree p q (x ∷ xs) e = go (q x) refl (keep-agree p q xs (λ y m. e y (List·Memᴰ·tail m)))
+  where
+    here : p x ≡ q x
+    here = e x (List·Memᴰ·head refl)
+
+    go : (b : Bool) → q x ≡ b → keep p xs ≡ keep q xs → keep p (x ∷ xs) ≡ keep q (x ∷ xs)
+    go true h rec = keep-yes p x xs (here ∙ h) ∙ ap (λ (l : List ℕ). x ∷ l) rec ∙ sym (keep-yes q x xs h)
+    go false h rec = keep-no p x xs (here ∙ h) ∙ rec ∙ sym (keep-no q x xs h)
+
+-- ---- what an operator adds for a clause
+extended-all : (f xs : List ℕ) → map (λ l. insertLiteral l f) (keep (λ l. not (member (atom l) (map atom f))) xs) ≡ each (extended f) xs
+unfolding each extended keep
+extended-all f [] = refl
+extended-all f (l ∷ xs) = go (member (atom l) (map atom f)) refl (extended-all f xs)
+  where
+    go : (b : Bool) → member (atom l) (map atom f) ≡ b → map (λ l. insertLiteral l f) (keep (λ l. not (member (atom l) (map atom f))) xs) ≡ each (extended f) xs → map (λ l. insertLiteral l f) (keep (λ l. not (member (atom l) (map atom f))) (l ∷ xs)) ≡ each (extended f) (l ∷ xs)
+    go true e rec = rw (e, keep) rec
+    go false e rec = rw (e, keep) (ap (λ (L : List (List ℕ)). insertLiteral l f ∷ L) rec)
+
+module _ (t : Task) (C : List (List ℕ)) (o : Operator) where
+  weakened-each : (f : List ℕ) → weakenedBy t C f o ≡ each (extended f) (guarantees t C o)
+  unfolding weakenedBy
+  weakened-each f = extended-all f (guarantees t C o)
+
+  -- the listed literals are those that the operator guarantees
+  pub listed-guarantees : (n : ℕ) (flags : List ℕ) → t .atoms ≡ n → flags ≡ guaranteedFlags n C o (o .precondition) → keep (has flags) (below (length flags)) ≡ guarantees t C o
+  unfolding guarantees guaranteedFlags
+  listed-guarantees n flags a e =
+      let l : length flags ≡ 2 * n = ap length e ∙ size in
+      rw (l, ← a, e, ← a) (keep-agree (has (guaranteedFlags (t .atoms) C o (o .precondition))) (guaranteed (t .atoms) C o (o .precondition) (closure (t .atoms) C (o .precondition))) (below (2 * t .atoms)) (λ x m. guaranteed-has (t .atoms) C o (o .precondition) x (below-of (2 * t .atoms) m)))
+    where
+      size : length (guaranteedFlags n C o (o .precondition)) ≡ 2 * n
+      size = table-length (λ m. bit (guaranteed n C o (o .precondition) (closure n C (o .precondition)) m)) (2 * n)
+
+  module _ (n k : ℕ) (flags : List ℕ) (atoms : t .atoms ≡ n) (fails : flags ≡ failFlags n C o C) where
+    due-fails : (i : ℕ) → i < length C → isDue C flags k i ≡ (eqb (length (getD C i [])) k && not (kept (t .atoms) C o (getD C i [])))
+    unfolding isDue failFlags
+    due-fails i h =
+        let l = flags-length (λ f. not (kept n C o f)) C flags fails in
+        rw (flag-has (λ f. not (kept n C o f)) C flags fails i (omega arith), atoms)
+
+    -- the rows' additions are the operator's
+    pub rows-added : each (addedRow C flags (guarantees t C o) k) (range 0 (length C)) ≡ addedBy t C k o
+    unfolding addedBy addedRow addedFor
+    rows-added =
+        each-agree (addedRow C flags (guarantees t C o) k) (λ i. addedFor t C k o (getD C i [])) (range 0 (length C)) (λ i m. row i (range-of 0 (length C) m .1))
+        ∙ each-places (addedFor t C k o) [] C
+      where
+        row : (i : ℕ) → i < 0 + length C → addedRow C flags (guarantees t C o) k i ≡ addedFor t C k o (getD C i [])
+        row i h = rw (due-fails i (omega arith), weakened-each (getD C i []))
+
+    -- no row is to be weakened
+    pub none-added : any (isDue C flags k) (range 0 (length C)) ≡ false → addedBy t C k o ≡ []
+    unfolding addedRow
+    none-added h =
+        sym rows-added
+        ∙ each-none (addedRow C flags (guarantees t C o) k) (range 0 (length C)) (λ i m. rw (off i m (decide (isDue C flags k i))))
+      where
+        off : (i : ℕ) → List·Memᴰ i (range 0 (length C)) → (isDue C flags k i ≡ true) ⊎ (isDue C flags k i ≡ false) → isDue C flags k i ≡ false
+        off i m (inl e) = absurd (false≢true (sym h ∙ any-in (isDue C flags k) m e))
+        off i m (inr e) = e
+
+    -- a clause fails only where the closure of C and the precondition is not contradictory
+    pub due-consistent : any (isDue C flags k) (range 0 (length C)) ≡ true → contradictory n (closure n C (o .precondition)) ≡ false
+    unfolding kept
+    due-consistent h =
+        let w = any-of (isDue C flags k) (range 0 (length C)) h in
+        let i = range-of 0 (length C) (w .mem) .1 in
+        let d = sym (due-fails (w .it) (omega arith)) ∙ w .passes in
+        let e = not-false (kept (t .atoms) C o (getD C (w .it) [])) (and-right (eqb (length (getD C (w .it) [])) k) (not (kept (t .atoms) C o (getD C (w .it) []))) d) in
+        subst (λ (m : ℕ). contradictory m (closure m C (o .precondition)) ≡ false) atoms (or-off (contradictory (t .atoms) (closure (t .atoms) C (o .precondition))) _ e)
+      where
+        or-off : (a b : Bool) → (a || b) ≡ false → a ≡ false
+        or-off true b h = h
+        or-off false b h = refl
+
+-- the listed literals
+pub listed-low : (flags list : List ℕ) (k : ℕ) → Listed flags list k → length flags ≤ 2 * mostAtoms → allBelow (2 * mostAtoms) (take k list) ≡ true
+unfolding allBelow
+listed-low flags list k l few =
+    rw (l .words)
+    (all-of (λ x. ltb x (2 * mostAtoms)) (keep (has flags) (below (length flags))) (λ x m. let b = below-of (length flags) (keep-of (has flags) (below (length flags)) m .0) in lt-ltb x (2 * mostAtoms) (omega arith)))
+
+pub no-words : (list : List ℕ) → allBelow (2 * mostAtoms) (take 0 list) ≡ true
+unfolding allBelow all
+no-words list = refl
+
+-- ---- rows that are right over fewer atoms
+below-more : (n m : ℕ) (xs : List ℕ) → n ≤ m → allBelow n xs ≡ true → allBelow m xs ≡ true
+unfolding allBelow
+below-more n m xs h e = all-of (λ x. ltb x m) xs (λ x k. let b = ltb-true x n (all-at (λ x. ltb x n) e k) in lt-ltb x m (omega arith))
+
+pub list-more : (N M : ℕ) (f : List ℕ) → N ≤ M → literalList N f ≡ true → literalList M f ≡ true
+unfolding literalList
+list-more N M f h e =
+    let a = and-left (ascending f && allBelow (2 * N) f) (ascending (map atom f)) e in
+    and-both (and-both (and-left (ascending f) (allBelow (2 * N) f) a) (below-more (2 * N) (2 * M) f (omega arith) (and-right (ascending f) (allBelow (2 * N) f) a))) (and-right (ascending f && allBelow (2 * N) f) (ascending (map atom f)) e)
+
+pub rows-more : (N M : ℕ) (w : List ℕ) → N ≤ M → RightRows N w → RightRows M w
+unfolding clauseRight
+rows-more N M w h r = record { ascending = r .ascending; right = λ i k. right i (r .right i k) }
+  where
+    right : (i : ℕ) → clauseRight N (rowAt w i) ≡ true → clauseRight M (rowAt w i) ≡ true
+    right i e =
+        let f = clauseOf (rowAt w i) in
+        let same = isSame (compareWords (rowAt w i) (rowOf f)) in
+        let a = and-left (not (empty f) && literalList N f) same e in
+        and-both (and-both (and-left (not (empty f)) (literalList N f) a) (list-more N M f h (and-right (not (empty f)) (literalList N f) a))) (and-right (not (empty f) && literalList N f) same e)
+
+-- ---- one operator, by the rows of clause words
+module _ (w : List ℕ) (o : Operator) (n k : ℕ) (flags : List ℕ) (fails : flags ≡ failFlags n (clausesOf w) o (clausesOf w)) where
+  pub fails-length : length flags ≡ rowCount w
+  unfolding failFlags
+  fails-length = flags-length (λ f. not (kept n (clausesOf w) o f)) (clausesOf w) flags fails ∙ clauses-length w
+
+  pub weakening : n ≤ 1024 → ClausesRead n w → (list : List ℕ) → allBelow (2 * mostAtoms) list ≡ true → k < width → Weakening w flags list k
+  weakening few read list low short =
+      record {
+        rows = rows-more n mostAtoms w few (read-right n w read);
+        flagged = fails-length;
+        low = low;
+        short = short;
+      }
+
+  module _ (t : Task) (atoms : t .atoms ≡ n) (rows : ℕ) (s : Option (List (List ℕ))) where
+    pub under-none : any (isDue (clausesOf w) flags k) (range 0 (rowCount w)) ≡ false → putAll rows (addedBy t (clausesOf w) k o) s ≡ s
+    unfolding putAll
+    under-none h = rw (none-added t (clausesOf w) o n k flags atoms fails (rw clauses-length h))
+
+    pub under-some : any (isDue (clausesOf w) flags k) (range 0 (rowCount w)) ≡ true → (list : List ℕ) → (contradictory n (closure n (clausesOf w) (o .precondition)) ≡ false → list ≡ guarantees t (clausesOf w) o) → putAll rows (each (addedRow (clausesOf w) flags list k) (range 0 (rowCount w))) s ≡ putAll rows (addedBy t (clausesOf w) k o) s
+    under-some h list e =
+        let q = e (due-consistent t (clausesOf w) o n k flags atoms fails (rw clauses-length h)) in
+        rw (q, ← clauses-length w, rows-added t (clausesOf w) o n k flags atoms fails)

@@ -1,0 +1,9 @@
+pub mod Undominated
+pub mod Levels
+pub mod NextSet
+pub mod Flags
+pub mod Due
+pub mod Testing
+pub mod Adding
+pub mod Copying
+pub mod Surviving

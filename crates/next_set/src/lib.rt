@@ -1,0 +1,57 @@
+// The next set of a synthesis: the clauses that pass and the failing ones weakened, without those that contain another.
+ghost use mathlib.Core.Path.{_≡_};
+ghost use mathlib.Core.List.{map};
+ghost use Prim.Native.Nat.{_*_, _≤_};
+ghost use lib.ListN.{length};
+ghost use Rattle.definitions.specs.Closure.{bit};
+ghost use Rattle.definitions.specs.Clauses.{width};
+ghost use Rattle.definitions.specs.Synthesis.{next};
+ghost use Rattle.clause.specs.Rows.{rowCount, clausesOf};
+ghost use Rattle.task.specs.Reads.{taskOf};
+ghost use Rattle.clause_set.specs.Held.{Holds};
+ghost use Rattle.next_set.specs.Build.{failsBelow, fitted};
+ghost use Rattle.next_set.specs.Post.{Copied, Round};
+use clause::WIDTH;
+use clause_set::Built;
+
+pub mod test; // test.rt: the test of all clauses under all operators
+pub mod weaken; // weaken.rt: failing clauses with one literal more
+
+// Copies the rows that have no flag, and answers how many they are.
+fn copy_unflagged(clauses: &[u16], flags: &[u8], work: &mut [u16]) -> usize
+    requires { ⌜ (length (now flags) ≡ rowCount (now clauses)) × (length (now clauses) ≤ length (now work)) ⌝ }
+    ensures { λ r. ⌜ Copied (now (clauses .entry)) (now (flags .entry)) (now (work .exit)) r ⌝ }
+{
+    let size = clause::rows(clauses);
+    let mut count: usize = 0;
+    let mut i: usize = 0;
+    while i < size {
+        let at = i;
+        i += 1;
+        if flags[at] == 1 {
+            continue;
+        }
+        clause_set::words::copy_to(clause::row(clauses, at), work, WIDTH * count);
+        count += 1;
+    }
+    count
+}
+
+// Builds the next set in `work`, where the clauses that fail have their flag.
+pub fn next_set(
+    image: &[u16],
+    clauses: &[u16],
+    n: usize,
+    most: usize,
+    rows: usize,
+    failing: &[u8],
+    marks: &mut [u8],
+    fails: &mut [u8],
+    work: &mut [u16],
+) -> Built
+    requires { ⌜ Round (now image) (now clauses) n most rows × (now failing ≡ map (λ f. bit (failsBelow (taskOf (now image)) (clausesOf (now clauses)) (length (taskOf (now image) .operators)) f)) (clausesOf (now clauses))) × (2 * n ≤ length (now marks)) × (length (now fails) ≡ rowCount (now clauses)) × (width * rows ≤ length (now work)) ⌝ }
+    ensures { λ r. ⌜ Holds rows r (now (work .exit)) (fitted rows (next (taskOf (now (image .entry))) most (clausesOf (now (clauses .entry))))) ⌝ }
+{
+    let count = copy_unflagged(clauses, failing, work);
+    weaken::weaken(image, clauses, n, most, marks, fails, work, count, rows)
+}

@@ -1,0 +1,264 @@
+// Failing clauses with one literal more, put into the next set.
+ghost use mathlib.Core.Path.{_≡_};
+ghost use mathlib.Core.Option.{some};
+ghost use Prim.Native.Nat.{_*_, _-_, _≤_, _<_};
+ghost use lib.ListN.{length};
+ghost use Rattle.definitions.specs.Lists.{any, each, range};
+ghost use Rattle.definitions.specs.Image.{Task};
+ghost use Rattle.definitions.specs.Clauses.{width};
+ghost use Rattle.definitions.specs.Step.{operatorAt};
+ghost use Rattle.clause.specs.Rows.{rowCount, clausesOf, RightRows};
+ghost use Rattle.task.specs.Reads.{taskOf};
+ghost use Rattle.task.specs.Walk.{operatorIn};
+ghost use Rattle.judge.specs.Judging.{failFlags};
+ghost use Rattle.judge.specs.Promise.{Given};
+ghost use Rattle.clause_set.specs.Put.{putAll};
+ghost use Rattle.clause_set.specs.Held.{held, Room, Holds};
+ghost use Rattle.next_set.specs.Build.{isDue, addedRow, addedBy, addedAt, addedFrom};
+ghost use Rattle.next_set.specs.Post.{Read, Listed, ListedGuarantees, Weakening};
+use clause_set::Built;
+
+// Room for a word for each literal.
+fn list_room() -> [u16; 2048]
+    ensures { λ r. ⌜ length r ≡ 2048 ⌝ }
+{
+    [0u16; 2048]
+}
+
+// Lists the literals that have their flag.
+fn list_flagged(flags: &[u8], list: &mut [u16]) -> usize
+    requires { ⌜ (length (now flags) ≤ length (now list)) × (length (now flags) ≤ 2048) ⌝ }
+    ensures { λ r. ⌜ Listed (now (flags .entry)) (now (list .exit)) r ⌝ }
+{
+    let mut count: usize = 0;
+    let mut l: usize = 0;
+    while l < flags.len() {
+        let at = l;
+        l += 1;
+        if flags[at] != 1 {
+            continue;
+        }
+        list[count] = at as u16;
+        count += 1;
+    }
+    count
+}
+
+// Lists the literals that the operator of a block guarantees, where the closure of the clauses and its precondition is not contradictory.
+fn list_guaranteed(
+    clauses: &[u16],
+    block: &[u16],
+    n: usize,
+    marks: &mut [u8],
+    list: &mut [u16],
+) -> usize
+    requires { ⌜ Given n (now clauses) (now block) × (2 * n ≤ length (now marks)) × (length (now list) ≡ 2048) ⌝ }
+    ensures { λ r. ⌜ ListedGuarantees n (clausesOf (now (clauses .entry))) (operatorIn (now (block .entry))) (now (list .exit)) r ⌝ }
+{
+    let mut flags = judge::guarantee::room();
+    let size = 2 * n;
+    if !judge::guarantee::flag_operator(clauses, block, marks, n, &mut flags[..size]) {
+        return 0;
+    }
+    list_flagged(&flags[..size], list)
+}
+
+// Whether row `i` has `k` literals and its flag.
+fn is_due(clauses: &[u16], flags: &[u8], k: usize, i: usize) -> bool
+    requires { ⌜ (length (now flags) ≡ rowCount (now clauses)) × (i < rowCount (now clauses)) ⌝ }
+    ensures { λ r. ⌜ r ≡ isDue (clausesOf (now (clauses .entry))) (now (flags .entry)) k i ⌝ }
+{
+    if flags[i] != 1 {
+        return false;
+    }
+    let literals = clause::literals(clause::row(clauses, i));
+    literals.len() == k
+}
+
+// Whether some row has `k` literals and its flag.
+fn some_due(clauses: &[u16], flags: &[u8], k: usize) -> bool
+    requires { ⌜ length (now flags) ≡ rowCount (now clauses) ⌝ }
+    ensures { λ r. ⌜ r ≡ any (isDue (clausesOf (now (clauses .entry))) (now (flags .entry)) k) (range 0 (rowCount (now (clauses .entry)))) ⌝ }
+{
+    let count = clause::rows(clauses);
+    let mut i: usize = 0;
+    while i < count {
+        if is_due(clauses, flags, k, i) {
+            return true;
+        }
+        i += 1;
+    }
+    false
+}
+
+// Puts the clause of row `i` in with each literal of a list, if it has `k` literals and its flag.
+fn weaken_row(
+    clauses: &[u16],
+    flags: &[u8],
+    list: &[u16],
+    k: usize,
+    i: usize,
+    work: &mut [u16],
+    count: usize,
+    rows: usize,
+) -> Built
+    requires { ⌜ Weakening (now clauses) (now flags) (now list) k × Room rows count (now work) × (i < rowCount (now clauses)) ⌝ }
+    ensures { λ r. ⌜ Holds rows r (now (work .exit)) (putAll rows (addedRow (clausesOf (now (clauses .entry))) (now (flags .entry)) (now (list .entry)) k i) (some (held count (now (work .entry))))) ⌝ }
+{
+    if !is_due(clauses, flags, k, i) {
+        return Built::Rows(count);
+    }
+    let literals = clause::literals(clause::row(clauses, i));
+    clause_set::put_with_each(literals, list, work, count, rows)
+}
+
+// Puts each clause of `k` literals that has its flag in with each literal of a list.
+fn weaken_rows(
+    clauses: &[u16],
+    flags: &[u8],
+    list: &[u16],
+    k: usize,
+    work: &mut [u16],
+    count: usize,
+    rows: usize,
+) -> Built
+    requires { ⌜ Weakening (now clauses) (now flags) (now list) k × Room rows count (now work) ⌝ }
+    ensures { λ r. ⌜ Holds rows r (now (work .exit)) (putAll rows (each (addedRow (clausesOf (now (clauses .entry))) (now (flags .entry)) (now (list .entry)) k) (range 0 (rowCount (now (clauses .entry))))) (some (held count (now (work .entry))))) ⌝ }
+{
+    let size = clause::rows(clauses);
+    let mut taken = count;
+    let mut i: usize = 0;
+    while i < size {
+        let built = weaken_row(clauses, flags, list, k, i, work, taken, rows);
+        match built {
+            Built::Full => {
+                return Built::Full;
+            }
+            Built::Rows(more) => {
+                taken = more;
+            }
+        }
+        i += 1;
+    }
+    Built::Rows(taken)
+}
+
+// Puts each clause of `k` literals that fails under the operator of a block in with each literal that the operator guarantees.
+fn weaken_under(
+    clauses: &[u16],
+    block: &[u16],
+    n: usize,
+    fails: &[u8],
+    k: usize,
+    marks: &mut [u8],
+    work: &mut [u16],
+    count: usize,
+    rows: usize,
+) -> Built
+    requires { ⌜ Given n (now clauses) (now block) × (now fails ≡ failFlags n (clausesOf (now clauses)) (operatorIn (now block)) (clausesOf (now clauses))) × (2 * n ≤ length (now marks)) × (k < width) × Room rows count (now work) ⌝ }
+    ensures { λ r. ⌜ ((t : Task) → t .atoms ≡ n → Holds rows r (now (work .exit)) (putAll rows (addedBy t (clausesOf (now (clauses .entry))) k (operatorIn (now (block .entry)))) (some (held count (now (work .entry)))))) ⌝ }
+{
+    if !some_due(clauses, fails, k) {
+        return Built::Rows(count);
+    }
+    let mut list = list_room();
+    let length = list_guaranteed(clauses, block, n, marks, &mut list[..2048]);
+    weaken_rows(clauses, fails, &list[..length], k, work, count, rows)
+}
+
+// Puts each clause of `k` literals that fails under an operator in with each literal that the operator guarantees.
+fn weaken_operator(
+    image: &[u16],
+    clauses: &[u16],
+    n: usize,
+    operator: usize,
+    k: usize,
+    marks: &mut [u8],
+    fails: &mut [u8],
+    work: &mut [u16],
+    count: usize,
+    rows: usize,
+) -> Built
+    requires { ⌜ Read (now image) (now clauses) n × (operator < length (taskOf (now image) .operators)) × (2 * n ≤ length (now marks)) × (length (now fails) ≡ rowCount (now clauses)) × (k < width) × Room rows count (now work) ⌝ }
+    ensures { λ r. ⌜ Holds rows r (now (work .exit)) (putAll rows (addedBy (taskOf (now (image .entry))) (clausesOf (now (clauses .entry))) k (operatorAt (taskOf (now (image .entry))) operator)) (some (held count (now (work .entry))))) ⌝ }
+{
+    let block = task::operator_block(image, operator);
+    judge::bulk::judge(clauses, clauses, block, marks, n, fails);
+    weaken_under(clauses, block, n, fails, k, marks, work, count, rows)
+}
+
+// Puts in what all operators add for the failing clauses of `k` literals.
+fn weaken_operators(
+    image: &[u16],
+    clauses: &[u16],
+    n: usize,
+    k: usize,
+    marks: &mut [u8],
+    fails: &mut [u8],
+    work: &mut [u16],
+    count: usize,
+    rows: usize,
+) -> Built
+    requires { ⌜ Read (now image) (now clauses) n × (2 * n ≤ length (now marks)) × (length (now fails) ≡ rowCount (now clauses)) × (k < width) × Room rows count (now work) ⌝ }
+    ensures { λ r. ⌜ Holds rows r (now (work .exit)) (putAll rows (addedAt (taskOf (now (image .entry))) (clausesOf (now (clauses .entry))) k) (some (held count (now (work .entry))))) ⌝ }
+{
+    let operators = task::operators(image);
+    let mut taken = count;
+    let mut operator: usize = 0;
+    while operator < operators {
+        let built = weaken_operator(
+            image,
+            clauses,
+            n,
+            operator,
+            k,
+            marks,
+            fails,
+            work,
+            taken,
+            rows,
+        );
+        match built {
+            Built::Full => {
+                return Built::Full;
+            }
+            Built::Rows(more) => {
+                taken = more;
+            }
+        }
+        operator += 1;
+    }
+    Built::Rows(taken)
+}
+
+// Puts in the weakened clauses, those of 2 literals first, up to those of `most`.
+pub fn weaken(
+    image: &[u16],
+    clauses: &[u16],
+    n: usize,
+    most: usize,
+    marks: &mut [u8],
+    fails: &mut [u8],
+    work: &mut [u16],
+    count: usize,
+    rows: usize,
+) -> Built
+    requires { ⌜ Read (now image) (now clauses) n × (2 * n ≤ length (now marks)) × (length (now fails) ≡ rowCount (now clauses)) × (1 ≤ most) × (most ≤ width) × Room rows count (now work) ⌝ }
+    ensures { λ r. ⌜ Holds rows r (now (work .exit)) (putAll rows (addedFrom (taskOf (now (image .entry))) (clausesOf (now (clauses .entry))) 1 (most - 1)) (some (held count (now (work .entry))))) ⌝ }
+{
+    let mut taken = count;
+    let mut k: usize = 1;
+    while k < most {
+        let built = weaken_operators(image, clauses, n, k, marks, fails, work, taken, rows);
+        match built {
+            Built::Full => {
+                return Built::Full;
+            }
+            Built::Rows(more) => {
+                taken = more;
+            }
+        }
+        k += 1;
+    }
+    Built::Rows(taken)
+}

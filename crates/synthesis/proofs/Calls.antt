@@ -1,0 +1,165 @@
+-- The questions of a synthesis in turn. Assumes nothing.
+use mathlib.Core.Bool.{Bool, true, false, _&&_, cond}
+use mathlib.Core.Option.{Option, none, some}
+use mathlib.Core.Path.{_≡_, refl, sym, _∙_, ap, subst}
+use mathlib.Core.List.{List, [], _∷_, _++_}
+use Prim.Native.Nat.{ℕ, zero, suc, _+_, _-_, _*_, _/_, _≤_, _<_, min}
+use native.Mathlib.Omega.{arith}
+use native.Mathlib.Nat.{mul-le-mul-left}
+use lib.Dec.{leb}
+use lib.ListN.{length, getD, take, drop, replicate}
+use lib.Seq.{take-at}
+use borrow.Author.Tests.{leb-true, le-leb, lt-leb}
+use Rattle.definitions.specs.Lists.{all, ascending}
+use Rattle.definitions.specs.Answer.{Refusal, Answer, Outcome, finding, refused, refuse, verdict, outcome, ask, askAt, _>>=_}
+use Rattle.definitions.specs.Literal.{allBelow, literalList}
+use Rattle.definitions.specs.Image.{Operator, Task, part, directory, operatorOf, operatorRight, readOperator, readOperators, readTask}
+use Rattle.definitions.specs.Clauses.{width, mostRows, clauseWords}
+use Rattle.definitions.specs.Synthesis.{firstSet, tested, passes, nextOf, Found, Made, fits, rounds, rowsIn, synthesis, bufferAfter, madeOf, synthesisCall}
+use Rattle.definitions.proofs.ListLaws.{and-left, and-right}
+use Rattle.definitions.proofs.CheckSound.{not-finding}
+use Rattle.answer.specs.Answer.{refusalAt}
+use Rattle.clause.proofs.ReadLaws.{verdict-refused}
+use Rattle.task.specs.Reads.{taskOf, Reads}
+use Rattle.synthesis.specs.Rounds.{Begun}
+use Rattle.synthesis.proofs.Rounds.{first-size, first-words}
+
+-- ---- the questions of reading have low numbers
+abbrev Low : {A : Type 0} → Answer A → Type 0
+Low m = (r : Refusal) → m ≡ refused r → r .number ≤ 7
+
+number-of : {A : Type 0} (x r : Refusal) → _≡_ {A = Answer A} (refused x) (refused r) → x ≡ r
+number-of x r e = cc
+
+refused-low : {A : Type 0} (q i j : ℕ) → q ≤ 7 → Low {A = A} (refused (record { number = q; first = i; second = j }))
+refused-low q i j h r e =
+    let n : q ≡ r .number = ap (λ (x : Refusal). x .number) (number-of (record { number = q; first = i; second = j }) r e) in
+    omega arith
+
+finding-low : {A : Type 0} (a : A) → Low (finding a)
+finding-low a r e = absurd (not-finding (sym e))
+
+ask-low : (q i : ℕ) (b : Bool) → q ≤ 7 → Low (askAt q i b)
+unfolding askAt
+ask-low q i true h = finding-low tt
+ask-low q i false h = refused-low q i 0 h
+
+bind-low : {A B : Type 0} (m : Answer A) (k : A → Answer B) → Low m → ((a : A) → Low (k a)) → Low (m >>= k)
+unfolding _>>=_
+bind-low (finding a) k h f = f a
+bind-low (refused x) k h f = λ r e. h r (ap refused (number-of x r e))
+
+operator-low : (N i : ℕ) (b : List ℕ) → Low (readOperator N i b)
+unfolding readOperator refuse
+operator-low N i b = go (operatorOf b) refl
+  where
+    go : (x : Option Operator) → operatorOf b ≡ x → Low (readOperator N i b)
+    go none e = rw (e, readOperator) (refused-low 6 i 0 (omega arith))
+    go (some o) e = rw (e, readOperator) (bind-low (askAt 7 i (operatorRight N o)) (λ _. finding o) (ask-low 7 i (operatorRight N o) (omega arith)) (λ _. finding-low o))
+
+operators-low : (N : ℕ) (w : List ℕ) (i k : ℕ) → Low (readOperators N w i k)
+unfolding readOperators
+operators-low N w i zero = finding-low []
+operators-low N w i (suc k) =
+    bind-low (readOperator N i (part w (i + 2))) (λ o. readOperators N w (suc i) k >>= λ os. finding (o ∷ os)) (operator-low N i (part w (i + 2)))
+    (λ o. bind-low (readOperators N w (suc i) k) (λ os. finding (o ∷ os)) (operators-low N w (suc i) k) (λ os. finding-low (o ∷ os)))
+
+read-low : (w : List ℕ) → Low (readTask w)
+unfolding readTask ask
+read-low w =
+    let N = getD w 0 0 in
+    let M = getD w 1 0 in
+    bind-low (askAt 1 0 (leb 6 (length w) && leb (length w) 8192)) _ (ask-low 1 0 _ (omega arith))
+    (λ _. bind-low (askAt 2 0 (leb 1 N && leb N 1024 && leb M 1024)) _ (ask-low 2 0 _ (omega arith))
+    (λ _. bind-low (askAt 3 0 (directory w (M + 2))) _ (ask-low 3 0 _ (omega arith))
+    (λ _. bind-low (askAt 4 0 (ascending (part w 0) && allBelow N (part w 0))) _ (ask-low 4 0 _ (omega arith))
+    (λ _. bind-low (askAt 5 0 (literalList N (part w 1))) _ (ask-low 5 0 _ (omega arith))
+    (λ _. bind-low (readOperators N w 0 M) _ (operators-low N w 0 M) (λ os. finding-low _))))))
+
+-- ---- the clause buffer behind the rounds is the same for buffers of one length
+rounds-buffer : (t : Task) (n rows : ℕ) (c c′ : List ℕ) → length c ≡ length c′ → (k r : ℕ) (C : List (List ℕ)) → bufferAfter c (rounds t n rows r k C) ≡ bufferAfter c′ (rounds t n rows r k C)
+unfolding rounds refuse bufferAfter
+rounds-buffer t n rows c c′ e zero r C = go (all passes (tested t C)) refl
+  where
+    go : (b : Bool) → all passes (tested t C) ≡ b → bufferAfter c (rounds t n rows r 0 C) ≡ bufferAfter c′ (rounds t n rows r 0 C)
+    go true h = rw (h, rounds, e)
+    go false h = rw (h, rounds, e)
+rounds-buffer t n rows c c′ e (suc k) r C = go (all passes (tested t C)) refl (fits rows (nextOf t n C (tested t C))) refl (rounds-buffer t n rows c c′ e k (suc r) (nextOf t n C (tested t C)))
+  where
+    go : (b : Bool) → all passes (tested t C) ≡ b → (d : Bool) → fits rows (nextOf t n C (tested t C)) ≡ d → bufferAfter c (rounds t n rows (suc r) k (nextOf t n C (tested t C))) ≡ bufferAfter c′ (rounds t n rows (suc r) k (nextOf t n C (tested t C))) → bufferAfter c (rounds t n rows r (suc k) C) ≡ bufferAfter c′ (rounds t n rows r (suc k) C)
+    go true h d q rec = rw (h, rounds, e)
+    go false h true q rec = rw (h, rounds, q) rec
+    go false h false q rec = rw (h, rounds, q, e)
+
+-- ---- the call
+module _ (w : List ℕ) (n limit : ℕ) (old : List ℕ) (work marks : ℕ) where
+  pub call-read : (r : Refusal) → refused r ≡ verdict (readTask w) → outcome (refused r) old ≡ synthesisCall w n limit old work marks
+  unfolding synthesisCall synthesis _>>=_ madeOf bufferAfter outcome
+  call-read r h =
+      let e = verdict-refused (readTask w) r (sym h) in
+      rw (e, lt-leb 14 (r .number) (let l = read-low w r e in omega arith))
+
+  module _ (reads : Reads w) (m l : ℕ) (mn : m ≡ n) (ll : l ≡ limit) where
+    pub call-limits : (leb 1 m && leb m width && leb 1 l && leb l 65535) ≡ false → (x : Answer Made) → x ≡ refused (refusalAt 12 0 0) → outcome x old ≡ synthesisCall w n limit old work marks
+    unfolding synthesisCall synthesis _>>=_ ask askAt madeOf bufferAfter outcome
+    call-limits h x e = rw (e, ← mn, ← ll, reads .found, h)
+
+    module _ (right : (leb 1 m && leb m width && leb 1 l && leb l 65535) ≡ true) (a : ℕ) (atoms : a ≡ taskOf w .atoms) where
+      pub call-buffers : (leb (2 * a) marks && leb (length old) work) ≡ false → (x : Answer Made) → x ≡ refused (refusalAt 13 0 0) → outcome x old ≡ synthesisCall w n limit old work marks
+      unfolding synthesisCall synthesis _>>=_ ask askAt madeOf bufferAfter outcome
+      call-buffers h x e =
+          let h′ = rw atoms at h in
+          rw (e, ← mn, ← ll, reads .found, right, h′)
+
+      module _ (long : (leb (2 * a) marks && leb (length old) work) ≡ true) (rows : ℕ) (same : rows ≡ rowsIn (length old)) where
+        pub call-rows : rows < a → (y : Outcome Made) → y ≡ outcome (refused (refusalAt 14 0 0)) (replicate (length old) 0) → y ≡ synthesisCall w n limit old work marks
+        unfolding synthesisCall synthesis fits _>>=_ ask askAt madeOf bufferAfter outcome
+        call-rows h y e =
+            let long′ = rw atoms at long in
+            let size = first-size (taskOf w) in
+            e ∙ rw (← mn, ← ll, reads .found, right, long′, ← same, lt-leb (length (firstSet (taskOf w))) rows (omega arith))
+
+        module _ (inside : a ≤ rows) where
+          pub call-run : (c : List ℕ) → length c ≡ length old → (y : Outcome Made) → y ≡ outcome (madeOf (rounds (taskOf w) m rows 1 (l - 1) (firstSet (taskOf w)))) (bufferAfter c (rounds (taskOf w) m rows 1 (l - 1) (firstSet (taskOf w)))) → y ≡ synthesisCall w n limit old work marks
+          unfolding synthesisCall synthesis fits _>>=_ ask askAt
+          call-run c q y e =
+              let long′ = rw atoms at long in
+              let size = first-size (taskOf w) in
+              e
+              ∙ ap (outcome (madeOf (rounds (taskOf w) m rows 1 (l - 1) (firstSet (taskOf w))))) (rounds-buffer (taskOf w) m rows c old q (l - 1) 1 (firstSet (taskOf w)))
+              ∙ rw (← mn, ← ll, reads .found, right, long′, ← same, le-leb (length (firstSet (taskOf w))) rows (omega arith))
+
+          few : rows ≤ mostRows
+          unfolding rowsIn
+          few = let h = same in omega arith
+
+          room : width * rows ≤ length old
+          unfolding rowsIn width
+          room = let h = same in omega arith
+
+          pub call-room : width * a ≤ length old
+          call-room =
+              let h = mul-le-mul-left width inside in
+              let k = room in
+              omega arith
+
+          -- what is asked of the rounds
+          pub call-begun : a ≤ 1024 → (v c : List ℕ) → length v ≡ work → length c ≡ length old → c ≡ clauseWords (firstSet (taskOf w)) ++ drop (width * a) old → Begun w c v a m l rows marks
+          call-begun few-atoms v c vl cl e =
+              let r1 = and-left (leb 1 m && leb m width && leb 1 l) (leb l 65535) right in
+              let r2 = and-left (leb 1 m && leb m width) (leb 1 l) r1 in
+              let words = first-words w a reads atoms few-atoms in
+              record {
+                task = reads;
+                atoms = atoms;
+                few = few-atoms;
+                some-literal = leb-true 1 m (and-left (leb 1 m) (leb m width) r2);
+                narrow = leb-true m width (and-right (leb 1 m) (leb m width) r2);
+                some-round = leb-true 1 l (and-right (leb 1 m && leb m width) (leb 1 l) r1);
+                size = inside;
+                few-rows = few;
+                room = (let h = room in omega arith);
+                work = (let h = leb-true (length old) work (and-right (leb (2 * a) marks) (leb (length old) work) long) in omega arith);
+                marked = leb-true (2 * a) marks (and-left (leb (2 * a) marks) (leb (length old) work) long);
+                words = ap (take (width * a)) e ∙ take-at (clauseWords (firstSet (taskOf w))) (drop (width * a) old) (width * a) words;
+              }

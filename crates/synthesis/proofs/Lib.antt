@@ -1,0 +1,4 @@
+pub mod Units
+pub mod Limits
+pub mod Rounds
+pub mod Calls
