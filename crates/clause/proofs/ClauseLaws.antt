@@ -59,7 +59,7 @@ module _ (N : ℕ) (row : List ℕ) (right : clauseRight N row ≡ true) where
       go [] h = absurd (false≢true h)
       go (x ∷ f) h = omega arith
 
-clause-short : (row : List ℕ) → length (clauseOf row) ≤ length row
+pub clause-short : (row : List ℕ) → length (clauseOf row) ≤ length row
 unfolding clauseOf
 clause-short [] = omega arith
 clause-short (x ∷ row) = go (eqb x fill) refl (clause-short row)

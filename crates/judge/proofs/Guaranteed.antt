@@ -7,7 +7,7 @@ use Prim.Native.Nat.{ℕ, zero, suc, _+_, _*_, _<_}
 use native.Mathlib.Omega.{arith}
 use lib.Dec.{eqb}
 use lib.ListN.{length, getD, set, length-set}
-use lib.Seq.{getD-set-same, getD-set-other, ext-getD}
+use lib.Seq.{getD-set-same, getD-set-other, set-getD, ext-getD}
 use borrow.Author.Tests.{eqb-true, eqb-false, eq-eqb, ne-eqb}
 use Rattle.definitions.specs.Lists.{any, all, keep, range, below}
 use Rattle.definitions.specs.Literal.{complement}
@@ -231,6 +231,18 @@ module _ (N : ℕ) (C : List (List ℕ)) (ls : List ℕ) where
     pub drop-fires : (l : ℕ) (S′ : List ℕ) → l ≡ complement e → S′ ≡ set S l 0 → canFire N C ls cs ≡ true → dropChanged N C ls rs S ≡ dropChanged N C ls rs′ S′
     unfolding dropChanged
     drop-fires l S′ el es h = rw (next, h, es, el)
+
+    -- where the flag is zero already
+    pub drop-zero : (l : ℕ) → l ≡ complement e → getD S l 0 ≡ 0 → dropChanged N C ls rs S ≡ dropChanged N C ls rs′ S
+    unfolding dropChanged
+    drop-zero l el z = rw next (ap (dropChanged N C ls rs′) (go (canFire N C ls cs)))
+      where
+        same : set S (complement e) 0 ≡ S
+        same = sym (ap (λ x. set S (complement e) x) (rw (← el) z)) ∙ set-getD S (complement e) 0
+
+        go : (b : Bool) → cond b (set S (complement e) 0) S ≡ S
+        go true = same
+        go false = refl
 
     pub drop-passed : canFire N C ls cs ≡ false → dropChanged N C ls rs S ≡ dropChanged N C ls rs′ S
     unfolding dropChanged

@@ -6,7 +6,7 @@ ghost use lib.ListN.{length};
 ghost use Rattle.definitions.specs.Lists.{any, member};
 ghost use Rattle.definitions.specs.Literal.{complement};
 ghost use Rattle.clause.specs.Rows.{rowCount, clausesOf};
-ghost use Rattle.judge.specs.Judging.{lacksOther, isOther, flagMore, guaranteedFlags, violates, someViolates, failFlags};
+ghost use Rattle.judge.specs.Judging.{lacksOther, isOther, flagMore, guaranteedFlags, violates, someViolates, failFlags, Guarantees};
 ghost use Rattle.judge.specs.Promise.{Given, Judged, ConsistentClosure};
 ghost use Rattle.propagation.specs.Marks.{Asked, ConsistentMarks};
 ghost use Rattle.task.specs.Walk.{row, operatorIn};
@@ -114,7 +114,8 @@ fn flag_violated(
 }
 
 // Flags the judged clauses that a row with these conditions violates, where `l` is the complement of its effect and `base` has
-// the marks of the clauses' and the precondition's closure. Conditions that are marked add nothing to that closure.
+// the marks of the clauses' and the precondition's closure and `flags` the literals guaranteed by it. Conditions that are marked
+// add nothing to that closure.
 fn judge_row(
     clauses: &[u16],
     judged: &[u16],
@@ -122,15 +123,16 @@ fn judge_row(
     conditions: &[u16],
     l: u16,
     base: &[u8],
+    flags: &[u8],
     marks: &mut [u8],
     n: usize,
     fails: &mut [u8],
 )
-    requires { ⌜ Given n (now clauses) (now block) × Judged n (now judged) × ConsistentClosure n (now clauses) (operatorIn (now block) .precondition) (now base) × Asked n (now clauses) (now conditions) (now marks) × (length (now fails) ≡ rowCount (now judged)) ⌝ }
+    requires { ⌜ Given n (now clauses) (now block) × Judged n (now judged) × ConsistentClosure n (now clauses) (operatorIn (now block) .precondition) (now base) × Asked n (now clauses) (now conditions) (now marks) × (length (now fails) ≡ rowCount (now judged)) × ((ls : List ℕ) → ConsistentClosure n (now clauses) ls (now base) → now flags ≡ guaranteedFlags n (clausesOf (now clauses)) (operatorIn (now block)) ls) ⌝ }
     ensures { λ _. ⌜ ((e : ℕ) → l ≡ complement e → now (fails .exit) ≡ flagMore (violates n (clausesOf (now (clauses .entry))) (operatorIn (now (block .entry))) (row e (now (conditions .entry)))) (clausesOf (now (judged .entry))) (now (fails .entry))) ⌝ }
 {
     if propagation::holds_all(base, conditions) {
-        flag_violated(clauses, judged, block, l, base, n, fails);
+        flag_lacking(judged, l, flags, fails);
         return;
     }
     propagation::copy(base, marks, n);
@@ -143,17 +145,19 @@ fn judge_row(
     }
 }
 
-// Flags the judged clauses that some row violates, where `base` has the marks of the clauses' and the precondition's closure.
+// Flags the judged clauses that some row violates, where `base` has the marks of the clauses' and the precondition's closure and
+// `flags` the literals guaranteed by it.
 fn judge_rows(
     clauses: &[u16],
     judged: &[u16],
     block: &[u16],
     base: &[u8],
+    flags: &[u8],
     marks: &mut [u8],
     n: usize,
     fails: &mut [u8],
 )
-    requires { ⌜ Given n (now clauses) (now block) × Judged n (now judged) × ConsistentClosure n (now clauses) (operatorIn (now block) .precondition) (now base) × (2 * n ≤ length (now marks)) × (length (now fails) ≡ rowCount (now judged)) ⌝ }
+    requires { ⌜ Given n (now clauses) (now block) × Judged n (now judged) × ConsistentClosure n (now clauses) (operatorIn (now block) .precondition) (now base) × (2 * n ≤ length (now marks)) × (length (now fails) ≡ rowCount (now judged)) × ((ls : List ℕ) → ConsistentClosure n (now clauses) ls (now base) → now flags ≡ guaranteedFlags n (clausesOf (now clauses)) (operatorIn (now block)) ls) ⌝ }
     ensures { λ _. ⌜ now (fails .exit) ≡ flagMore (someViolates n (clausesOf (now (clauses .entry))) (operatorIn (now (block .entry))) (operatorIn (now (block .entry)) .rows)) (clausesOf (now (judged .entry))) (now (fails .entry)) ⌝ }
 {
     let BlockHead { end, rows } = task::block::head(block);
@@ -174,6 +178,7 @@ fn judge_rows(
             &block[from..end],
             l,
             base,
+            flags,
             marks,
             n,
             fails,
@@ -181,7 +186,8 @@ fn judge_rows(
     }
 }
 
-// Flags the judged clauses that some row violates, where the marks are those of the clauses' and the precondition's closure.
+// Flags the judged clauses that some row violates, and the literals that the operator guarantees, where the marks are those of the
+// clauses' and the precondition's closure.
 fn judge_consistent(
     clauses: &[u16],
     judged: &[u16],
@@ -189,14 +195,53 @@ fn judge_consistent(
     marks: &mut [u8],
     n: usize,
     fails: &mut [u8],
+    flags: &mut [u8],
 )
-    requires { ⌜ Given n (now clauses) (now block) × Judged n (now judged) × ConsistentClosure n (now clauses) (operatorIn (now block) .precondition) (now marks) × (length (now fails) ≡ rowCount (now judged)) ⌝ }
-    ensures { λ _. ⌜ now (fails .exit) ≡ flagMore (someViolates n (clausesOf (now (clauses .entry))) (operatorIn (now (block .entry))) (operatorIn (now (block .entry)) .rows)) (clausesOf (now (judged .entry))) (now (fails .entry)) ⌝ }
+    requires { ⌜ Given n (now clauses) (now block) × Judged n (now judged) × ConsistentClosure n (now clauses) (operatorIn (now block) .precondition) (now marks) × (length (now fails) ≡ rowCount (now judged)) × (length (now flags) ≡ 2 * n) ⌝ }
+    ensures { λ _. ⌜ (now (fails .exit) ≡ flagMore (someViolates n (clausesOf (now (clauses .entry))) (operatorIn (now (block .entry))) (operatorIn (now (block .entry)) .rows)) (clausesOf (now (judged .entry))) (now (fails .entry))) × (now (flags .exit) ≡ guaranteedFlags n (clausesOf (now (clauses .entry))) (operatorIn (now (block .entry))) (operatorIn (now (block .entry)) .precondition)) ⌝ }
 {
     let mut base = super::guarantee::room();
     let size = 2 * n;
     propagation::copy(marks, &mut base[..size], n);
-    judge_rows(clauses, judged, block, &base[..size], marks, n, fails);
+    super::guarantee::flag_guaranteed(clauses, block, &base[..size], n, flags);
+    judge_rows(
+        clauses,
+        judged,
+        block,
+        &base[..size],
+        flags,
+        marks,
+        n,
+        fails,
+    );
+}
+
+// Flags the judged clauses that the clauses do not keep under the operator of a block, and the literals that it guarantees. It
+// answers false, with flags of literals that say nothing, where the closure of the clauses and the precondition is contradictory:
+// then no clause fails under the operator.
+pub fn judge_guaranteed(
+    clauses: &[u16],
+    judged: &[u16],
+    block: &[u16],
+    marks: &mut [u8],
+    n: usize,
+    fails: &mut [u8],
+    flags: &mut [u8],
+) -> bool
+    requires { ⌜ Given n (now clauses) (now block) × Judged n (now judged) × (2 * n ≤ length (now marks)) × (length (now fails) ≡ rowCount (now judged)) × (length (now flags) ≡ 2 * n) ⌝ }
+    ensures { λ r. ⌜ (now (fails .exit) ≡ failFlags n (clausesOf (now (clauses .entry))) (operatorIn (now (block .entry))) (clausesOf (now (judged .entry)))) × Guarantees n (clausesOf (now (clauses .entry))) (operatorIn (now (block .entry))) (now (flags .exit)) r ⌝ }
+{
+    super::flags::clear(fails);
+    let head = task::block::head(block);
+    let end = head.end;
+    let closed = propagation::close(clauses, &block[1..end], marks, n);
+    match closed {
+        Closing::Contradictory => false,
+        Closing::Consistent => {
+            judge_consistent(clauses, judged, block, marks, n, fails, flags);
+            true
+        }
+    }
 }
 
 // Flags the judged clauses that the clauses do not keep under the operator of a block.
@@ -211,14 +256,7 @@ pub fn judge(
     requires { ⌜ Given n (now clauses) (now block) × Judged n (now judged) × (2 * n ≤ length (now marks)) × (length (now fails) ≡ rowCount (now judged)) ⌝ }
     ensures { λ _. ⌜ now (fails .exit) ≡ failFlags n (clausesOf (now (clauses .entry))) (operatorIn (now (block .entry))) (clausesOf (now (judged .entry))) ⌝ }
 {
-    super::flags::clear(fails);
-    let head = task::block::head(block);
-    let end = head.end;
-    let closed = propagation::close(clauses, &block[1..end], marks, n);
-    match closed {
-        Closing::Contradictory => {}
-        Closing::Consistent => {
-            judge_consistent(clauses, judged, block, marks, n, fails);
-        }
-    }
+    let mut flags = super::guarantee::room();
+    let size = 2 * n;
+    judge_guaranteed(clauses, judged, block, marks, n, fails, &mut flags[..size]);
 }

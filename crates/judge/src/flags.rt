@@ -1,7 +1,8 @@
 // Flags: a byte each, 1 for what has it.
 ghost use mathlib.Core.Path.{_≡_};
+ghost use mathlib.Core.Bool.{true};
 ghost use Prim.Native.Nat.{_<_};
-ghost use lib.ListN.{length, set, replicate};
+ghost use lib.ListN.{length, getD, set, replicate};
 ghost use Rattle.definitions.specs.Closure.{has};
 
 // Whether `i` has its flag.
@@ -10,6 +11,17 @@ pub fn has(flags: &[u8], i: usize) -> bool
 {
     if i < flags.len() {
         flags[i] == 1
+    } else {
+        false
+    }
+}
+
+// Whether the byte of `i` is zero, if it has a place.
+pub fn is_zero(flags: &[u8], i: usize) -> bool
+    ensures { λ r. ⌜ (r ≡ true → (getD (now (flags .entry)) i 0 ≡ 0) × (i < length (now (flags .entry)))) ⌝ }
+{
+    if i < flags.len() {
+        flags[i] == 0
     } else {
         false
     }

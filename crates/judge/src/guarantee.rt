@@ -90,10 +90,14 @@ fn drop_changed(
         let RowPart { effect, from, end } = task::block::row(block, at, left);
         at = end;
         left -= 1;
+        let l = literal::wide(complement(effect));
+        if super::flags::is_zero(flags, l) {
+            continue;
+        }
         if !can_fire(clauses, &block[from..end], marks, n, work) {
             continue;
         }
-        super::flags::put(flags, literal::wide(complement(effect)), 0);
+        super::flags::put(flags, l, 0);
     }
 }
 
@@ -126,28 +130,4 @@ pub fn flag_guaranteed(clauses: &[u16], block: &[u16], marks: &[u8], n: usize, f
     flag_marked(marks, n, flags);
     drop_changed(clauses, block, marks, n, &mut work[..end], flags);
     add_effects(block, marks, flags);
-}
-
-// Flags the literals that the operator of a block guarantees. It answers false, with flags that say nothing, where the closure of
-// the clauses and the precondition is contradictory: then no clause fails under the operator.
-pub fn flag_operator(
-    clauses: &[u16],
-    block: &[u16],
-    marks: &mut [u8],
-    n: usize,
-    flags: &mut [u8],
-) -> bool
-    requires { ⌜ Given n (now clauses) (now block) × (2 * n ≤ length (now marks)) × (length (now flags) ≡ 2 * n) ⌝ }
-    ensures { λ r. ⌜ Guarantees n (clausesOf (now (clauses .entry))) (operatorIn (now (block .entry))) (now (flags .exit)) r ⌝ }
-{
-    let head = task::block::head(block);
-    let end = head.end;
-    let closed = propagation::close(clauses, &block[1..end], marks, n);
-    match closed {
-        Closing::Contradictory => false,
-        Closing::Consistent => {
-            flag_guaranteed(clauses, block, marks, n, flags);
-            true
-        }
-    }
 }

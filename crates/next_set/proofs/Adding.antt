@@ -164,11 +164,15 @@ rows-more N M w h r = record { ascending = r .ascending; right = λ i k. right i
         let a = and-left (not (empty f) && literalList N f) same e in
         and-both (and-both (and-left (not (empty f)) (literalList N f) a) (list-more N M f h (and-right (not (empty f)) (literalList N f) a))) (and-right (not (empty f) && literalList N f) same e)
 
+-- a flag for each clause
+pub fail-count : (C : List (List ℕ)) (o : Operator) (n : ℕ) (flags : List ℕ) → flags ≡ failFlags n C o C → length flags ≡ length C
+unfolding failFlags
+fail-count C o n flags fails = flags-length (λ f. not (kept n C o f)) C flags fails
+
 -- ---- one operator, by the rows of clause words
 module _ (w : List ℕ) (o : Operator) (n k : ℕ) (flags : List ℕ) (fails : flags ≡ failFlags n (clausesOf w) o (clausesOf w)) where
   pub fails-length : length flags ≡ rowCount w
-  unfolding failFlags
-  fails-length = flags-length (λ f. not (kept n (clausesOf w) o f)) (clausesOf w) flags fails ∙ clauses-length w
+  fails-length = fail-count (clausesOf w) o n flags fails ∙ clauses-length w
 
   pub weakening : n ≤ 1024 → ClausesRead n w → (list : List ℕ) → allBelow (2 * mostAtoms) list ≡ true → k < width → Weakening w flags list k
   weakening few read list low short =

@@ -7,3 +7,4 @@ pub mod Testing
 pub mod Adding
 pub mod Copying
 pub mod Surviving
+pub mod Noting

@@ -10,7 +10,7 @@ ghost use Rattle.clause.specs.Rows.{rowCount, clausesOf};
 ghost use Rattle.task.specs.Reads.{taskOf};
 ghost use Rattle.clause_set.specs.Held.{Holds};
 ghost use Rattle.next_set.specs.Build.{failsBelow, fitted};
-ghost use Rattle.next_set.specs.Post.{Copied, Round};
+ghost use Rattle.next_set.specs.Post.{Copied, Round, Told};
 use clause::WIDTH;
 use clause_set::Built;
 
@@ -37,7 +37,7 @@ fn copy_unflagged(clauses: &[u16], flags: &[u8], work: &mut [u16]) -> usize
     count
 }
 
-// Builds the next set in `work`, where the clauses that fail have their flag.
+// Builds the next set in `work`, where the clauses that fail have their flag and `due` tells which operators fail clauses of which lengths.
 pub fn next_set(
     image: &[u16],
     clauses: &[u16],
@@ -45,13 +45,25 @@ pub fn next_set(
     most: usize,
     rows: usize,
     failing: &[u8],
+    due: &[u8],
     marks: &mut [u8],
     fails: &mut [u8],
     work: &mut [u16],
 ) -> Built
-    requires { ⌜ Round (now image) (now clauses) n most rows × (now failing ≡ map (λ f. bit (failsBelow (taskOf (now image)) (clausesOf (now clauses)) (length (taskOf (now image) .operators)) f)) (clausesOf (now clauses))) × (2 * n ≤ length (now marks)) × (length (now fails) ≡ rowCount (now clauses)) × (width * rows ≤ length (now work)) ⌝ }
+    requires { ⌜ Round (now image) (now clauses) n most rows × (now failing ≡ map (λ f. bit (failsBelow (taskOf (now image)) (clausesOf (now clauses)) (length (taskOf (now image) .operators)) f)) (clausesOf (now clauses))) × Told (taskOf (now image)) (clausesOf (now clauses)) (now due) × (2 * n ≤ length (now marks)) × (length (now fails) ≡ rowCount (now clauses)) × (width * rows ≤ length (now work)) ⌝ }
     ensures { λ r. ⌜ Holds rows r (now (work .exit)) (fitted rows (next (taskOf (now (image .entry))) most (clausesOf (now (clauses .entry))))) ⌝ }
 {
     let count = copy_unflagged(clauses, failing, work);
-    weaken::weaken(image, clauses, n, most, marks, fails, work, count, rows)
+    weaken::weaken(
+        image,
+        clauses,
+        n,
+        most,
+        due,
+        marks,
+        fails,
+        work,
+        count,
+        rows,
+    )
 }

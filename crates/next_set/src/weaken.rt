@@ -11,11 +11,12 @@ ghost use Rattle.clause.specs.Rows.{rowCount, clausesOf, RightRows};
 ghost use Rattle.task.specs.Reads.{taskOf};
 ghost use Rattle.task.specs.Walk.{operatorIn};
 ghost use Rattle.judge.specs.Judging.{failFlags};
-ghost use Rattle.judge.specs.Promise.{Given};
+ghost use Rattle.judge.specs.Promise.{Given, Judged};
 ghost use Rattle.clause_set.specs.Put.{putAll};
 ghost use Rattle.clause_set.specs.Held.{held, Room, Holds};
 ghost use Rattle.next_set.specs.Build.{isDue, addedRow, addedBy, addedAt, addedFrom};
-ghost use Rattle.next_set.specs.Post.{Read, Listed, ListedGuarantees, Weakening};
+ghost use Rattle.next_set.specs.Post.{Read, Listed, ListedGuarantees, Weakening, Told};
+use clause::WIDTH;
 use clause_set::Built;
 
 // Room for a word for each literal.
@@ -44,20 +45,30 @@ fn list_flagged(flags: &[u8], list: &mut [u16]) -> usize
     count
 }
 
-// Lists the literals that the operator of a block guarantees, where the closure of the clauses and its precondition is not contradictory.
-fn list_guaranteed(
+// Flags the clauses that fail under the operator of a block, and lists the literals that it guarantees, where the closure of the
+// clauses and its precondition is not contradictory.
+fn judge_listed(
     clauses: &[u16],
     block: &[u16],
     n: usize,
     marks: &mut [u8],
+    fails: &mut [u8],
     list: &mut [u16],
 ) -> usize
-    requires { ⌜ Given n (now clauses) (now block) × (2 * n ≤ length (now marks)) × (length (now list) ≡ 2048) ⌝ }
-    ensures { λ r. ⌜ ListedGuarantees n (clausesOf (now (clauses .entry))) (operatorIn (now (block .entry))) (now (list .exit)) r ⌝ }
+    requires { ⌜ Given n (now clauses) (now block) × Judged n (now clauses) × (2 * n ≤ length (now marks)) × (length (now fails) ≡ rowCount (now clauses)) × (length (now list) ≡ 2048) ⌝ }
+    ensures { λ r. ⌜ (now (fails .exit) ≡ failFlags n (clausesOf (now (clauses .entry))) (operatorIn (now (block .entry))) (clausesOf (now (clauses .entry)))) × ListedGuarantees n (clausesOf (now (clauses .entry))) (operatorIn (now (block .entry))) (now (list .exit)) r ⌝ }
 {
     let mut flags = judge::guarantee::room();
     let size = 2 * n;
-    if !judge::guarantee::flag_operator(clauses, block, marks, n, &mut flags[..size]) {
+    if !judge::bulk::judge_guaranteed(
+        clauses,
+        clauses,
+        block,
+        marks,
+        n,
+        fails,
+        &mut flags[..size],
+    ) {
         return 0;
     }
     list_flagged(&flags[..size], list)
@@ -148,30 +159,6 @@ fn weaken_under(
     clauses: &[u16],
     block: &[u16],
     n: usize,
-    fails: &[u8],
-    k: usize,
-    marks: &mut [u8],
-    work: &mut [u16],
-    count: usize,
-    rows: usize,
-) -> Built
-    requires { ⌜ Given n (now clauses) (now block) × (now fails ≡ failFlags n (clausesOf (now clauses)) (operatorIn (now block)) (clausesOf (now clauses))) × (2 * n ≤ length (now marks)) × (k < width) × Room rows count (now work) ⌝ }
-    ensures { λ r. ⌜ ((t : Task) → t .atoms ≡ n → Holds rows r (now (work .exit)) (putAll rows (addedBy t (clausesOf (now (clauses .entry))) k (operatorIn (now (block .entry)))) (some (held count (now (work .entry)))))) ⌝ }
-{
-    if !some_due(clauses, fails, k) {
-        return Built::Rows(count);
-    }
-    let mut list = list_room();
-    let length = list_guaranteed(clauses, block, n, marks, &mut list[..2048]);
-    weaken_rows(clauses, fails, &list[..length], k, work, count, rows)
-}
-
-// Puts each clause of `k` literals that fails under an operator in with each literal that the operator guarantees.
-fn weaken_operator(
-    image: &[u16],
-    clauses: &[u16],
-    n: usize,
-    operator: usize,
     k: usize,
     marks: &mut [u8],
     fails: &mut [u8],
@@ -179,12 +166,40 @@ fn weaken_operator(
     count: usize,
     rows: usize,
 ) -> Built
-    requires { ⌜ Read (now image) (now clauses) n × (operator < length (taskOf (now image) .operators)) × (2 * n ≤ length (now marks)) × (length (now fails) ≡ rowCount (now clauses)) × (k < width) × Room rows count (now work) ⌝ }
+    requires { ⌜ Given n (now clauses) (now block) × Judged n (now clauses) × (2 * n ≤ length (now marks)) × (length (now fails) ≡ rowCount (now clauses)) × (k < width) × Room rows count (now work) ⌝ }
+    ensures { λ r. ⌜ ((t : Task) → t .atoms ≡ n → Holds rows r (now (work .exit)) (putAll rows (addedBy t (clausesOf (now (clauses .entry))) k (operatorIn (now (block .entry)))) (some (held count (now (work .entry)))))) ⌝ }
+{
+    let mut list = list_room();
+    let length = judge_listed(clauses, block, n, marks, fails, &mut list[..2048]);
+    if !some_due(clauses, fails, k) {
+        return Built::Rows(count);
+    }
+    weaken_rows(clauses, fails, &list[..length], k, work, count, rows)
+}
+
+// Puts each clause of `k` literals that fails under an operator in with each literal that the operator guarantees, unless `due`
+// tells that there is none.
+fn weaken_operator(
+    image: &[u16],
+    clauses: &[u16],
+    n: usize,
+    operator: usize,
+    k: usize,
+    due: &[u8],
+    marks: &mut [u8],
+    fails: &mut [u8],
+    work: &mut [u16],
+    count: usize,
+    rows: usize,
+) -> Built
+    requires { ⌜ Read (now image) (now clauses) n × (operator < length (taskOf (now image) .operators)) × (operator < 1024) × Told (taskOf (now image)) (clausesOf (now clauses)) (now due) × (2 * n ≤ length (now marks)) × (length (now fails) ≡ rowCount (now clauses)) × (k < width) × Room rows count (now work) ⌝ }
     ensures { λ r. ⌜ Holds rows r (now (work .exit)) (putAll rows (addedBy (taskOf (now (image .entry))) (clausesOf (now (clauses .entry))) k (operatorAt (taskOf (now (image .entry))) operator)) (some (held count (now (work .entry))))) ⌝ }
 {
+    if judge::flags::is_zero(due, WIDTH * operator + k) {
+        return Built::Rows(count);
+    }
     let block = task::operator_block(image, operator);
-    judge::bulk::judge(clauses, clauses, block, marks, n, fails);
-    weaken_under(clauses, block, n, fails, k, marks, work, count, rows)
+    weaken_under(clauses, block, n, k, marks, fails, work, count, rows)
 }
 
 // Puts in what all operators add for the failing clauses of `k` literals.
@@ -193,13 +208,14 @@ fn weaken_operators(
     clauses: &[u16],
     n: usize,
     k: usize,
+    due: &[u8],
     marks: &mut [u8],
     fails: &mut [u8],
     work: &mut [u16],
     count: usize,
     rows: usize,
 ) -> Built
-    requires { ⌜ Read (now image) (now clauses) n × (2 * n ≤ length (now marks)) × (length (now fails) ≡ rowCount (now clauses)) × (k < width) × Room rows count (now work) ⌝ }
+    requires { ⌜ Read (now image) (now clauses) n × Told (taskOf (now image)) (clausesOf (now clauses)) (now due) × (2 * n ≤ length (now marks)) × (length (now fails) ≡ rowCount (now clauses)) × (k < width) × Room rows count (now work) ⌝ }
     ensures { λ r. ⌜ Holds rows r (now (work .exit)) (putAll rows (addedAt (taskOf (now (image .entry))) (clausesOf (now (clauses .entry))) k) (some (held count (now (work .entry))))) ⌝ }
 {
     let operators = task::operators(image);
@@ -212,6 +228,7 @@ fn weaken_operators(
             n,
             operator,
             k,
+            due,
             marks,
             fails,
             work,
@@ -237,19 +254,20 @@ pub fn weaken(
     clauses: &[u16],
     n: usize,
     most: usize,
+    due: &[u8],
     marks: &mut [u8],
     fails: &mut [u8],
     work: &mut [u16],
     count: usize,
     rows: usize,
 ) -> Built
-    requires { ⌜ Read (now image) (now clauses) n × (2 * n ≤ length (now marks)) × (length (now fails) ≡ rowCount (now clauses)) × (1 ≤ most) × (most ≤ width) × Room rows count (now work) ⌝ }
+    requires { ⌜ Read (now image) (now clauses) n × Told (taskOf (now image)) (clausesOf (now clauses)) (now due) × (2 * n ≤ length (now marks)) × (length (now fails) ≡ rowCount (now clauses)) × (1 ≤ most) × (most ≤ width) × Room rows count (now work) ⌝ }
     ensures { λ r. ⌜ Holds rows r (now (work .exit)) (putAll rows (addedFrom (taskOf (now (image .entry))) (clausesOf (now (clauses .entry))) 1 (most - 1)) (some (held count (now (work .entry))))) ⌝ }
 {
     let mut taken = count;
     let mut k: usize = 1;
     while k < most {
-        let built = weaken_operators(image, clauses, n, k, marks, fails, work, taken, rows);
+        let built = weaken_operators(image, clauses, n, k, due, marks, fails, work, taken, rows);
         match built {
             Built::Full => {
                 return Built::Full;

@@ -68,6 +68,11 @@ fn flag_room() -> [u8; 10000]
     [0u8; 10000]
 }
 
+// Room for a flag for each operator and number of literals.
+fn due_room() -> [u8; 1025 * WIDTH] {
+    [0u8; 1025 * WIDTH]
+}
+
 // A round on the clauses, with a flag for each: the test, and the next set in `work` if a clause fails and this is not the last round.
 fn round_flagged(
     image: &[u16],
@@ -79,19 +84,31 @@ fn round_flagged(
     marks: &mut [u8],
     fails: &mut [u8],
     failing: &mut [u8],
+    due: &mut [u8],
     work: &mut [u16],
 ) -> Step
     requires { ⌜ Round (now image) (now clauses) n most rows × (2 * n ≤ length (now marks)) × (length (now fails) ≡ rowCount (now clauses)) × (length (now failing) ≡ rowCount (now clauses)) × (width * rows ≤ length (now work)) ⌝ }
     ensures { λ r. ⌜ Stepped (taskOf (now (image .entry))) most rows last (clausesOf (now (clauses .entry))) (now (work .exit)) r ⌝ }
 {
-    next_set::test::test(image, clauses, n, marks, fails, failing);
+    next_set::test::test(image, clauses, n, marks, fails, failing, due);
     if !next_set::test::some_flag(failing) {
         return Step::Finished;
     }
     if last {
         return Step::OutOfRounds;
     }
-    let built = next_set::next_set(image, clauses, n, most, rows, failing, marks, fails, work);
+    let built = next_set::next_set(
+        image,
+        clauses,
+        n,
+        most,
+        rows,
+        failing,
+        due,
+        marks,
+        fails,
+        work,
+    );
     match built {
         Built::Full => Step::OutOfRows,
         Built::Rows(k) => Step::Next(k),
@@ -114,6 +131,7 @@ fn round(
 {
     let mut fails = flag_room();
     let mut failing = flag_room();
+    let mut due = due_room();
     let size = clause::rows(clauses);
     round_flagged(
         image,
@@ -125,6 +143,7 @@ fn round(
         marks,
         &mut fails[..size],
         &mut failing[..size],
+        &mut due,
         work,
     )
 }

@@ -1,7 +1,10 @@
--- `judge::bulk::judge_row`: by the closure with the row's conditions, which is the closure at hand where it holds them.
-use mathlib.Core.Path.{sym, _∙_}
+-- `judge::bulk::judge_row`: by the closure with the row's conditions, which is the closure at hand where it holds them. Assumes nothing.
+use mathlib.Core.Path.{sym, _∙_, ap}
+use denote.Ref.{now}
 use native.Mathlib.Omega.{arith}
+use Rattle.clause.specs.Rows.{clausesOf}
 use Rattle.propagation.proofs.Marks.{marked-room, told-consistent, told-contradictory}
+use Rattle.judge.specs.Judging.{lacksOther, flagMore}
 use Rattle.judge.proofs.Closures.{closure-consistent, closure-told, closure-copied, closure-with}
 use Rattle.judge.proofs.Turns.{judged-low, row-contradictory, row-judged}
 use borrow.Author.Needs.{needs}
@@ -11,10 +14,8 @@ use Rattle.judge.proofs.bulk.judge_row.Tie as tie
 holds-all-requires : tie.Need-holds-all-requires
 holds-all-requires c κs = search needs
 
-flag-violated-requires : tie.Need-flag-violated-requires
-flag-violated-requires c κs =
-    let p = c .before .before .before .before .before .before .before .before .before .before .pre in
-    (p .0, closure-consistent _ _ _ _ (p .2), p .4)
+flag-lacking-requires : tie.Need-flag-lacking-requires
+flag-lacking-requires c κs = c .before .before .before .before .before .before .before .before .before .before .before .pre .4
 
 same-length : tie.Need-same-length
 same-length c = search needs
@@ -22,17 +23,18 @@ same-length c = search needs
 returns : tie.Need-returns
 returns c =
     λ e el.
-    let p = c .before .before .before .before .before .before .before .before .before .before .before .before .before .pre in
+    let a = c .before .before .before .before .before .before .before .before .before .before .before .before .before .before .args in
+    let p = c .before .before .before .before .before .before .before .before .before .before .before .before .before .before .pre in
     let held = sym (c .before .before .before .before .before .holds-all .ensures _ _ (p .2 .marked) (p .3 .below)) ∙ c .before .before .before .before .if1 .taken in
     let closed = closure-with _ _ _ _ (p .0 .rows) _ held (p .2) in
-    row-judged _ _ _ _ e _ _ (judged-low _ _ (p .1)) (closed .consistent) _ _ el (c .before .before .flag-violated .ensures _ closed)
+    row-judged _ _ _ _ e _ _ (judged-low _ _ (p .1)) (closed .consistent) _ _ el (c .before .before .flag-lacking .ensures ∙ ap (λ G. flagMore (lacksOther (a .l) G) (clausesOf (now (a .judged))) (now (a .fails))) (p .5 _ closed))
 
 copy-requires : tie.Need-copy-requires
-copy-requires c κs = (marked-room _ _ _ (c .before .before .before .before .before .before .before .before .before .before .pre .2 .marked), c .before .before .before .before .before .before .before .before .before .before .pre .3 .room)
+copy-requires c κs = (marked-room _ _ _ (c .before .before .before .before .before .before .before .before .before .before .before .pre .2 .marked), c .before .before .before .before .before .before .before .before .before .before .before .pre .3 .room)
 
 extend-requires : tie.Need-extend-requires
 extend-requires c κs =
-    let p = c .before .before .before .before .before .before .before .before .before .before .before .before .before .before .pre in
+    let p = c .before .before .before .before .before .before .before .before .before .before .before .before .before .before .before .pre in
     let k = c .before .before .before .copy in
     (record { few = p .0 .few; room = omega (arith, p .3 .room, k .kept .1 .0); rows = p .0 .rows; below = p .3 .below }, closure-consistent _ _ _ _ (closure-copied _ _ _ _ _ (p .2) (k .ensures .1)))
 
@@ -42,9 +44,9 @@ enum-told c = c .match .keys1
 enum-told-2 : tie.Need-enum-told-2
 enum-told-2 c = c .match .keys2
 
-flag-violated-requires-2 : tie.Need-flag-violated-requires-2
-flag-violated-requires-2 c κs =
-    let p = c .before .before .before .before .before .before .before .before .before .before .before .before .before .before .before .before .before .before .before .before .before .pre in
+flag-violated-requires : tie.Need-flag-violated-requires
+flag-violated-requires c κs =
+    let p = c .before .before .before .before .before .before .before .before .before .before .before .before .before .before .before .before .before .before .before .before .before .before .pre in
     let k = c .before .before .before .before .before .before .extend .ensures .1 _ (c .before .before .before .before .before .before .before .before .before .before .copy .ensures .1 _ (p .2 .marked)) in
     (p .0, closure-consistent _ _ _ _ (closure-told _ _ _ _ (told-consistent _ _ _ _ _ k (c .before .before .enum-told2 .given .1))), p .4)
 
@@ -54,7 +56,7 @@ same-length-2 c = search needs
 returns-2 : tie.Need-returns-2
 returns-2 c =
     λ e el.
-    let p = c .before .before .before .before .before .before .before .before .before .before .before .before .before .before .before .before .before .before .before .pre in
+    let p = c .before .before .before .before .before .before .before .before .before .before .before .before .before .before .before .before .before .before .before .before .pre in
     let k = c .before .before .before .before .extend .ensures .1 _ (c .before .before .before .before .before .before .before .before .copy .ensures .1 _ (p .2 .marked)) in
     row-contradictory _ _ _ _ e _ _ (told-contradictory _ _ _ _ _ k (c .enum-told .given .1))
 
@@ -67,24 +69,24 @@ same-length-4 c = search needs
 returns-3 : tie.Need-returns-3
 returns-3 c =
     λ e el.
-    let p = c .before .before .before .before .before .before .before .before .before .before .before .before .before .before .before .before .before .before .before .before .before .before .before .before .pre in
+    let p = c .before .before .before .before .before .before .before .before .before .before .before .before .before .before .before .before .before .before .before .before .before .before .before .before .before .pre in
     let k = c .before .before .before .before .before .before .before .before .before .extend .ensures .1 _ (c .before .before .before .before .before .before .before .before .before .before .before .before .before .copy .ensures .1 _ (p .2 .marked)) in
     let closed = closure-told _ _ _ _ (told-consistent _ _ _ _ _ k (c .before .before .before .before .before .enum-told2 .given .1)) in
-    row-judged _ _ _ _ e _ _ (judged-low _ _ (p .1)) (closed .consistent) _ _ el (c .before .before .flag-violated2 .ensures _ closed)
+    row-judged _ _ _ _ e _ _ (judged-low _ _ (p .1)) (closed .consistent) _ _ el (c .before .before .flag-violated .ensures _ closed)
 
 pub judge-row-spec : {M : Type 1} → statement M
 judge-row-spec =
     tie.close
     (tie.spec
     holds-all-requires
-    flag-violated-requires
+    flag-lacking-requires
     same-length
     returns
     copy-requires
     extend-requires
     enum-told
     enum-told-2
-    flag-violated-requires-2
+    flag-violated-requires
     same-length-2
     returns-2
     same-length-3

@@ -11,7 +11,7 @@ use Rattle.task.proofs.Blocks.{rows-none}
 use Rattle.judge.specs.Promise.{ConsistentClosure}
 use Rattle.judge.specs.Judging.{dropChanged}
 use Rattle.judge.proofs.BlockRows.{Left, left-start, left-next, effect-low, conditions-low}
-use Rattle.judge.proofs.Guaranteed.{drop-start, drop-fires, drop-passed, drop-end}
+use Rattle.judge.proofs.Guaranteed.{drop-start, drop-fires, drop-zero, drop-passed, drop-end}
 use borrow.Author.Needs.{needs}
 use Rattle.judge.proofs.guarantee.drop_changed.Statement.{statement}
 use Rattle.judge.proofs.guarantee.drop_changed.Tie as tie
@@ -39,6 +39,28 @@ row-requires c κs = (c .before .loop .inv .2 .parses, c .loop-test .taken)
 sub-left : tie.Need-sub-left Inv-loop μ-loop
 sub-left c = search needs
 
+complement-requires : tie.Need-complement-requires Inv-loop μ-loop
+complement-requires c κs =
+    let p = c .before .before .before .before .before .before .before .before .before .pre in
+    let i = c .before .before .loop .inv in
+    let r = c .row .ensures in
+    omega (arith, effect-low _ _ _ _ _ _ _ (i .2) r, p .0 .few)
+
+wide-requires : tie.Need-wide-requires Inv-loop μ-loop
+wide-requires c κs = search needs
+
+is-zero-requires : tie.Need-is-zero-requires Inv-loop μ-loop
+is-zero-requires c κs = search needs
+
+loop-less : tie.Need-loop-less Inv-loop μ-loop
+loop-less c = search needs
+
+loop-again : tie.Need-loop-again Inv-loop μ-loop
+loop-again c =
+    let i = c .before .before .before .before .before .before .before .loop .inv in
+    let r = c .before .before .before .before .before .row .ensures in
+    (i .0, i .1, left-next _ _ _ _ _ _ _ (i .2) r, λ ls closed. i .3 ls closed ∙ drop-zero _ _ ls _ _ _ _ _ (r .row) _ (c .before .before .before .wide .ensures .0 ∙ c .before .before .before .before .complement .ensures) (c .before .is-zero .ensures (c .if1 .taken) .0))
+
 mul-can-fire : tie.Need-mul-can-fire Inv-loop μ-loop
 mul-can-fire c = search needs
 
@@ -53,40 +75,30 @@ part-can-fire-end c = search needs
 
 can-fire-requires : tie.Need-can-fire-requires Inv-loop μ-loop
 can-fire-requires c κs =
-    let p = c .before .before .before .before .before .before .before .before .before .before .before .pre in
-    let i = c .before .before .before .before .loop .inv in
-    (record { few = p .0 .few; room = omega (arith, p .2, i .0); rows = p .0 .rows; below = conditions-low _ _ _ _ _ _ _ (i .2) (c .before .before .row .ensures) }, p .1)
-
-loop-less : tie.Need-loop-less Inv-loop μ-loop
-loop-less c = search needs
-
-loop-again : tie.Need-loop-again Inv-loop μ-loop
-loop-again c =
-    let i = c .before .before .before .before .before .before .before .before .loop .inv in
-    let r = c .before .before .before .before .before .before .row .ensures in
-    (c .before .before .before .can-fire .kept .1 .1 .1 .1 .0 ∙ i .0, i .1, left-next _ _ _ _ _ _ _ (i .2) r, λ ls closed. i .3 ls closed ∙ drop-passed _ _ ls _ _ _ _ _ (r .row) (sym (c .before .before .before .can-fire .ensures ls closed) ∙ not-true _ (c .if1 .taken)))
-
-complement-requires : tie.Need-complement-requires Inv-loop μ-loop
-complement-requires c κs =
     let p = c .before .before .before .before .before .before .before .before .before .before .before .before .before .before .before .before .pre in
     let i = c .before .before .before .before .before .before .before .before .before .loop .inv in
-    let r = c .before .before .before .before .before .before .before .row .ensures in
-    omega (arith, effect-low _ _ _ _ _ _ _ (i .2) r, p .0 .few)
-
-wide-requires : tie.Need-wide-requires Inv-loop μ-loop
-wide-requires c κs = search needs
-
-put-requires : tie.Need-put-requires Inv-loop μ-loop
-put-requires c κs = search needs
+    (record { few = p .0 .few; room = omega (arith, p .2, i .0); rows = p .0 .rows; below = conditions-low _ _ _ _ _ _ _ (i .2) (c .before .before .before .before .before .before .before .row .ensures) }, p .1)
 
 loop-less-2 : tie.Need-loop-less-2 Inv-loop μ-loop
 loop-less-2 c = search needs
 
 loop-again-2 : tie.Need-loop-again-2 Inv-loop μ-loop
 loop-again-2 c =
-    let i = c .before .before .before .before .before .before .before .before .before .before .before .before .before .before .loop .inv in
-    let r = c .before .before .before .before .before .before .before .before .before .before .before .before .row .ensures in
-    (c .before .before .before .before .before .before .before .before .before .can-fire .kept .1 .1 .1 .1 .0 ∙ i .0, c .before .before .put .kept .0 ∙ i .1, left-next _ _ _ _ _ _ _ (i .2) r, λ ls closed. i .3 ls closed ∙ drop-fires _ _ ls _ _ _ _ _ (r .row) _ _ (c .before .before .before .wide .ensures .0 ∙ c .before .before .before .before .complement .ensures) (c .before .before .put .ensures) (sym (c .before .before .before .before .before .before .before .before .before .can-fire .ensures ls closed) ∙ not-false _ (c .before .before .before .before .before .before .if1 .left)))
+    let i = c .before .before .before .before .before .before .before .before .before .before .before .before .before .loop .inv in
+    let r = c .before .before .before .before .before .before .before .before .before .before .before .row .ensures in
+    (c .before .before .before .can-fire .kept .1 .1 .1 .1 .0 ∙ i .0, i .1, left-next _ _ _ _ _ _ _ (i .2) r, λ ls closed. i .3 ls closed ∙ drop-passed _ _ ls _ _ _ _ _ (r .row) (sym (c .before .before .before .can-fire .ensures ls closed) ∙ not-true _ (c .if2 .taken)))
+
+put-requires : tie.Need-put-requires Inv-loop μ-loop
+put-requires c κs = search needs
+
+loop-less-3 : tie.Need-loop-less-3 Inv-loop μ-loop
+loop-less-3 c = search needs
+
+loop-again-3 : tie.Need-loop-again-3 Inv-loop μ-loop
+loop-again-3 c =
+    let i = c .before .before .before .before .before .before .before .before .before .before .before .before .before .before .before .before .before .loop .inv in
+    let r = c .before .before .before .before .before .before .before .before .before .before .before .before .before .before .before .row .ensures in
+    (c .before .before .before .before .before .before .before .can-fire .kept .1 .1 .1 .1 .0 ∙ i .0, c .before .before .put .kept .0 ∙ i .1, left-next _ _ _ _ _ _ _ (i .2) r, λ ls closed. i .3 ls closed ∙ drop-fires _ _ ls _ _ _ _ _ (r .row) _ _ (c .before .before .before .before .before .before .before .before .before .before .before .before .before .wide .ensures .0 ∙ c .before .before .before .before .before .before .before .before .before .before .before .before .before .before .complement .ensures) (c .before .before .put .ensures) (sym (c .before .before .before .before .before .before .before .can-fire .ensures ls closed) ∙ not-false _ (c .before .before .before .before .if2 .left)))
 
 same-length : tie.Need-same-length Inv-loop μ-loop
 same-length c = c .before .loop .inv .0
@@ -111,18 +123,21 @@ drop-changed-spec =
     loop-holds
     row-requires
     sub-left
+    complement-requires
+    wide-requires
+    is-zero-requires
+    loop-less
+    loop-again
     mul-can-fire
     sub-can-fire
     part-can-fire-start
     part-can-fire-end
     can-fire-requires
-    loop-less
-    loop-again
-    complement-requires
-    wide-requires
-    put-requires
     loop-less-2
     loop-again-2
+    put-requires
+    loop-less-3
+    loop-again-3
     same-length
     same-length-2
     returns)

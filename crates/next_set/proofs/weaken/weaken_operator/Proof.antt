@@ -1,4 +1,5 @@
--- `next_set::weaken::weaken_operator`: the clauses are judged, and those that fail weakened. Assumes nothing.
+-- `next_set::weaken::weaken_operator`: nothing is added where that was noted, else what the operator's block adds. Assumes nothing.
+use Rattle.definitions.specs.Clauses.{width}
 use denote.Ref.{now}
 use Prim.Native.Nat.{ℕ}
 use mathlib.Core.Option.{some}
@@ -12,24 +13,37 @@ use Rattle.clause_set.specs.Put.{putAll}
 use Rattle.clause_set.specs.Held.{held, Holds}
 use Rattle.next_set.specs.Build.{addedBy}
 use Rattle.next_set.proofs.Testing.{read-given, read-judged}
+use Rattle.next_set.proofs.Noting.{put-none}
 use borrow.Author.Needs.{needs}
 use Rattle.next_set.proofs.weaken.weaken_operator.Statement.{statement}
 use Rattle.next_set.proofs.weaken.weaken_operator.Tie as tie
 
+mul-is-zero : tie.Need-mul-is-zero
+mul-is-zero c = let p = c .before .before .before .before .before .before .pre in omega (arith, p .2)
+
+add-is-zero : tie.Need-add-is-zero
+unfolding width
+add-is-zero c = let p = c .before .before .before .before .before .before .pre in omega (arith, p .2, p .6)
+
+is-zero-requires : tie.Need-is-zero-requires
+is-zero-requires c κs = search needs
+
+returns : tie.Need-returns
+unfolding width
+returns c =
+    let a = c .before .before .before .before .before .before .before .before .args in
+    let p = c .before .before .before .before .before .before .before .before .pre in
+    let z = c .before .is-zero .ensures (c .if1 .taken) in
+    (p .7, put-none (taskOf (a .image .now)) (clausesOf (a .clauses .now)) (a .due .now) (p .3) (a .operator) (a .k) (p .1) (z .1) (z .0) (a .rows) (some (held (a .count) (a .work .now))))
+
 operator-block-requires : tie.Need-operator-block-requires
 operator-block-requires c κs = search needs
 
-judge-requires : tie.Need-judge-requires
-judge-requires c κs =
-    let a = c .before .before .before .before .before .before .before .before .args in
-    let p = c .before .before .before .before .before .before .before .before .pre in
-    (read-given (a .image .now) (a .clauses .now) _ (a .n) (a .operator) (p .0) (p .1) (c .before .before .operator-block .ensures), read-judged (a .image .now) (a .clauses .now) (a .n) (p .0), p .2, p .3)
-
 weaken-under-requires : tie.Need-weaken-under-requires
 weaken-under-requires c κs =
-    let a = c .before .before .before .before .before .before .before .before .before .before .before .before .before .before .before .before .args in
-    let p = c .before .before .before .before .before .before .before .before .before .before .before .before .before .before .before .before .pre in
-    (read-given (a .image .now) (a .clauses .now) _ (a .n) (a .operator) (p .0) (p .1) (c .before .before .before .before .before .before .before .before .before .before .operator-block .ensures), c .before .before .before .before .before .before .before .judge .ensures, omega (arith, p .2, c .before .before .before .before .before .before .before .judge .kept .1 .1 .1 .0), p .4, p .5)
+    let a = c .before .before .before .before .before .before .before .before .before .before .before .before .args in
+    let p = c .before .before .before .before .before .before .before .before .before .before .before .before .pre in
+    (read-given (a .image .now) (a .clauses .now) _ (a .n) (a .operator) (p .0) (p .1) (c .before .before .before .operator-block .ensures), read-judged (a .image .now) (a .clauses .now) (a .n) (p .0), p .4, p .5, p .6, p .7)
 
 same-length : tie.Need-same-length
 same-length c = search needs
@@ -40,21 +54,24 @@ same-length-2 c = search needs
 same-length-3 : tie.Need-same-length-3
 same-length-3 c = search needs
 
-returns : tie.Need-returns
-returns c =
-    let a = c .before .before .before .before .before .before .before .before .before .before .before .before .before .before .before .before .before .before .before .before .before .args in
-    let p = c .before .before .before .before .before .before .before .before .before .before .before .before .before .before .before .before .before .before .before .before .before .pre in
+returns-2 : tie.Need-returns-2
+returns-2 c =
+    let a = c .before .before .before .before .before .before .before .before .before .before .before .before .before .before .before .before .before .before .before .args in
+    let p = c .before .before .before .before .before .before .before .before .before .before .before .before .before .before .before .before .before .before .before .pre in
     let t = taskOf (a .image .now) in
-    subst (λ (o : Operator). Holds (a .rows) (c .before .before .before .before .weaken-under .result) (c .before .before .before .before .weaken-under .last .1 .1 .1 .1 .1 .1 .0) (putAll (a .rows) (addedBy t (clausesOf (a .clauses .now)) (a .k) o) (some (held (a .count) (a .work .now))))) (c .before .before .before .before .before .before .before .before .before .before .before .before .before .before .before .operator-block .ensures .operator) (c .before .before .before .before .weaken-under .ensures t (sym (p .0 .atoms)))
+    subst (λ (o : Operator). Holds (a .rows) (c .before .before .before .before .before .before .weaken-under .result) (c .before .before .before .before .before .before .weaken-under .last .1 .1 .1 .1 .1 .1 .0) (putAll (a .rows) (addedBy t (clausesOf (a .clauses .now)) (a .k) o) (some (held (a .count) (a .work .now))))) (c .before .before .before .before .before .before .before .before .before .before .operator-block .ensures .operator) (c .before .before .before .before .before .before .weaken-under .ensures t (sym (p .0 .atoms)))
 
 pub weaken-operator-spec : {M : Type 1} → statement M
 weaken-operator-spec =
     tie.close
     (tie.spec
+    mul-is-zero
+    add-is-zero
+    is-zero-requires
+    returns
     operator-block-requires
-    judge-requires
     weaken-under-requires
     same-length
     same-length-2
     same-length-3
-    returns)
+    returns-2)

@@ -15,35 +15,17 @@ use borrow.Author.Needs.{needs}
 use Rattle.next_set.proofs.weaken.weaken_under.Statement.{statement}
 use Rattle.next_set.proofs.weaken.weaken_under.Tie as tie
 
-some-due-requires : tie.Need-some-due-requires
-some-due-requires c κs = fails-length (now (c .before .before .before .before .before .args .clauses)) (operatorIn (now (c .before .before .before .before .before .args .block))) (c .before .before .before .before .before .args .n) (c .before .before .before .before .before .args .k) (now (c .before .before .before .before .before .args .fails)) (c .before .before .before .before .before .pre .1)
-
-returns : tie.Need-returns
-returns c =
-    let a = c .before .before .before .before .before .before .before .args in
-    let p = c .before .before .before .before .before .before .before .pre in
-    λ t e. (p .4, under-none (now (a .clauses)) (operatorIn (now (a .block))) (a .n) (a .k) (now (a .fails)) (p .1) t e (a .rows) (some (held (a .count) (now (a .work)))) (sym (c .before .some-due .ensures) ∙ not-true (c .before .some-due .result) (c .if1 .taken)))
-
 list-room-requires : tie.Need-list-room-requires
 list-room-requires c κs = search needs
 
-slice-aggregate-list-guaranteed : tie.Need-slice-aggregate-list-guaranteed
-slice-aggregate-list-guaranteed c = search needs
+slice-aggregate-judge-listed : tie.Need-slice-aggregate-judge-listed
+slice-aggregate-judge-listed c = search needs
 
-list-guaranteed-requires : tie.Need-list-guaranteed-requires
-list-guaranteed-requires c κs = search needs
+judge-listed-requires : tie.Need-judge-listed-requires
+judge-listed-requires c κs = search needs
 
-array-share-prefix-list : tie.Need-array-share-prefix-list
-array-share-prefix-list c = search needs
-
-slice-aggregate-weaken-rows : tie.Need-slice-aggregate-weaken-rows
-slice-aggregate-weaken-rows c = sym (length-take-le _ (c .before .before .before .before .list-guaranteed .last .1 .1 .1 .1 .0) (c .before .before .before .before .list-guaranteed .ensures .few))
-
-weaken-rows-requires : tie.Need-weaken-rows-requires
-weaken-rows-requires c κs =
-    let a = c .before .before .before .before .before .before .before .before .before .before .before .before .before .before .before .before .args in
-    let p = c .before .before .before .before .before .before .before .before .before .before .before .before .before .before .before .before .pre in
-    (weakening (now (a .clauses)) (operatorIn (now (a .block))) (a .n) (a .k) (now (a .fails)) (p .1) (p .0 .few) (p .0 .rows) _ (c .before .before .before .before .before .list-guaranteed .ensures .low) (p .3), p .4)
+some-due-requires : tie.Need-some-due-requires
+some-due-requires c κs = fails-length (now (c .before .before .before .before .before .before .before .before .before .before .before .before .before .before .before .before .args .clauses)) (operatorIn (now (c .before .before .before .before .before .before .before .before .before .before .before .before .before .before .before .before .args .block))) (c .before .before .before .before .before .before .before .before .before .before .before .before .before .before .before .before .args .n) (c .before .before .before .before .before .before .before .before .before .before .before .before .before .before .before .before .args .k) (c .before .before .before .before .before .before .judge-listed .last .1 .1 .1 .1 .0) (c .before .before .before .before .before .before .judge-listed .ensures .0)
 
 same-length : tie.Need-same-length
 same-length c = search needs
@@ -51,26 +33,56 @@ same-length c = search needs
 same-length-2 : tie.Need-same-length-2
 same-length-2 c = search needs
 
+returns : tie.Need-returns
+returns c =
+    let a = c .before .before .before .before .before .before .before .before .before .before .before .before .before .before .before .before .before .before .args in
+    let p = c .before .before .before .before .before .before .before .before .before .before .before .before .before .before .before .before .before .before .pre in
+    λ t e. (p .5, under-none (now (a .clauses)) (operatorIn (now (a .block))) (a .n) (a .k) (c .before .before .before .before .before .before .before .before .judge-listed .last .1 .1 .1 .1 .0) (c .before .before .before .before .before .before .before .before .judge-listed .ensures .0) t e (a .rows) (some (held (a .count) (now (a .work)))) (sym (c .before .some-due .ensures) ∙ not-true (c .before .some-due .result) (c .if1 .taken)))
+
+array-share-prefix-list : tie.Need-array-share-prefix-list
+array-share-prefix-list c = search needs
+
+slice-aggregate-weaken-rows : tie.Need-slice-aggregate-weaken-rows
+slice-aggregate-weaken-rows c = sym (length-take-le _ (c .before .before .before .before .before .before .before .before .before .before .judge-listed .last .1 .1 .1 .1 .1 .0) (c .before .before .before .before .before .before .before .before .before .before .judge-listed .ensures .1 .few))
+
+weaken-rows-requires : tie.Need-weaken-rows-requires
+weaken-rows-requires c κs =
+    let a = c .before .before .before .before .before .before .before .before .before .before .before .before .before .before .before .before .before .before .before .before .before .args in
+    let p = c .before .before .before .before .before .before .before .before .before .before .before .before .before .before .before .before .before .before .before .before .before .pre in
+    (weakening (now (a .clauses)) (operatorIn (now (a .block))) (a .n) (a .k) (c .before .before .before .before .before .before .before .before .before .before .before .judge-listed .last .1 .1 .1 .1 .0) (c .before .before .before .before .before .before .before .before .before .before .before .judge-listed .ensures .0) (p .0 .few) (p .0 .rows) _ (c .before .before .before .before .before .before .before .before .before .before .before .judge-listed .ensures .1 .low) (p .4), p .5)
+
+same-length-3 : tie.Need-same-length-3
+same-length-3 c = search needs
+
+same-length-4 : tie.Need-same-length-4
+same-length-4 c = search needs
+
+same-length-5 : tie.Need-same-length-5
+same-length-5 c = search needs
+
 returns-2 : tie.Need-returns-2
 returns-2 c =
-    let a = c .before .before .before .before .before .before .before .before .before .before .before .before .before .before .before .before .before .before .before .args in
-    let p = c .before .before .before .before .before .before .before .before .before .before .before .before .before .before .before .before .before .before .before .pre in
+    let a = c .before .before .before .before .before .before .before .before .before .before .before .before .before .before .before .before .before .before .before .before .before .before .before .before .args in
+    let p = c .before .before .before .before .before .before .before .before .before .before .before .before .before .before .before .before .before .before .before .before .before .before .before .before .pre in
     let s : Option (List (List ℕ)) = some (held (a .count) (now (a .work))) in
-    let list = take (c .before .before .before .before .before .before .before .before .list-guaranteed .result) (c .before .before .before .before .before .before .before .before .list-guaranteed .last .1 .1 .1 .1 .0) in
-    λ t e. subst (λ (z : Option (List (List ℕ))). Holds (a .rows) (c .before .before .weaken-rows .result) (c .before .before .weaken-rows .last .1 .1 .1 .1 .0) z) (under-some (now (a .clauses)) (operatorIn (now (a .block))) (a .n) (a .k) (now (a .fails)) (p .1) t e (a .rows) s (sym (c .before .before .before .before .before .before .before .before .before .before .before .before .before .some-due .ensures) ∙ not-false (c .before .before .before .before .before .before .before .before .before .before .before .before .before .some-due .result) (c .before .before .before .before .before .before .before .before .before .before .before .before .if1 .left)) list (c .before .before .before .before .before .before .before .before .list-guaranteed .ensures .words t e)) (c .before .before .weaken-rows .ensures)
+    let list = take (c .before .before .before .before .before .before .before .before .before .before .before .before .before .before .judge-listed .result) (c .before .before .before .before .before .before .before .before .before .before .before .before .before .before .judge-listed .last .1 .1 .1 .1 .1 .0) in
+    λ t e. subst (λ (z : Option (List (List ℕ))). Holds (a .rows) (c .before .before .weaken-rows .result) (c .before .before .weaken-rows .last .1 .1 .1 .1 .0) z) (under-some (now (a .clauses)) (operatorIn (now (a .block))) (a .n) (a .k) (c .before .before .before .before .before .before .before .before .before .before .before .before .before .before .judge-listed .last .1 .1 .1 .1 .0) (c .before .before .before .before .before .before .before .before .before .before .before .before .before .before .judge-listed .ensures .0) t e (a .rows) s (sym (c .before .before .before .before .before .before .before .some-due .ensures) ∙ not-false (c .before .before .before .before .before .before .before .some-due .result) (c .before .before .before .before .before .before .if1 .left)) list (c .before .before .before .before .before .before .before .before .before .before .before .before .before .before .judge-listed .ensures .1 .words t e)) (c .before .before .weaken-rows .ensures)
 
 pub weaken-under-spec : {M : Type 1} → statement M
 weaken-under-spec =
     tie.close
     (tie.spec
-    some-due-requires
-    returns
     list-room-requires
-    slice-aggregate-list-guaranteed
-    list-guaranteed-requires
+    slice-aggregate-judge-listed
+    judge-listed-requires
+    some-due-requires
+    same-length
+    same-length-2
+    returns
     array-share-prefix-list
     slice-aggregate-weaken-rows
     weaken-rows-requires
-    same-length
-    same-length-2
+    same-length-3
+    same-length-4
+    same-length-5
     returns-2)
