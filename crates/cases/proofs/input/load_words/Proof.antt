@@ -3,26 +3,23 @@ use mathlib.Core.Path.{_≡_, refl}
 use native.Mathlib.Omega.{arith}
 use lib.ListN.{length, length-set}
 use borrow.Author.Needs.{needs}
-use Rattle.task_cases.proofs.load_bytes.Statement.{statement}
-use Rattle.task_cases.proofs.load_bytes.Tie as tie
+use Rattle.cases.proofs.input.load_words.Statement.{statement}
+use Rattle.cases.proofs.input.load_words.Tie as tie
 
 abbrev Inv-loop : tie.InvT-loop
-Inv-loop bytes from target₀ i₀ target i = (i ≤ length target) × (length target ≡ length target₀)
+Inv-loop bytes from count target₀ i₀ target i = (i ≤ length target) × (length target ≡ length target₀)
 
 abbrev μ-loop : tie.MeasureT-loop
-μ-loop bytes from target₀ i₀ target i = length target₀ - i
+μ-loop bytes from count target₀ i₀ target i = length target₀ - i
 
 loop-holds : tie.Need-loop-holds Inv-loop μ-loop
 loop-holds c = search needs
 
-add-word : tie.Need-add-word Inv-loop μ-loop
-add-word c = search needs
+value-requires : tie.Need-value-requires Inv-loop μ-loop
+value-requires c κs = search needs
 
-word-requires : tie.Need-word-requires Inv-loop μ-loop
-word-requires c κs = search needs
-
-cast-target : tie.Need-cast-target Inv-loop μ-loop
-cast-target c = search needs
+mul-target : tie.Need-mul-target Inv-loop μ-loop
+mul-target c = search needs
 
 slice-write-target : tie.Need-slice-write-target Inv-loop μ-loop
 slice-write-target c = search needs
@@ -42,16 +39,15 @@ same-length c = search needs
 returns : tie.Need-returns Inv-loop μ-loop
 returns c = search needs
 
-pub load-bytes-spec : {M : Type 1} → statement M
-load-bytes-spec =
+pub load-words-spec : {M : Type 1} → statement M
+load-words-spec =
     tie.close
     (tie.spec
     Inv-loop
     μ-loop
     loop-holds
-    add-word
-    word-requires
-    cast-target
+    value-requires
+    mul-target
     slice-write-target
     add-i
     loop-less

@@ -3,67 +3,7 @@
 //! A slice passes as pointer and length; `first` and `second` receive the
 //! finding's values or the refusal's places.
 
-use reference::synthesis::Finding;
-use reference::{Answer, Refusal};
-
-/// An answer as the C interface gives it: 0 or the refusal's number, and two
-/// values or places.
-#[derive(Clone, Copy, PartialEq, Eq, Debug)]
-pub struct Reply {
-    pub number: u32,
-    pub first: u64,
-    pub second: u64,
-}
-
-impl Reply {
-    pub fn finding(first: u64, second: u64) -> Reply {
-        Reply {
-            number: 0,
-            first,
-            second,
-        }
-    }
-
-    /// The reply of the reference, its finding turned into two values.
-    fn of<T>(answer: Answer<T>, values: impl Fn(T) -> (u64, u64)) -> Reply {
-        match answer.map(values) {
-            Ok((first, second)) => Reply::finding(first, second),
-            Err(Refusal {
-                number,
-                first,
-                second,
-            }) => Reply {
-                number,
-                first,
-                second,
-            },
-        }
-    }
-}
-
-impl From<Answer<()>> for Reply {
-    fn from(answer: Answer<()>) -> Reply {
-        Reply::of(answer, |()| (0, 0))
-    }
-}
-
-impl From<Answer<bool>> for Reply {
-    fn from(answer: Answer<bool>) -> Reply {
-        Reply::of(answer, |yes| (u64::from(yes), 0))
-    }
-}
-
-impl From<Answer<usize>> for Reply {
-    fn from(answer: Answer<usize>) -> Reply {
-        Reply::of(answer, |number| (number as u64, 0))
-    }
-}
-
-impl From<Answer<Finding>> for Reply {
-    fn from(answer: Answer<Finding>) -> Reply {
-        Reply::of(answer, |found| (found.rows as u64, found.rounds as u64))
-    }
-}
+pub use reference::Reply;
 
 /// Calls the library with two places that must be written.
 fn reply(call: impl FnOnce(*mut u64, *mut u64) -> u32) -> Reply {
@@ -76,7 +16,7 @@ fn reply(call: impl FnOnce(*mut u64, *mut u64) -> u32) -> Reply {
     }
 }
 
-/// The task calls, which need no feature.
+/// The task calls.
 mod task {
     use super::{reply, Reply};
 
@@ -190,7 +130,6 @@ mod task {
 }
 
 /// One clause under one operator, and the checker.
-#[cfg(feature = "checker")]
 mod checker {
     use super::{reply, Reply};
 
@@ -263,7 +202,6 @@ mod checker {
 }
 
 /// Synthesis.
-#[cfg(feature = "synthesis")]
 mod synthesis {
     use super::{reply, Reply};
 
@@ -313,7 +251,6 @@ mod synthesis {
 }
 
 /// Groups, re-encoding and the finite-domain calls.
-#[cfg(feature = "fdr")]
 mod fdr {
     use super::{reply, Reply};
 
@@ -476,7 +413,6 @@ mod fdr {
 }
 
 /// Coding of states.
-#[cfg(feature = "coding")]
 mod coding {
     use super::{reply, Reply};
 
@@ -536,12 +472,8 @@ mod coding {
     }
 }
 
-#[cfg(feature = "checker")]
 pub use checker::*;
-#[cfg(feature = "coding")]
 pub use coding::*;
-#[cfg(feature = "fdr")]
 pub use fdr::*;
-#[cfg(feature = "synthesis")]
 pub use synthesis::*;
 pub use task::*;

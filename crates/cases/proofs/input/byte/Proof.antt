@@ -1,7 +1,7 @@
 use native.Mathlib.Omega.{arith}
 use borrow.Author.Needs.{needs}
-use Rattle.task_cases.proofs.byte.Statement.{statement}
-use Rattle.task_cases.proofs.byte.Tie as tie
+use Rattle.cases.proofs.input.byte.Statement.{statement}
+use Rattle.cases.proofs.input.byte.Tie as tie
 
 shared-slice-read-result : tie.Need-shared-slice-read-result
 shared-slice-read-result c = search needs

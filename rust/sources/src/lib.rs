@@ -125,6 +125,13 @@ pub fn fdr(rng: &mut Rng) -> Fdr {
 }
 
 impl Fdr {
+    /// A right image.
+    pub fn of(image: &[u16]) -> Fdr {
+        let spec = FdrSpec::read(image).expect("a right image");
+        let image = image.to_vec();
+        Fdr { spec, image }
+    }
+
     /// A state: the initial one, a random one or a damaged one.
     pub fn state(&self, rng: &mut Rng) -> Vec<u16> {
         match rng.below(10) {
