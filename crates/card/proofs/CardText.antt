@@ -6,9 +6,10 @@ use Prim.Native.Nat.{ℕ, zero, suc, _+_, _-_, _*_, _/_, _%_, _≤_, _<_}
 use native.Mathlib.Nat.{div-add-mod}
 use native.Mathlib.Omega.{arith}
 use lib.Dec.{eqb, leb}
-use borrow.Author.Tests.{le-leb, lt-leb, eq-eqb, ne-eqb}
-use lib.ListN.{length, getD, take, drop, replicate, length-append, List·getD-append}
-use lib.Seq.{take-at, take-append-le, drop-append-le, take-append-seam}
+use borrow.Author.Tests.{leb-true, le-leb, lt-leb, eq-eqb, ne-eqb}
+use Rattle.definitions.proofs.ListLaws.{and-left, and-right}
+use lib.ListN.{length, getD, take, drop, replicate, length-append, length-drop}
+use lib.Seq.{take-all, take-append-seam, getD-drop, length-sets}
 use Rattle.definitions.specs.Answer as paper
 use Rattle.definitions.specs.Answer.{Answer, finding, refused, Outcome, outcome, ask, askAt, _>>=_}
 use Rattle.definitions.specs.Image.{Task, readTask}
@@ -150,16 +151,39 @@ module _ (bs : List ℕ) where
   unfolding card wordsText cardAnswer ask askAt _>>=_
   card-words e = rw (e, card, cardAnswer)
 
--- the words of an input, and the buffers that the synthesis is lent
-module _ (w old : List ℕ) (work marks : ℕ) (rows : length old ≡ width * mostRows) (worked : work ≡ width * mostRows) (marked : marks ≡ 2048) where
-  same-call : synthesis (drop 2 w) (getD w 0 0) (getD w 1 0) (width * mostRows) (width * mostRows) 2048 ≡ synthesis (drop 2 w) (getD w 0 0) (getD w 1 0) (length old) work marks
-  same-call = rw (rows, worked, marked)
+-- the rows of a finding in the buffer for words with n atoms, and the text
+pub record WordsFound (w : List ℕ) (n : ℕ) (buf : List ℕ) (k r : ℕ) : Type 0 where
+  pub text : wordsText w ≡ foundText n (findingOf (clausesOf (take (width * k) buf)) r)
+  pub read : ClausesRead n (take (width * k) buf)
+  pub room : width * k ≤ length buf
+  pub few : n ≤ 1024
 
-  pub words-refused : (p : paper.Refusal) (buf : List ℕ) → outcome (refused p) buf ≡ synthesisCall (drop 2 w) (getD w 0 0) (getD w 1 0) old work marks → wordsText w ≡ refusedText p
-  words-refused p buf e = text-refused w p (same-call ∙ made-refused (drop 2 w) (getD w 0 0) (getD w 1 0) old work marks p buf e)
+-- the words of an input, the number of atoms in them, and the buffers that the synthesis is lent
+module _ (w old : List ℕ) (n work marks : ℕ) (atoms : n ≡ getD w 2 0) (rows : length old ≡ width * mostRows) (worked : work ≡ width * mostRows) (marked : marks ≡ 2048) where
+  same-image : take (length w - 2) (drop 2 w) ≡ drop 2 w
+  same-image = let d = length-drop 2 w in take-all (length w - 2) (drop 2 w) (omega arith)
 
-  pub words-found : (k r : ℕ) (buf : List ℕ) → outcome (finding (record { rows = k; rounds = r })) buf ≡ synthesisCall (drop 2 w) (getD w 0 0) (getD w 1 0) old work marks → wordsText w ≡ foundText (getD w 2 0) (findingOf (clausesOf (take (width * k) buf)) r)
-  words-found k r buf e = text-found w (findingOf (clausesOf (take (width * k) buf)) r) (same-call ∙ made-found (drop 2 w) (getD w 0 0) (getD w 1 0) old work marks k r buf e .answered)
+  same-call : synthesis (drop 2 w) (getD w 0 0) (getD w 1 0) (width * mostRows) (width * mostRows) 2048 ≡ synthesis (take (length w - 2) (drop 2 w)) (getD w 0 0) (getD w 1 0) (length old) work marks
+  same-call = rw (same-image, rows, worked, marked)
+
+  same-atoms : getD (take (length w - 2) (drop 2 w)) 0 0 ≡ n
+  same-atoms = ap (λ (z : List ℕ). getD z 0 0) same-image ∙ getD-drop 2 w 0 0 ∙ sym atoms
+
+  pub words-refused : (p : paper.Refusal) (buf : List ℕ) → outcome (refused p) buf ≡ synthesisCall (take (length w - 2) (drop 2 w)) (getD w 0 0) (getD w 1 0) old work marks → wordsText w ≡ refusedText p
+  words-refused p buf e = text-refused w p (same-call ∙ made-refused (take (length w - 2) (drop 2 w)) (getD w 0 0) (getD w 1 0) old work marks p buf e)
+
+  pub words-found : (k r : ℕ) (buf : List ℕ) → outcome (finding (record { rows = k; rounds = r })) buf ≡ synthesisCall (take (length w - 2) (drop 2 w)) (getD w 0 0) (getD w 1 0) old work marks → WordsFound w n buf k r
+  words-found k r buf e =
+      let f = made-found (take (length w - 2) (drop 2 w)) (getD w 0 0) (getD w 1 0) old work marks k r buf e in
+      let x = findingOf (clausesOf (take (width * k) buf)) r in
+      let s = same-atoms in
+      let h = f .few in
+      record {
+        text = text-found w x (same-call ∙ f .answered) ∙ ap (λ (z : ℕ). foundText z x) (sym atoms);
+        read = subst (λ (z : ℕ). ClausesRead z (take (width * k) buf)) same-atoms (f .read);
+        room = f .room;
+        few = omega arith;
+      }
 
 -- ---- the input's bytes
 module _ (bs : List ℕ) where
@@ -171,3 +195,36 @@ module _ (bs : List ℕ) where
 
   pub input-even : 4 ≤ length bs → length bs % 2 ≡ 0 → leb (length bs) 16388 ≡ isInput bs
   input-even h k = rw (le-leb 4 (length bs) h, eq-eqb (length bs % 2) 0 k)
+
+  pub input-size : isInput bs ≡ true → (4 ≤ length bs) × (length bs ≤ 16388)
+  input-size e =
+      let l = and-left (leb 4 (length bs) && eqb (length bs % 2) 0) (leb (length bs) 16388) e in
+      (leb-true 4 (length bs) (and-left (leb 4 (length bs)) (eqb (length bs % 2) 0) l), leb-true (length bs) 16388 (and-right (leb 4 (length bs) && eqb (length bs % 2) 0) (leb (length bs) 16388) e))
+
+-- ---- the input's words
+words-length : (bs : List ℕ) → length (wordsOf bs) ≡ length bs / 2
+unfolding wordsOf
+words-length [] = refl
+words-length (x ∷ []) = refl
+words-length (x ∷ (y ∷ bs)) = let h = words-length bs in omega arith
+
+-- the words of an input, written into room for the most
+module _ (bs old new : List ℕ) (end : ℕ) (input : isInput bs ≡ true) (size : length old ≡ 8194) (wrote : Wrote old 0 (wordsOf bs) new end) where
+  pub words-end : (2 ≤ end) × (end ≤ length new)
+  words-end =
+      let i = input-size bs input in
+      let lo = i .0 in
+      let hi = i .1 in
+      let l = words-length bs in
+      let e = wrote .next in
+      let s : length new ≡ length old = ap length (wrote .target) ∙ length-sets old 0 (wordsOf bs) in
+      (omega arith, omega arith)
+
+  pub words-taken : take end new ≡ wordsOf bs
+  words-taken =
+      let i = input-size bs input in
+      let hi = i .1 in
+      let l = words-length bs in
+      let e : end ≡ length (wordsOf bs) = (let n = wrote .next in omega arith) in
+      let f = wrote-front old (wordsOf bs) new end (omega arith) wrote in
+      rw (e, f) (take-append-seam (wordsOf bs) (drop (length (wordsOf bs)) old))
