@@ -29,7 +29,7 @@ use Rattle.groups.specs.Writing.{Wrote}
 use Rattle.groups.proofs.Writes.{wrote-front}
 use Rattle.card.specs.Text.{findingOf, isInput, wordsText}
 use Rattle.card.specs.Room.{mostText}
-use Rattle.card.proofs.Size.{found-size}
+use Rattle.card.proofs.Size.{refusal-size, found-size}
 
 -- ---- room for the text of clauses that are read
 read-rows : (N : ℕ) (w : List ℕ) → ClausesRead N w → length (clausesOf w) ≤ mostRows
@@ -72,6 +72,26 @@ rows-taken cw zeros buf k e b =
 found-is : (x : Found) (C : List (List ℕ)) (r : ℕ) → x .clauses ≡ C → x .rounds ≡ r → x ≡ findingOf C r
 found-is x C r p q = rw (← p, ← q)
 
+-- the clauses of a finding are read from their words
+module _ (img : List ℕ) (n limit words work marks : ℕ) where
+  clauses-read : (x : Found) → synthesis img n limit words work marks ≡ finding x → (readClauses (getD img 0 0) (clauseWords (x .clauses)) ≡ finding (x .clauses)) × (getD img 0 0 ≤ 1024)
+  unfolding check ask
+  clauses-read x e =
+      let f = synthesis-accepted img n limit words work marks x e in
+      let t = f .task in
+      let r = read-right img t (f .read) in
+      let a : Accepted = record { task = t; clauses = x .clauses } in
+      let q1 = bind-of (readTask img) _ a (f .accepted) in
+      let q2 = bind-of (readClauses (q1 .0 .atoms) (clauseWords (x .clauses))) _ a (q1 .2) in
+      let q3 = bind-of (askAt 13 0 (leb (2 * q1 .0 .atoms) marks)) _ a (q2 .2) in
+      let q4 = bind-of (accept (q1 .0) (q2 .0)) (λ _. finding (record { task = q1 .0; clauses = q2 .0 })) a (q3 .2) in
+      let s : record { task = q1 .0; clauses = q2 .0 } ≡ a = same-finding (record { task = q1 .0; clauses = q2 .0 }) a (q4 .2) in
+      let k = ap (λ (z : Accepted). z .clauses) s in
+      let u = ap (λ (z : Accepted). z .task .atoms) s ∙ r .atoms in
+      let h = r .few in
+      let v = r .atoms in
+      (rw (← u) (q2 .1 ∙ ap finding k), omega arith)
+
 module _ (img : List ℕ) (n limit : ℕ) (old : List ℕ) (work marks : ℕ) where
   abbrev answer : Answer Found
   answer = synthesis img n limit (length old) work marks
@@ -87,24 +107,6 @@ module _ (img : List ℕ) (n limit : ℕ) (old : List ℕ) (work marks : ℕ) wh
     pub room : width * rows ≤ length buf
     pub few : getD img 0 0 ≤ 1024
 
-  clauses-read : (x : Found) → answer ≡ finding x → (readClauses (getD img 0 0) (clauseWords (x .clauses)) ≡ finding (x .clauses)) × (getD img 0 0 ≤ 1024)
-  unfolding check ask
-  clauses-read x e =
-      let f = synthesis-accepted img n limit (length old) work marks x e in
-      let t = f .task in
-      let r = read-right img t (f .read) in
-      let a : Accepted = record { task = t; clauses = x .clauses } in
-      let q1 = bind-of (readTask img) _ a (f .accepted) in
-      let q2 = bind-of (readClauses (q1 .0 .atoms) (clauseWords (x .clauses))) _ a (q1 .2) in
-      let q3 = bind-of (askAt 13 0 (leb (2 * q1 .0 .atoms) marks)) _ a (q2 .2) in
-      let q4 = bind-of (accept (q1 .0) (q2 .0)) (λ _. finding (record { task = q1 .0; clauses = q2 .0 })) a (q3 .2) in
-      let s : record { task = q1 .0; clauses = q2 .0 } ≡ a = same-finding (record { task = q1 .0; clauses = q2 .0 }) a (q4 .2) in
-      let k = ap (λ (z : Accepted). z .clauses) s in
-      let u = ap (λ (z : Accepted). z .task .atoms) s ∙ r .atoms in
-      let h = r .few in
-      let v = r .atoms in
-      (rw (← u) (q2 .1 ∙ ap finding k), omega arith)
-
   pub made-found : (rows rounds : ℕ) (buf : List ℕ) → outcome (finding (record { rows = rows; rounds = rounds })) buf ≡ synthesisCall img n limit old work marks → FoundRows buf rows rounds
   unfolding synthesisCall bufferAfter outcome
   made-found rows rounds buf e =
@@ -114,7 +116,7 @@ module _ (img : List ℕ) (n limit : ℕ) (old : List ℕ) (work marks : ℕ) wh
       let N = getD img 0 0 in
       let zeros = replicate {A = ℕ} (length old - length cw) 0 in
       let b : buf ≡ cw ++ zeros = ap (λ (o : Outcome Made). o .lent) e ∙ ap (bufferAfter old) (q .1) in
-      let r = clauses-read x (q .1) in
+      let r = clauses-read img n limit (length old) work marks x (q .1) in
       let c = read-of N cw (x .clauses) (r .0) in
       let are = read-are N cw (x .clauses) (r .0) in
       let l = rows-length N cw rows c (q .2 ∙ ap length are) in
@@ -150,6 +152,36 @@ module _ (bs : List ℕ) where
   pub card-words : isInput bs ≡ true → card bs ≡ wordsText (wordsOf bs)
   unfolding card wordsText cardAnswer ask askAt _>>=_
   card-words e = rw (e, card, cardAnswer)
+
+-- ---- room for the card
+answer-size : (w : List ℕ) (x : Found) → synthesis (drop 2 w) (getD w 0 0) (getD w 1 0) (width * mostRows) (width * mostRows) 2048 ≡ finding x → length (foundText (getD w 2 0) x) ≤ mostText
+answer-size w x e =
+    let N = getD w 2 0 in
+    let cw = clauseWords (x .clauses) in
+    let r = rw (getD-drop 2 w 0 0) at (clauses-read (drop 2 w) (getD w 0 0) (getD w 1 0) (width * mostRows) (width * mostRows) 2048 x e) in
+    let s = read-size N cw (x .rounds) (read-of N cw (x .clauses) (r .0)) (r .1) in
+    rw (found-is x (clausesOf cw) (x .rounds) (read-are N cw (x .clauses) (r .0)) refl) s
+
+words-size : (w : List ℕ) → length (wordsText w) ≤ mostText
+words-size w = go (synthesis (drop 2 w) (getD w 0 0) (getD w 1 0) (width * mostRows) (width * mostRows) 2048) refl
+  where
+    go : (a : Answer Found) → synthesis (drop 2 w) (getD w 0 0) (getD w 1 0) (width * mostRows) (width * mostRows) 2048 ≡ a → length (wordsText w) ≤ mostText
+    go (finding x) e = rw (text-found w x e) (answer-size w x e)
+    go (refused r) e = rw (text-refused w r e) (refusal-size r)
+
+card-size : (bs : List ℕ) → length (card bs) ≤ mostText
+card-size bs = go (isInput bs) refl
+  where
+    go : (b : Bool) → isInput bs ≡ b → length (card bs) ≤ mostText
+    go true e = rw (card-words bs e) (words-size (wordsOf bs))
+    go false e = rw (card-short bs e) (refusal-size (refusalAt 1 0 0))
+
+-- the card stands at the start of the room, and what is behind it stays
+pub card-front : (bs old new : List ℕ) (end : ℕ) → mostText ≤ length old → Wrote old 0 (card bs) new end → (new ≡ card bs ++ drop end old) × (end ≡ length (card bs))
+card-front bs old new end room w =
+    let s = card-size bs in
+    let e : end ≡ length (card bs) = (let n = w .next in omega arith) in
+    (rw e (wrote-front old (card bs) new end (omega arith) w), e)
 
 -- the rows of a finding in the buffer for words with n atoms, and the text
 pub record WordsFound (w : List ℕ) (n : ℕ) (buf : List ℕ) (k r : ℕ) : Type 0 where

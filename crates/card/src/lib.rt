@@ -1,7 +1,8 @@
 // The card's text as bytes.
 ghost use mathlib.Core.Path.{_≡_};
 ghost use Prim.Native.Nat.{_+_, _*_, _≤_, _<_};
-ghost use lib.ListN.{length, getD};
+ghost use lib.ListN.{length, getD, drop};
+ghost use mathlib.Core.List.{_++_};
 ghost use Rattle.definitions.specs.Card.{wordsOf, refusedText, card};
 ghost use Rattle.definitions.specs.Clauses.{width, mostRows};
 ghost use Rattle.answer.specs.Answer.{placed};
@@ -148,7 +149,7 @@ fn write_input(input: &[u8], out: &mut [u8]) -> usize
 
 // Writes the card's text for the bytes of an input (n, limit, image) at the start of `out`, and gives its length.
 pub fn card_text(input: &[u8], out: &mut [u8; MOST_TEXT]) -> usize
-    ensures { λ r. ⌜ Wrote (now (out .entry)) 0 (card (now (input .entry))) (now (out .exit)) r ⌝ }
+    ensures { λ r. ⌜ (now (out .exit) ≡ card (now (input .entry)) ++ drop r (now (out .entry))) × (r ≡ length (card (now (input .entry)))) ⌝ }
 {
     write_input(input, out)
 }
