@@ -9,6 +9,8 @@ mod reencoding;
 
 use arguments::Arguments;
 use progress::Progress;
+use std::env;
+use std::io::{self, Write};
 use std::process::ExitCode;
 
 /// Why nothing was printed.
@@ -26,11 +28,10 @@ struct Output {
 }
 
 fn main() -> ExitCode {
-    match Arguments::read(std::env::args().skip(1)).and_then(|arguments| make(&arguments)) {
-        Ok(output) => {
-            print!("{}", output.text);
-            ExitCode::from(u8::from(output.refused))
-        }
+    let arguments = Arguments::read(env::args().skip(1));
+    let output = arguments.and_then(|arguments| make(&arguments));
+    match output.and_then(print) {
+        Ok(refused) => ExitCode::from(u8::from(refused)),
         Err(Failure::Usage(text)) => {
             eprintln!("card: {text}");
             ExitCode::from(2)
@@ -40,6 +41,13 @@ fn main() -> ExitCode {
             ExitCode::from(3)
         }
     }
+}
+
+/// Prints the output, and tells whether the task was refused.
+fn print(output: Output) -> Result<bool, Failure> {
+    let written = io::stdout().write_all(output.text.as_bytes());
+    written.map_err(|error| Failure::Inner(format!("cannot write: {error}")))?;
+    Ok(output.refused)
 }
 
 /// Runs the card program, and at the same time the library.

@@ -12,10 +12,13 @@ mod task;
 use collection::Collection;
 use std::{env, path::Path};
 
+/// Adds the cases of one program.
+type AddCases = fn(&mut Collection);
+
 fn main() {
     let folder = env::args().nth(1).expect("usage: cases CRATES_FOLDER");
     let folder = Path::new(&folder);
-    let programs: [(&str, fn(&mut Collection)); 3] = [
+    let programs: [(&str, AddCases); 3] = [
         ("task_cases", task::add_cases),
         ("clause_cases", clause::add_cases),
         ("fdr_cases", fdr::add_cases),
