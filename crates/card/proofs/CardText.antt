@@ -6,9 +6,10 @@ use Prim.Native.Nat.{ℕ, zero, suc, _+_, _-_, _*_, _/_, _%_, _≤_, _<_}
 use native.Mathlib.Nat.{div-add-mod}
 use native.Mathlib.Omega.{arith}
 use lib.Dec.{eqb, leb}
-use borrow.Author.Tests.{le-leb, lt-leb, eq-eqb, ne-eqb}
-use lib.ListN.{length, getD, take, drop, replicate, length-append, List·getD-append}
-use lib.Seq.{take-at, take-append-le, drop-append-le, take-append-seam}
+use borrow.Author.Tests.{leb-true, le-leb, lt-leb, eq-eqb, ne-eqb}
+use Rattle.definitions.proofs.ListLaws.{and-left, and-right}
+use lib.ListN.{length, getD, take, drop, replicate, length-append, length-drop}
+use lib.Seq.{take-all, take-append-seam, getD-drop, length-sets}
 use Rattle.definitions.specs.Answer as paper
 use Rattle.definitions.specs.Answer.{Answer, finding, refused, Outcome, outcome, ask, askAt, _>>=_}
 use Rattle.definitions.specs.Image.{Task, readTask}
@@ -28,7 +29,7 @@ use Rattle.groups.specs.Writing.{Wrote}
 use Rattle.groups.proofs.Writes.{wrote-front}
 use Rattle.card.specs.Text.{findingOf, isInput, wordsText}
 use Rattle.card.specs.Room.{mostText}
-use Rattle.card.proofs.Size.{found-size}
+use Rattle.card.proofs.Size.{refusal-size, found-size}
 
 -- ---- room for the text of clauses that are read
 read-rows : (N : ℕ) (w : List ℕ) → ClausesRead N w → length (clausesOf w) ≤ mostRows
@@ -71,6 +72,26 @@ rows-taken cw zeros buf k e b =
 found-is : (x : Found) (C : List (List ℕ)) (r : ℕ) → x .clauses ≡ C → x .rounds ≡ r → x ≡ findingOf C r
 found-is x C r p q = rw (← p, ← q)
 
+-- the clauses of a finding are read from their words
+module _ (img : List ℕ) (n limit words work marks : ℕ) where
+  clauses-read : (x : Found) → synthesis img n limit words work marks ≡ finding x → (readClauses (getD img 0 0) (clauseWords (x .clauses)) ≡ finding (x .clauses)) × (getD img 0 0 ≤ 1024)
+  unfolding check ask
+  clauses-read x e =
+      let f = synthesis-accepted img n limit words work marks x e in
+      let t = f .task in
+      let r = read-right img t (f .read) in
+      let a : Accepted = record { task = t; clauses = x .clauses } in
+      let q1 = bind-of (readTask img) _ a (f .accepted) in
+      let q2 = bind-of (readClauses (q1 .0 .atoms) (clauseWords (x .clauses))) _ a (q1 .2) in
+      let q3 = bind-of (askAt 13 0 (leb (2 * q1 .0 .atoms) marks)) _ a (q2 .2) in
+      let q4 = bind-of (accept (q1 .0) (q2 .0)) (λ _. finding (record { task = q1 .0; clauses = q2 .0 })) a (q3 .2) in
+      let s : record { task = q1 .0; clauses = q2 .0 } ≡ a = same-finding (record { task = q1 .0; clauses = q2 .0 }) a (q4 .2) in
+      let k = ap (λ (z : Accepted). z .clauses) s in
+      let u = ap (λ (z : Accepted). z .task .atoms) s ∙ r .atoms in
+      let h = r .few in
+      let v = r .atoms in
+      (rw (← u) (q2 .1 ∙ ap finding k), omega arith)
+
 module _ (img : List ℕ) (n limit : ℕ) (old : List ℕ) (work marks : ℕ) where
   abbrev answer : Answer Found
   answer = synthesis img n limit (length old) work marks
@@ -86,24 +107,6 @@ module _ (img : List ℕ) (n limit : ℕ) (old : List ℕ) (work marks : ℕ) wh
     pub room : width * rows ≤ length buf
     pub few : getD img 0 0 ≤ 1024
 
-  clauses-read : (x : Found) → answer ≡ finding x → (readClauses (getD img 0 0) (clauseWords (x .clauses)) ≡ finding (x .clauses)) × (getD img 0 0 ≤ 1024)
-  unfolding check ask
-  clauses-read x e =
-      let f = synthesis-accepted img n limit (length old) work marks x e in
-      let t = f .task in
-      let r = read-right img t (f .read) in
-      let a : Accepted = record { task = t; clauses = x .clauses } in
-      let q1 = bind-of (readTask img) _ a (f .accepted) in
-      let q2 = bind-of (readClauses (q1 .0 .atoms) (clauseWords (x .clauses))) _ a (q1 .2) in
-      let q3 = bind-of (askAt 13 0 (leb (2 * q1 .0 .atoms) marks)) _ a (q2 .2) in
-      let q4 = bind-of (accept (q1 .0) (q2 .0)) (λ _. finding (record { task = q1 .0; clauses = q2 .0 })) a (q3 .2) in
-      let s : record { task = q1 .0; clauses = q2 .0 } ≡ a = same-finding (record { task = q1 .0; clauses = q2 .0 }) a (q4 .2) in
-      let k = ap (λ (z : Accepted). z .clauses) s in
-      let u = ap (λ (z : Accepted). z .task .atoms) s ∙ r .atoms in
-      let h = r .few in
-      let v = r .atoms in
-      (rw (← u) (q2 .1 ∙ ap finding k), omega arith)
-
   pub made-found : (rows rounds : ℕ) (buf : List ℕ) → outcome (finding (record { rows = rows; rounds = rounds })) buf ≡ synthesisCall img n limit old work marks → FoundRows buf rows rounds
   unfolding synthesisCall bufferAfter outcome
   made-found rows rounds buf e =
@@ -113,7 +116,7 @@ module _ (img : List ℕ) (n limit : ℕ) (old : List ℕ) (work marks : ℕ) wh
       let N = getD img 0 0 in
       let zeros = replicate {A = ℕ} (length old - length cw) 0 in
       let b : buf ≡ cw ++ zeros = ap (λ (o : Outcome Made). o .lent) e ∙ ap (bufferAfter old) (q .1) in
-      let r = clauses-read x (q .1) in
+      let r = clauses-read img n limit (length old) work marks x (q .1) in
       let c = read-of N cw (x .clauses) (r .0) in
       let are = read-are N cw (x .clauses) (r .0) in
       let l = rows-length N cw rows c (q .2 ∙ ap length are) in
@@ -150,16 +153,69 @@ module _ (bs : List ℕ) where
   unfolding card wordsText cardAnswer ask askAt _>>=_
   card-words e = rw (e, card, cardAnswer)
 
--- the words of an input, and the buffers that the synthesis is lent
-module _ (w old : List ℕ) (work marks : ℕ) (rows : length old ≡ width * mostRows) (worked : work ≡ width * mostRows) (marked : marks ≡ 2048) where
-  same-call : synthesis (drop 2 w) (getD w 0 0) (getD w 1 0) (width * mostRows) (width * mostRows) 2048 ≡ synthesis (drop 2 w) (getD w 0 0) (getD w 1 0) (length old) work marks
-  same-call = rw (rows, worked, marked)
+-- ---- room for the card
+answer-size : (w : List ℕ) (x : Found) → synthesis (drop 2 w) (getD w 0 0) (getD w 1 0) (width * mostRows) (width * mostRows) 2048 ≡ finding x → length (foundText (getD w 2 0) x) ≤ mostText
+answer-size w x e =
+    let N = getD w 2 0 in
+    let cw = clauseWords (x .clauses) in
+    let r = rw (getD-drop 2 w 0 0) at (clauses-read (drop 2 w) (getD w 0 0) (getD w 1 0) (width * mostRows) (width * mostRows) 2048 x e) in
+    let s = read-size N cw (x .rounds) (read-of N cw (x .clauses) (r .0)) (r .1) in
+    rw (found-is x (clausesOf cw) (x .rounds) (read-are N cw (x .clauses) (r .0)) refl) s
 
-  pub words-refused : (p : paper.Refusal) (buf : List ℕ) → outcome (refused p) buf ≡ synthesisCall (drop 2 w) (getD w 0 0) (getD w 1 0) old work marks → wordsText w ≡ refusedText p
-  words-refused p buf e = text-refused w p (same-call ∙ made-refused (drop 2 w) (getD w 0 0) (getD w 1 0) old work marks p buf e)
+words-size : (w : List ℕ) → length (wordsText w) ≤ mostText
+words-size w = go (synthesis (drop 2 w) (getD w 0 0) (getD w 1 0) (width * mostRows) (width * mostRows) 2048) refl
+  where
+    go : (a : Answer Found) → synthesis (drop 2 w) (getD w 0 0) (getD w 1 0) (width * mostRows) (width * mostRows) 2048 ≡ a → length (wordsText w) ≤ mostText
+    go (finding x) e = rw (text-found w x e) (answer-size w x e)
+    go (refused r) e = rw (text-refused w r e) (refusal-size r)
 
-  pub words-found : (k r : ℕ) (buf : List ℕ) → outcome (finding (record { rows = k; rounds = r })) buf ≡ synthesisCall (drop 2 w) (getD w 0 0) (getD w 1 0) old work marks → wordsText w ≡ foundText (getD w 2 0) (findingOf (clausesOf (take (width * k) buf)) r)
-  words-found k r buf e = text-found w (findingOf (clausesOf (take (width * k) buf)) r) (same-call ∙ made-found (drop 2 w) (getD w 0 0) (getD w 1 0) old work marks k r buf e .answered)
+card-size : (bs : List ℕ) → length (card bs) ≤ mostText
+card-size bs = go (isInput bs) refl
+  where
+    go : (b : Bool) → isInput bs ≡ b → length (card bs) ≤ mostText
+    go true e = rw (card-words bs e) (words-size (wordsOf bs))
+    go false e = rw (card-short bs e) (refusal-size (refusalAt 1 0 0))
+
+-- the card stands at the start of the room, and what is behind it stays
+pub card-front : (bs old new : List ℕ) (end : ℕ) → mostText ≤ length old → Wrote old 0 (card bs) new end → (new ≡ card bs ++ drop end old) × (end ≡ length (card bs))
+card-front bs old new end room w =
+    let s = card-size bs in
+    let e : end ≡ length (card bs) = (let n = w .next in omega arith) in
+    (rw e (wrote-front old (card bs) new end (omega arith) w), e)
+
+-- the rows of a finding in the buffer for words with n atoms, and the text
+pub record WordsFound (w : List ℕ) (n : ℕ) (buf : List ℕ) (k r : ℕ) : Type 0 where
+  pub text : wordsText w ≡ foundText n (findingOf (clausesOf (take (width * k) buf)) r)
+  pub read : ClausesRead n (take (width * k) buf)
+  pub room : width * k ≤ length buf
+  pub few : n ≤ 1024
+
+-- the words of an input, the number of atoms in them, and the buffers that the synthesis is lent
+module _ (w old : List ℕ) (n work marks : ℕ) (atoms : n ≡ getD w 2 0) (rows : length old ≡ width * mostRows) (worked : work ≡ width * mostRows) (marked : marks ≡ 2048) where
+  same-image : take (length w - 2) (drop 2 w) ≡ drop 2 w
+  same-image = let d = length-drop 2 w in take-all (length w - 2) (drop 2 w) (omega arith)
+
+  same-call : synthesis (drop 2 w) (getD w 0 0) (getD w 1 0) (width * mostRows) (width * mostRows) 2048 ≡ synthesis (take (length w - 2) (drop 2 w)) (getD w 0 0) (getD w 1 0) (length old) work marks
+  same-call = rw (same-image, rows, worked, marked)
+
+  same-atoms : getD (take (length w - 2) (drop 2 w)) 0 0 ≡ n
+  same-atoms = ap (λ (z : List ℕ). getD z 0 0) same-image ∙ getD-drop 2 w 0 0 ∙ sym atoms
+
+  pub words-refused : (p : paper.Refusal) (buf : List ℕ) → outcome (refused p) buf ≡ synthesisCall (take (length w - 2) (drop 2 w)) (getD w 0 0) (getD w 1 0) old work marks → wordsText w ≡ refusedText p
+  words-refused p buf e = text-refused w p (same-call ∙ made-refused (take (length w - 2) (drop 2 w)) (getD w 0 0) (getD w 1 0) old work marks p buf e)
+
+  pub words-found : (k r : ℕ) (buf : List ℕ) → outcome (finding (record { rows = k; rounds = r })) buf ≡ synthesisCall (take (length w - 2) (drop 2 w)) (getD w 0 0) (getD w 1 0) old work marks → WordsFound w n buf k r
+  words-found k r buf e =
+      let f = made-found (take (length w - 2) (drop 2 w)) (getD w 0 0) (getD w 1 0) old work marks k r buf e in
+      let x = findingOf (clausesOf (take (width * k) buf)) r in
+      let s = same-atoms in
+      let h = f .few in
+      record {
+        text = text-found w x (same-call ∙ f .answered) ∙ ap (λ (z : ℕ). foundText z x) (sym atoms);
+        read = subst (λ (z : ℕ). ClausesRead z (take (width * k) buf)) same-atoms (f .read);
+        room = f .room;
+        few = omega arith;
+      }
 
 -- ---- the input's bytes
 module _ (bs : List ℕ) where
@@ -171,3 +227,36 @@ module _ (bs : List ℕ) where
 
   pub input-even : 4 ≤ length bs → length bs % 2 ≡ 0 → leb (length bs) 16388 ≡ isInput bs
   input-even h k = rw (le-leb 4 (length bs) h, eq-eqb (length bs % 2) 0 k)
+
+  pub input-size : isInput bs ≡ true → (4 ≤ length bs) × (length bs ≤ 16388)
+  input-size e =
+      let l = and-left (leb 4 (length bs) && eqb (length bs % 2) 0) (leb (length bs) 16388) e in
+      (leb-true 4 (length bs) (and-left (leb 4 (length bs)) (eqb (length bs % 2) 0) l), leb-true (length bs) 16388 (and-right (leb 4 (length bs) && eqb (length bs % 2) 0) (leb (length bs) 16388) e))
+
+-- ---- the input's words
+words-length : (bs : List ℕ) → length (wordsOf bs) ≡ length bs / 2
+unfolding wordsOf
+words-length [] = refl
+words-length (x ∷ []) = refl
+words-length (x ∷ (y ∷ bs)) = let h = words-length bs in omega arith
+
+-- the words of an input, written into room for the most
+module _ (bs old new : List ℕ) (end : ℕ) (input : isInput bs ≡ true) (size : length old ≡ 8194) (wrote : Wrote old 0 (wordsOf bs) new end) where
+  pub words-end : (2 ≤ end) × (end ≤ length new)
+  words-end =
+      let i = input-size bs input in
+      let lo = i .0 in
+      let hi = i .1 in
+      let l = words-length bs in
+      let e = wrote .next in
+      let s : length new ≡ length old = ap length (wrote .target) ∙ length-sets old 0 (wordsOf bs) in
+      (omega arith, omega arith)
+
+  pub words-taken : take end new ≡ wordsOf bs
+  words-taken =
+      let i = input-size bs input in
+      let hi = i .1 in
+      let l = words-length bs in
+      let e : end ≡ length (wordsOf bs) = (let n = wrote .next in omega arith) in
+      let f = wrote-front old (wordsOf bs) new end (omega arith) wrote in
+      rw (e, f) (take-append-seam (wordsOf bs) (drop (length (wordsOf bs)) old))

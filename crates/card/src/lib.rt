@@ -1,12 +1,16 @@
 // The card's text as bytes.
 ghost use mathlib.Core.Path.{_≡_};
 ghost use Prim.Native.Nat.{_+_, _*_, _≤_, _<_};
-ghost use lib.ListN.{length};
-ghost use Rattle.definitions.specs.Card.{wordsOf, refusedText};
+ghost use lib.ListN.{length, getD, drop};
+ghost use mathlib.Core.List.{_++_};
+ghost use Rattle.definitions.specs.Card.{wordsOf, refusedText, card};
+ghost use Rattle.definitions.specs.Clauses.{width, mostRows};
 ghost use Rattle.answer.specs.Answer.{placed};
 ghost use Rattle.groups.specs.Writing.{Wrote};
 ghost use Rattle.card.specs.Room.{mostText};
-ghost use Rattle.card.specs.Text.{isInput};
+ghost use Rattle.card.specs.Text.{isInput, wordsText};
+use answer::Refusal;
+use synthesis::Synthesis;
 
 pub mod found; // found.rt: the text of a finding
 pub mod group; // group.rt: the lines of groups
@@ -59,4 +63,93 @@ pub fn words_of(bytes: &[u8], words: &mut [u16]) -> usize
         i += 1;
     }
     i
+}
+
+// The number of atoms in the words of an input, zero if they have none.
+fn atoms(words: &[u16]) -> usize
+    ensures { λ r. ⌜ r ≡ getD (now (words .entry)) 2 0 ⌝ }
+{
+    if words.len() <= 2 {
+        return 0;
+    }
+    literal::wide(words[2])
+}
+
+// Writes the card for the words of an input: n, limit, image.
+fn write_words(
+    words: &[u16],
+    clauses: &mut [u16],
+    work: &mut [u16],
+    marks: &mut [u8],
+    out: &mut [u8],
+) -> usize
+    requires { ⌜ (2 ≤ length (now words)) × (length (now clauses) ≡ width * mostRows) × (length (now work) ≡ width * mostRows) × (length (now marks) ≡ 2048) × (mostText ≤ length (now out)) ⌝ }
+    ensures { λ r. ⌜ Wrote (now (out .entry)) 0 (wordsText (now (words .entry))) (now (out .exit)) r ⌝ }
+{
+    let n = atoms(words);
+    let made = synthesis::synthesize(&words[2..], words[0], words[1], clauses, work, marks);
+    match made {
+        Synthesis::Found(rows, rounds) => {
+            let end = clause::WIDTH * rows;
+            found::write_found(out, &clauses[..end], rounds, n)
+        }
+        Synthesis::Refused(f) => write_refused(out, f),
+    }
+}
+
+// Room for the words of an input.
+fn word_room() -> [u16; 8194]
+    ensures { λ r. ⌜ length r ≡ 8194 ⌝ }
+{
+    [0u16; 8194]
+}
+
+// Room for the most rows.
+fn row_room() -> [u16; clause::WIDTH * clause::MOST_ROWS]
+    ensures { λ r. ⌜ length r ≡ width * mostRows ⌝ }
+{
+    [0u16; clause::WIDTH * clause::MOST_ROWS]
+}
+
+// Room for the marks of the most literals.
+fn mark_room() -> [u8; 2048]
+    ensures { λ r. ⌜ length r ≡ 2048 ⌝ }
+{
+    [0u8; 2048]
+}
+
+// Writes the card for the words of an input, with room for the synthesis.
+fn write_card(words: &[u16], out: &mut [u8]) -> usize
+    requires { ⌜ (2 ≤ length (now words)) × (mostText ≤ length (now out)) ⌝ }
+    ensures { λ r. ⌜ Wrote (now (out .entry)) 0 (wordsText (now (words .entry))) (now (out .exit)) r ⌝ }
+{
+    let mut clauses = row_room();
+    let mut work = row_room();
+    let mut marks = mark_room();
+    write_words(words, &mut clauses, &mut work, &mut marks, out)
+}
+
+// Writes the card for the bytes of an input, and gives its length.
+fn write_input(input: &[u8], out: &mut [u8]) -> usize
+    requires { ⌜ mostText ≤ length (now out) ⌝ }
+    ensures { λ r. ⌜ Wrote (now (out .entry)) 0 (card (now (input .entry))) (now (out .exit)) r ⌝ }
+{
+    if !is_input(input) {
+        let f = Refusal {
+            number: Refusal::IMAGE_SIZE,
+            first: 0,
+            second: 0,
+        };
+        return write_refused(out, f);
+    }
+    let mut words = word_room();
+    let end = words_of(input, &mut words);
+    write_card(&words[..end], out)
+}
+
+// Writes the card's text for the bytes of an input (n, limit, image) at the start of `out`, and gives its length.
+pub fn card_text(input: &[u8], out: &mut [u8; MOST_TEXT]) -> usize
+    ensures { λ r. ⌜ (now (out .exit) ≡ card (now (input .entry)) ++ drop r (now (out .entry))) × (r ≡ length (card (now (input .entry)))) ⌝ }
+{
+    write_input(input, out)
 }

@@ -1,10 +1,9 @@
 //! The checker on a set of about 5,000 rows and 200 operators.
 
-use compare::exports;
-use compare::sources::Synthesized;
 use inputs::structured::ring;
 use inputs::task::{no, yes, OperatorSpec};
 use reference::checker;
+use sources::Synthesized;
 
 use crate::timing::Bench;
 

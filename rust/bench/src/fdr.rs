@@ -1,9 +1,9 @@
 //! Re-encoding, and a million finite-domain steps.
 
-use compare::exports::{self, Reply};
-use compare::sources::Synthesized;
+use exports::Reply;
 use inputs::{structured, Rng};
 use reference::{fdr as model, reencoding};
+use sources::Synthesized;
 
 use crate::timing::{walk, Bench};
 

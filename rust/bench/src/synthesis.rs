@@ -1,10 +1,10 @@
 //! Synthesis of structured tasks with n = 3.
 
-use compare::exports::{self, Reply};
-use compare::sources::Synthesized;
+use exports::Reply;
 use inputs::structured;
 use inputs::task::TaskSpec;
 use reference::synthesis::{synthesize, MOST_ROWS};
+use sources::Synthesized;
 
 use crate::timing::Bench;
 

@@ -1,6 +1,6 @@
 //! Reading the largest images; a million steps.
 
-use compare::exports::{self, Reply};
+use exports::Reply;
 use inputs::{random, structured, Rng};
 use reference::state as model;
 

@@ -1,9 +1,7 @@
-//! The comparison of the proved library with the reference: the library's
-//! calls as safe functions, and what the tests share.
+//! The comparison of the proved library with the reference: what the tests
+//! share.
 
-pub mod exports;
 pub mod guard;
-pub mod sources;
 pub mod tally;
 
 pub use guard::Guarded;

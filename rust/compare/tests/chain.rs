@@ -6,7 +6,6 @@
     feature = "coding"
 ))]
 
-use compare::exports;
 use inputs::{random, state, structured, Rng};
 
 /// The library's synthesized rows, accepted by its checker, and its re-encoding.

@@ -4,13 +4,13 @@
 //! comparison asks for the lowest, as the reference gives them.
 #![cfg(feature = "checker")]
 
-use compare::exports::{self, Reply};
-use compare::sources::{marks_length, Synthesized};
 use compare::{Guarded, Tally};
+use exports::Reply;
 use inputs::clauses::{self, FILL};
 use inputs::fixed::kept_cases;
 use inputs::{damage, state, Rng};
 use reference::{checker, kept};
+use sources::{marks_length, Synthesized};
 
 const LEAST: usize = 50;
 

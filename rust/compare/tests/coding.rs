@@ -1,12 +1,11 @@
 //! Coding of states from atoms and back.
 #![cfg(feature = "coding")]
 
-use compare::exports;
-use compare::sources::fdr;
 use compare::{Guarded, Tally};
 use inputs::state::{damaged, wrong_length};
 use inputs::Rng;
 use reference::coding as model;
+use sources::fdr;
 
 const LEAST: usize = 50;
 

@@ -1,11 +1,11 @@
 //! Groups, re-encoding and the finite-domain calls.
 #![cfg(feature = "fdr")]
 
-use compare::exports::{self, Reply};
-use compare::sources::{fdr, marks_length, target_length, Synthesized};
 use compare::{Guarded, Tally};
+use exports::Reply;
 use inputs::{clauses, damage, state, Rng};
 use reference::{fdr as model, groups, reencoding, Answer};
+use sources::{fdr, marks_length, target_length, Synthesized};
 
 const LEAST: usize = 50;
 

@@ -1,8 +1,8 @@
 //! Synthesis.
 #![cfg(feature = "synthesis")]
 
-use compare::exports::{self, Reply};
 use compare::{Guarded, Tally};
+use exports::Reply;
 use inputs::{clauses, damage, random, structured, Rng};
 use reference::synthesis::{self as model, MOST_ROWS};
 

@@ -1,7 +1,6 @@
 //! The task calls: reading, setting to the initial state, steps, goal tests
 //! and list runs.
 
-use compare::exports;
 use compare::{Guarded, Tally};
 use inputs::damage::any_task_image;
 use inputs::{state, Rng};

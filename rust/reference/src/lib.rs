@@ -21,4 +21,4 @@ pub mod state;
 pub mod synthesis;
 pub mod task;
 
-pub use answer::{Answer, Refusal};
+pub use answer::{Answer, Refusal, Reply};
