@@ -242,8 +242,8 @@ words-length (x ∷ (y ∷ bs)) = let h = words-length bs in omega arith
 
 -- the words of an input, written into room for the most
 module _ (bs old new : List ℕ) (end : ℕ) (input : isInput bs ≡ true) (size : length old ≡ 8194) (wrote : Wrote old 0 (wordsOf bs) new end) where
-  pub words-end : (2 ≤ end) × (end ≤ length new)
-  words-end =
+  pub words-inside : (2 ≤ end) × (end ≤ length new)
+  words-inside =
       let i = input-size bs input in
       let lo = i .0 in
       let hi = i .1 in

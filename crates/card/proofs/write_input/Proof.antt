@@ -7,7 +7,7 @@ use lib.Seq.{length-take-le}
 use borrow.Author.Tests.{not-true, not-false}
 use Rattle.groups.specs.Writing.{Wrote}
 use Rattle.card.specs.Text.{wordsText}
-use Rattle.card.proofs.CardText.{card-short, card-words, input-size, words-end, words-taken}
+use Rattle.card.proofs.CardText.{card-short, card-words, input-size, words-inside, words-taken}
 use borrow.Author.Needs.{needs}
 use Rattle.card.proofs.write_input.Statement.{statement}
 use Rattle.card.proofs.write_input.Tie as tie
@@ -40,14 +40,14 @@ words-of-requires c κs =
     omega arith
 
 array-share-prefix-words : tie.Need-array-share-prefix-words
-array-share-prefix-words c = words-end (now (c .before .before .before .before .before .before .before .before .args .input)) (c .before .before .before .word-room .result) (c .before .words-of .last .1 .0) (c .before .words-of .result) (sym (c .before .before .before .before .before .is-input .ensures) ∙ not-false (c .before .before .before .before .before .is-input .result) (c .before .before .before .before .if1 .left)) (c .before .before .before .word-room .ensures) (c .before .words-of .ensures) .1
+array-share-prefix-words c = words-inside (now (c .before .before .before .before .before .before .before .before .args .input)) (c .before .before .before .word-room .result) (c .before .words-of .last .1 .0) (c .before .words-of .result) (sym (c .before .before .before .before .before .is-input .ensures) ∙ not-false (c .before .before .before .before .before .is-input .result) (c .before .before .before .before .if1 .left)) (c .before .before .before .word-room .ensures) (c .before .words-of .ensures) .1
 
 slice-aggregate-write-card : tie.Need-slice-aggregate-write-card
-slice-aggregate-write-card c = sym (length-take-le _ _ (words-end (now (c .before .before .before .before .before .before .before .before .before .args .input)) (c .before .before .before .before .word-room .result) (c .before .before .words-of .last .1 .0) (c .before .before .words-of .result) (sym (c .before .before .before .before .before .before .is-input .ensures) ∙ not-false (c .before .before .before .before .before .before .is-input .result) (c .before .before .before .before .before .if1 .left)) (c .before .before .before .before .word-room .ensures) (c .before .before .words-of .ensures) .1))
+slice-aggregate-write-card c = sym (length-take-le _ _ (words-inside (now (c .before .before .before .before .before .before .before .before .before .args .input)) (c .before .before .before .before .word-room .result) (c .before .before .words-of .last .1 .0) (c .before .before .words-of .result) (sym (c .before .before .before .before .before .before .is-input .ensures) ∙ not-false (c .before .before .before .before .before .before .is-input .result) (c .before .before .before .before .before .if1 .left)) (c .before .before .before .before .word-room .ensures) (c .before .before .words-of .ensures) .1))
 
 write-card-requires : tie.Need-write-card-requires
 write-card-requires c κs =
-    let e = words-end (now (c .before .before .before .before .before .before .before .before .before .before .args .input)) (c .before .before .before .before .before .word-room .result) (c .before .before .before .words-of .last .1 .0) (c .before .before .before .words-of .result) (sym (c .before .before .before .before .before .before .before .is-input .ensures) ∙ not-false (c .before .before .before .before .before .before .before .is-input .result) (c .before .before .before .before .before .before .if1 .left)) (c .before .before .before .before .before .word-room .ensures) (c .before .before .before .words-of .ensures) in
+    let e = words-inside (now (c .before .before .before .before .before .before .before .before .before .before .args .input)) (c .before .before .before .before .before .word-room .result) (c .before .before .before .words-of .last .1 .0) (c .before .before .before .words-of .result) (sym (c .before .before .before .before .before .before .before .is-input .ensures) ∙ not-false (c .before .before .before .before .before .before .before .is-input .result) (c .before .before .before .before .before .before .if1 .left)) (c .before .before .before .before .before .word-room .ensures) (c .before .before .before .words-of .ensures) in
     let lo = e .0 in
     let t = length-take-le (c .before .before .before .words-of .result) (c .before .before .before .words-of .last .1 .0) (e .1) in
     (omega arith, c .before .before .before .before .before .before .before .before .before .before .pre)
