@@ -17,6 +17,9 @@ pub fn run(bench: &Bench) {
     one(bench, "ring 100", &structured::ring(100));
     one(bench, "briefcase 10 4", &structured::briefcase(10, 4));
     one(bench, "transport 3 8 5", &structured::transport(3, 8, 5));
+    for places in [25, 50, 71, 100, 141] {
+        one(bench, &format!("growth ring {places}"), &structured::ring(places));
+    }
 }
 
 fn one(bench: &Bench, name: &str, task: &TaskSpec) {

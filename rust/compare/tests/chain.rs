@@ -1,10 +1,4 @@
 //! Demand 3, executed on the library alone: from synthesis to coded states.
-#![cfg(all(
-    feature = "checker",
-    feature = "synthesis",
-    feature = "fdr",
-    feature = "coding"
-))]
 
 use inputs::{random, state, structured, Rng};
 

@@ -2,7 +2,6 @@
 //!
 //! Document 01 leaves open which places refusals 10 and 11 name; this
 //! comparison asks for the lowest, as the reference gives them.
-#![cfg(feature = "checker")]
 
 use compare::{Guarded, Tally};
 use exports::Reply;

@@ -1,5 +1,4 @@
 //! Coding of states from atoms and back.
-#![cfg(feature = "coding")]
 
 use compare::{Guarded, Tally};
 use inputs::state::{damaged, wrong_length};

@@ -1,5 +1,4 @@
 //! Groups, re-encoding and the finite-domain calls.
-#![cfg(feature = "fdr")]
 
 use compare::{Guarded, Tally};
 use exports::Reply;

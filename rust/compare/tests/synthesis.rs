@@ -1,5 +1,4 @@
 //! Synthesis.
-#![cfg(feature = "synthesis")]
 
 use compare::{Guarded, Tally};
 use exports::Reply;
