@@ -17,7 +17,8 @@ use Rattle.definitions.specs.Checker.{askTrue, askKept, accept, Accepted, check
 use Rattle.definitions.proofs.Walks.{left-here}
 use Rattle.answer.specs.Answer.{refusalAt}
 use Rattle.clause.specs.Rows.{clausesOf}
-use Rattle.clause.proofs.ReadLaws.{verdict-refused, read-fine}
+use Rattle.answer.proofs.Laws.{verdict-refused}
+use Rattle.clause.proofs.ReadLaws.{read-fine}
 use Rattle.task.specs.Reads.{taskOf, Reads}
 use Rattle.task.proofs.Questions.{reads}
 use Rattle.checker.specs.Search.{falseAnswer, Read}

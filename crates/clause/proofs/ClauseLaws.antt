@@ -2,27 +2,30 @@
 use mathlib.Core.Bool.{Bool, true, false, not, _&&_, false≢true}
 use mathlib.Core.Logic.{_⊎_, inl, inr}
 use mathlib.Core.Path.{_≡_, refl, sym, _∙_, ap}
-use mathlib.Core.List.{List, [], _∷_, _++_, map, List·Memᴰ, List·Memᴰ·head, List·Memᴰ·tail, List·Memᴰ·not-nil, List·Memᴰ·cases-cons}
+use mathlib.Core.List.{List, [], _∷_, map, List·Memᴰ, List·Memᴰ·head, List·Memᴰ·tail, List·Memᴰ·not-nil, List·Memᴰ·cases-cons}
 use Prim.Native.Nat.{ℕ, zero, suc, _+_, _-_, _*_, _≤_, _<_}
 use native.Mathlib.Omega.{arith}
 use native.Mathlib.Decide.{decLt}
 use lib.Dec.{eqb, ltb}
-use lib.ListN.{length, replicate, length-append, length-replicate}
-use borrow.Author.Tests.{ne-eqb, ltb-true}
-use Rattle.definitions.specs.Lists.{any, all, empty, ascending, compareWords, isSame}
+use lib.ListN.{length, getD}
+use borrow.Author.Tests.{ltb-true}
+use Rattle.definitions.specs.Lists.{any, empty, ascending, compareWords, isSame}
 use Rattle.definitions.specs.Literal.{atom, fill, allBelow, literalList}
 use Rattle.definitions.specs.Clauses.{width, rowOf, clauseOf, clauseRight, rowLess, rowAt}
 use Rattle.definitions.specs.Groups.{hasClause}
 use Rattle.definitions.proofs.ListLaws.{decide, and-left, and-right, and-both, all-at, any-in, any-of}
 use Rattle.definitions.proofs.PlaceLaws.{same-words}
-use Rattle.definitions.proofs.OrderLaws.{up, upFrom}
+use Rattle.definitions.proofs.Simulation.{getD-mem}
+use Rattle.definitions.proofs.OrderLaws.{up, upFrom, same-self}
 use Rattle.definitions.proofs.SetRight.{GoodClause}
+use Rattle.definitions.proofs.Accepts as accepts
+use Rattle.definitions.proofs.Accepts.{clause-back}
 use Rattle.clause.specs.Rows.{rowCount, clausesIn, clausesOf, RightRows}
 use Rattle.clause.specs.Search.{Sought, isThere}
 use Rattle.clause.specs.declared.Found.{Found}
 use Rattle.clause.specs.declared.Found.the-variants.{At, Missing}
 use Rattle.clause.proofs.RowLaws.{in-none, in-step, row-length, Placed, clause-in, clause-of}
-use Rattle.clause.proofs.RowOrder.{row-trans, row-irrefl, same-true}
+use Rattle.clause.proofs.RowOrder.{row-trans, row-irrefl}
 
 -- ---- a literal list
 module _ (N : ℕ) (f : List ℕ) (list : literalList N f ≡ true) where
@@ -33,6 +36,9 @@ module _ (N : ℕ) (f : List ℕ) (list : literalList N f ≡ true) where
 pub below-at : (n : ℕ) (ls : List ℕ) → allBelow n ls ≡ true → (l : ℕ) → List·Memᴰ l ls → l < n
 unfolding allBelow
 below-at n ls h l m = ltb-true l n (all-at (λ x. ltb x n) h m)
+
+pub low-at : (n : ℕ) (ls : List ℕ) (i : ℕ) → allBelow n ls ≡ true → i < length ls → getD ls i 0 < n
+low-at n ls i h low = below-at n ls h (getD ls i 0) (getD-mem ls i 0 low)
 
 -- ---- a right row and its clause
 module _ (N : ℕ) (row : List ℕ) (right : clauseRight N row ≡ true) where
@@ -77,37 +83,14 @@ right-good N row wide right =
       most = (let h = clause-short row in omega arith);
     }
 
-fill-back : (N : ℕ) (f : List ℕ) (k : ℕ) → N ≤ 1024 → allBelow (2 * N) f ≡ true → clauseOf (f ++ replicate k fill) ≡ f
-unfolding clauseOf fill allBelow all
-fill-back N [] zero few h = refl
-fill-back N [] (suc k) few h = refl
-fill-back N (x ∷ f) k few h =
-    let low = ltb-true x (2 * N) (and-left (ltb x (2 * N)) (all (λ x. ltb x (2 * N)) f) h) in
-    rw (ne-eqb x 65535 (λ e. absurd (omega arith)), clauseOf)
-    (ap (λ l. x ∷ l) (fill-back N f k few (and-right (ltb x (2 * N)) (all (λ x. ltb x (2 * N)) f) h)))
-
 module _ (N : ℕ) (f : List ℕ) (few : N ≤ 1024) where
   -- the clause of the row of a clause
   pub row-back : allBelow (2 * N) f ≡ true → clauseOf (rowOf f) ≡ f
   unfolding rowOf
-  row-back h = fill-back N f (width - length f) few h
-
-  pub row-wide : length f ≤ width → length (rowOf f) ≡ width
-  unfolding rowOf
-  row-wide h =
-      let a = length-append f (replicate (width - length f) fill) in
-      let b = length-replicate (width - length f) fill in
-      omega arith
+  row-back h = clause-back N f (width - length f) few h
 
   pub good-right : GoodClause N width f → clauseRight N (rowOf f) ≡ true
-  unfolding clauseRight empty
-  good-right g =
-      rw (row-back (list-below N f (g .list)))
-      (and-both (and-both (some f (g .some-literal)) (g .list)) (same-true (rowOf f)))
-    where
-      some : (f : List ℕ) → 1 ≤ length f → not (empty f) ≡ true
-      some [] h = absurd (omega arith)
-      some (x ∷ f) h = refl
+  good-right g = accepts.good-right N width few (omega arith) f g
 
 -- ---- the clauses of right rows
 module _ (N : ℕ) (w : List ℕ) (rows : RightRows N w) where
@@ -142,7 +125,7 @@ module _ (N : ℕ) (w : List ℕ) (rows : RightRows N w) where
   unfolding hasClause
   sought-clause f (At i) few low s =
       let e : clauseOf (rowAt w i) ≡ f = ap clauseOf (s .same) ∙ row-back N f few low in
-      any-in (λ g. isSame (compareWords f g)) (rw e at (clause-in w i (s .inside))) (same-true f)
+      any-in (λ g. isSame (compareWords f g)) (rw e at (clause-in w i (s .inside))) (same-self f)
   sought-clause f (Missing i) few low s = go (decide (any (λ g. isSame (compareWords f g)) (clausesOf w)))
     where
       apart : (p : Placed w f) → Dec (p .row < i) → ⊥
@@ -159,7 +142,7 @@ module _ (N : ℕ) (w : List ℕ) (rows : RightRows N w) where
 
 -- ---- sets in row order with the same members are equal
 module _ where
-  above-all : (g : List ℕ) (D : List (List ℕ)) → upFrom g D ≡ true → (x : List ℕ) → List·Memᴰ x D → rowLess (rowOf g) (rowOf x) ≡ true
+  pub above-all : (g : List ℕ) (D : List (List ℕ)) → upFrom g D ≡ true → (x : List ℕ) → List·Memᴰ x D → rowLess (rowOf g) (rowOf x) ≡ true
   unfolding upFrom
   above-all g [] h x m = absurd (List·Memᴰ·not-nil m)
   above-all g (y ∷ D) h x m = go (List·Memᴰ·cases-cons m) (λ k. above-all y D (and-right (rowLess (rowOf g) (rowOf y)) (upFrom y D) h) x k)

@@ -9,25 +9,15 @@ use lib.Dec.{eqb, leb}
 use lib.ListN.{length}
 use borrow.Author.Tests.{eqb-true, leb-true}
 use Rattle.definitions.specs.Lists.{all, ascending}
-use Rattle.definitions.specs.Answer.{Refusal, Answer, finding, refused, verdict, ask, askAt, _>>=_}
+use Rattle.definitions.specs.Answer.{finding, verdict, ask, askAt, _>>=_}
 use Rattle.definitions.specs.Clauses.{width, mostRows, clauseOf, clauseRight, rowLess, rowAt, aboveLast, readRows, readClauses}
 use Rattle.definitions.proofs.ListLaws.{and-left, and-right, and-both}
-use Rattle.definitions.proofs.CheckSound.{not-finding, same-finding, bind-of, ask-of}
+use Rattle.definitions.proofs.CheckSound.{same-finding, bind-of, ask-of}
+use Rattle.answer.proofs.Laws.{verdict-finding}
 use Rattle.clause.specs.Rows.{rowCount, clausesIn, clausesOf, ClausesRead, RightRows}
 use Rattle.clause.proofs.RowLaws.{in-none, in-step}
 use Rattle.clause.proofs.RowOrder.{row-trans}
 use Rattle.clause.proofs.Reading.{read-start}
-
--- ---- a verdict tells the answer
-pub verdict-refused : {A : Type 0} (m : Answer A) (r : Refusal) → verdict m ≡ refused r → m ≡ refused r
-unfolding verdict
-verdict-refused (finding a) r e = absurd (not-finding (sym e))
-verdict-refused (refused q) r e = cc
-
-pub verdict-finding : {A : Type 0} (m : Answer A) (u : Unit {0}) → verdict m ≡ finding u → (a : A) × (m ≡ finding a)
-unfolding verdict
-verdict-finding (finding a) u e = (a, refl)
-verdict-finding (refused q) u e = absurd (not-finding e)
 
 -- ---- the rows from row i on, k of them
 module _ (N : ℕ) (w : List ℕ) where

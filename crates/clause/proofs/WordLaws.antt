@@ -16,9 +16,10 @@ use Rattle.definitions.proofs.CheckSound.{bind-of, ask-of}
 use Rattle.definitions.proofs.OrderLaws.{up}
 use Rattle.definitions.proofs.SetRight.{GoodClause}
 use Rattle.definitions.proofs.Accepts.{read-back}
-use Rattle.clause.specs.Rows.{rowCount, clausesIn, clausesOf, ClausesRead, RightRows}
+use Rattle.answer.proofs.Laws.{verdict-finding}
+use Rattle.clause.specs.Rows.{rowCount, clausesIn, clausesOf, ClausesRead, ClauseRead, RightRows}
 use Rattle.clause.proofs.RowLaws.{in-none, in-step, clauses-at}
-use Rattle.clause.proofs.ReadLaws.{verdict-finding, read-of, read-are}
+use Rattle.clause.proofs.ReadLaws.{read-of, read-are}
 use Rattle.clause.proofs.ClauseLaws.{right-row}
 
 whole-length : (w : List ℕ) → length w % width ≡ 0 → length w ≤ width * rowCount w
@@ -58,11 +59,6 @@ module _ (N : ℕ) (C : List (List ℕ)) (few : N ≤ 1024) (good : (f : List �
   words-clauses = sym (read-are N (clauseWords C) C words-set)
 
 -- ---- a clause alone
-pub record ClauseRead (N : ℕ) (row : List ℕ) : Type 0 where
-  pub wide : length row ≡ width
-  pub right : clauseRight N row ≡ true
-  pub read : readClause N row ≡ finding (clauseOf row)
-
 pub clause-fine : (N : ℕ) (row : List ℕ) (u : Unit {0}) → verdict (readClause N row) ≡ finding u → ClauseRead N row
 unfolding readClause ask
 clause-fine N row u e =

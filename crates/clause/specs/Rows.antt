@@ -6,7 +6,7 @@ use Prim.Native.Nat.{ℕ, _/_, _%_, _≤_, _<_}
 use lib.ListN.{length, take, drop}
 use Rattle.definitions.specs.Lists.{range}
 use Rattle.definitions.specs.Answer.{finding}
-use Rattle.definitions.specs.Clauses.{width, clauseOf, clauseRight, rowLess, rowAt, readClauses}
+use Rattle.definitions.specs.Clauses.{width, clauseOf, clauseRight, rowLess, rowAt, readClauses, readClause}
 
 -- whole rows
 unfoldable pub rowCount : List ℕ → ℕ
@@ -31,6 +31,12 @@ clausesFrom w at = clausesOf (drop at w)
 -- questions 8 and 9 are answered yes
 pub record ClausesRead (N : ℕ) (w : List ℕ) : Type 0 where
   pub read : readClauses N w ≡ finding (clausesOf w)
+
+-- a clause alone: questions 8 and 9 are answered yes
+pub record ClauseRead (N : ℕ) (row : List ℕ) : Type 0 where
+  pub wide : length row ≡ width
+  pub right : clauseRight N row ≡ true
+  pub read : readClause N row ≡ finding (clauseOf row)
 
 -- whole rows, strictly ascending
 pub record Ascending (w : List ℕ) : Type 0 where

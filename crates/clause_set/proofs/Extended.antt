@@ -2,24 +2,22 @@
 use mathlib.Core.Bool.{Bool, true, false, cond}
 use mathlib.Core.Option.{Option, none, some}
 use mathlib.Core.Path.{_≡_, refl, sym, _∙_, ap}
-use mathlib.Core.List.{List, [], _∷_, _++_, map}
-use Prim.Native.Nat.{ℕ, zero, suc, _+_, _*_, _≤_, _<_}
+use mathlib.Core.List.{List, [], _++_, map}
+use Prim.Native.Nat.{ℕ, suc, _+_, _*_, _≤_, _<_}
 use native.Mathlib.Numerals.{add-one}
 use native.Mathlib.Omega.{arith}
 use lib.ListN.{length, getD, drop, drop-of-length-le}
-use borrow.Author.Tests.{ltb-true}
-use lib.Dec.{ltb}
-use Rattle.definitions.specs.Lists.{all, each, range, member}
-use Rattle.definitions.specs.Literal.{atom, allBelow}
+use borrow.Author.Tests.{lt-ltb}
+use Rattle.definitions.specs.Lists.{each, range, member}
+use Rattle.definitions.specs.Literal.{atom}
 use Rattle.definitions.specs.Clauses.{width, rowOf, clauseOf}
 use Rattle.definitions.specs.Synthesis.{insertLiteral}
-use Rattle.definitions.proofs.ListLaws.{and-left, and-right}
 use Rattle.definitions.proofs.Walks.{left-here}
-use Rattle.definitions.proofs.SetRight.{GoodClause}
-use Rattle.clause.proofs.ClauseLaws.{row-back, row-wide, good-right, list-below}
+use Rattle.definitions.proofs.SetRight.{GoodClause, good-insert}
+use Rattle.definitions.proofs.Accepts.{row-length}
+use Rattle.clause.proofs.ClauseLaws.{row-back, good-right, list-below}
 use Rattle.clause_set.specs.Put.{put, putAll, extended}
 use Rattle.clause_set.specs.Held.{mostAtoms, ClauseRow, Extensible}
-use Rattle.clause_set.proofs.Inserted.{new-atom, insert-good}
 
 module _ (rows : ℕ) (f : List ℕ) (l : ℕ) (s : Option (List (List ℕ))) where
   pub extend-none : member (atom l) (map atom f) ≡ true → putAll rows (extended f l) s ≡ s
@@ -32,12 +30,12 @@ module _ (rows : ℕ) (f : List ℕ) (l : ℕ) (s : Option (List (List ℕ))) wh
 
 module _ (f : List ℕ) (l : ℕ) (e : Extensible f) (low : l < 2 * mostAtoms) (new : member (atom l) (map atom f) ≡ false) where
   good : GoodClause mostAtoms width (insertLiteral l f)
-  good = insert-good mostAtoms width l f (e .good) (e .short) low (new-atom l f new)
+  good = good-insert mostAtoms width l f (e .good) (lt-ltb (length f) width (e .short)) low new
 
   pub extend-row : ClauseRow (rowOf (insertLiteral l f))
   extend-row =
       record {
-        wide = row-wide mostAtoms (insertLiteral l f) (omega arith) (good .most);
+        wide = row-length (insertLiteral l f) (good .most);
         right = good-right mostAtoms (insertLiteral l f) (omega arith) good;
       }
 
@@ -63,12 +61,3 @@ module _ {A : Type 0} (g : ℕ → List A) (i k : ℕ) where
   pub range-done : k ≡ 0 → each g (range i k) ≡ []
   unfolding each range
   range-done e = rw e
-
-pub low-at : (n i : ℕ) (xs : List ℕ) → allBelow n xs ≡ true → i < length xs → getD xs i 0 < n
-unfolding allBelow all
-low-at n i xs h k = ltb-true (getD xs i 0) n (at-all xs i h k)
-  where
-    at-all : (xs : List ℕ) (i : ℕ) → all (λ x. ltb x n) xs ≡ true → i < length xs → ltb (getD xs i 0) n ≡ true
-    at-all [] i h k = absurd (omega arith)
-    at-all (x ∷ xs) zero h k = and-left (ltb x n) (all (λ x. ltb x n) xs) h
-    at-all (x ∷ xs) (suc i) h k = at-all xs i (and-right (ltb x n) (all (λ x. ltb x n) xs) h) (omega arith)

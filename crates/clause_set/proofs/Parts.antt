@@ -14,7 +14,8 @@ use Rattle.definitions.specs.Groups.{hasClause}
 use Rattle.definitions.proofs.ListLaws.{decide, never, and-left, and-right, or-cases, or-left, or-right, any-in, any-of}
 use Rattle.definitions.proofs.PlaceLaws.{same-words}
 use Rattle.definitions.proofs.SetLaws.{range-of}
-use Rattle.clause.proofs.RowOrder.{same-true}
+use Rattle.definitions.proofs.OrderLaws.{same-self}
+use Rattle.definitions.proofs.Walks.{range-in}
 use Rattle.clause_set.specs.Put.{partOf, masks, partThere, blocked}
 use Rattle.clause_set.proofs.Counting.{Part}
 
@@ -154,14 +155,6 @@ mask-of (l ∷ f) (x ∷ d) fu du p =
         }
 
 -- ---- sets
-range-in : (start n j : ℕ) → j < n → List·Memᴰ (start + j) (range start n)
-unfolding range
-range-in start zero j h = absurd (omega arith)
-range-in start (suc n) zero h = let e : start + 0 ≡ start = omega arith in List·Memᴰ·head e
-range-in start (suc n) (suc j) h =
-    let e : start + suc j ≡ suc start + j = omega arith in
-    rw e (List·Memᴰ·tail (range-in (suc start) n j (omega arith)))
-
 pub clause-there : (D : List (List ℕ)) (f : List ℕ) → hasClause D f ≡ true → List·Memᴰ f D
 unfolding hasClause
 clause-there D f h =
@@ -170,7 +163,7 @@ clause-there D f h =
 
 pub there-clause : (D : List (List ℕ)) (f : List ℕ) → List·Memᴰ f D → hasClause D f ≡ true
 unfolding hasClause
-there-clause D f m = any-in (λ g. isSame (compareWords f g)) m (same-true f)
+there-clause D f m = any-in (λ g. isSame (compareWords f g)) m (same-self f)
 
 -- the clause is there, or a shorter part of it
 pub record Blocking (D : List (List ℕ)) (f : List ℕ) : Type 0 where
@@ -205,8 +198,7 @@ blocked-not D f d fu du some h m p = go (mask-of f d fu du p)
 
     no-part : (m : ℕ) → 1 ≤ m → m < 1 + (masks (length f) - 2) → List·Memᴰ (partOf m f) D → ⊥
     no-part m a b k =
-        let s : 1 + (m - 1) ≡ m = omega arith in
-        never {A = ⊥} (or-right (hasClause D f) (any-in (λ m. hasClause D (partOf m f)) (rw s at (range-in 1 (masks (length f) - 2) (m - 1) (omega arith))) (there-clause D (partOf m f) k))) h
+        never {A = ⊥} (or-right (hasClause D f) (any-in (λ m. hasClause D (partOf m f)) (range-in 1 (masks (length f) - 2) m a b) (there-clause D (partOf m f) k))) h
 
     first : (w : Mask d f) → w .mask ≡ 0 → ⊥
     first w e =

@@ -1,35 +1,21 @@
 -- Laws of the calls: the questions in turn. Assumes nothing.
-use mathlib.Core.Path.{_≡_, refl, sym, ap, _∙_}
+use mathlib.Core.Path.{_≡_, refl, _∙_}
 use mathlib.Core.List.{List, map}
 use mathlib.Core.Bool.{Bool, true, false, _&&_}
 use Prim.Native.Nat.{ℕ}
-use lib.Dec.{eqb, ltb}
-use lib.ListN.{length, drop}
-use borrow.Author.Tests.{eq-eqb, ne-eqb, eqb-true}
+use lib.Dec.{eqb}
+use lib.ListN.{length}
+use borrow.Author.Tests.{eq-eqb, ne-eqb}
 use Rattle.definitions.specs.Lists.{all, below}
 use Rattle.definitions.specs.Answer.{Refusal, Answer, finding, refused, verdict, outcome, stateAfter, becomes, ask, askAt, _>>=_}
-use Rattle.definitions.specs.Literal.{isState, allBelow}
+use Rattle.definitions.specs.Literal.{isState}
 use Rattle.definitions.specs.Fdr.{FdrTask}
 use Rattle.definitions.specs.FdrImage.{readFdr}
 use Rattle.definitions.specs.FdrStep.{isFdrState}
 use Rattle.definitions.specs.Coding.{toAtoms, codable, valueFrom, fromAtoms, fromAtomsCall, toAtomsCall}
-use Rattle.definitions.proofs.ListLaws.{and-left}
-use Rattle.definitions.proofs.CheckSound.{not-finding}
 use Rattle.answer.specs.Answer.{refusalAt}
+use Rattle.answer.proofs.Laws.{refused-first}
 use Rattle.fdr_image.specs.Reads.{fdrOf, ReadsFdr}
-
--- ---- the bytes of a task's state
-pub state-long : (n : ℕ) (s : List ℕ) → (length s ≡ n → ⊥) → false ≡ isState n s
-unfolding isState
-state-long n s h = rw (ne-eqb (length s) n h)
-
-pub state-bytes : (n : ℕ) (s : List ℕ) → length s ≡ n → isState n s ≡ all (λ x. ltb x 2) (drop 0 s)
-unfolding isState allBelow
-state-bytes n s h = rw (eq-eqb (length s) n h)
-
-pub state-length : (n : ℕ) (s : List ℕ) (r : Bool) → r ≡ isState n s → r ≡ true → length s ≡ n
-unfolding isState
-state-length n s r e h = eqb-true (length s) n (and-left (eqb (length s) n) (allBelow 2 s) (sym e ∙ h))
 
 -- ---- coding either way: 17, then the source and the target as one question 18, then what is left to ask
 unfoldable pub codes : List ℕ → (FdrTask → Bool) → (FdrTask → ℕ) → (FdrTask → Answer (List ℕ)) → ℕ → Answer (List ℕ)
@@ -42,11 +28,6 @@ encode-codes w s n = refl
 pub decode-codes : (w s : List ℕ) (n : ℕ) → toAtomsCall w s n ≡ codes w (λ t. isFdrState t s) (λ t. length (t .atoms)) (λ t. finding (toAtoms t s)) n
 unfolding toAtomsCall codes
 decode-codes w s n = refl
-
-refused-first : {A B : Type 0} (m : Answer A) (k : A → Answer B) (r : Refusal) → refused r ≡ verdict m → refused r ≡ (m >>= k)
-unfolding verdict _>>=_
-refused-first (finding a) k r e = absurd (not-finding e)
-refused-first (refused q) k r e = ap refused (cc)
 
 module _ (w target : List ℕ) (source : FdrTask → Bool) (size : FdrTask → ℕ) (rest : FdrTask → Answer (List ℕ)) (call : Answer (List ℕ)) (is : call ≡ codes w source size rest (length target)) where
   pub codes-17 : (r : Refusal) → refused r ≡ verdict (readFdr w) → outcome (refused r) target ≡ becomes target call

@@ -5,36 +5,20 @@ use mathlib.Core.Bool.{Bool, true, false, _&&_}
 use Prim.Native.Nat.{ℕ, zero, suc, _+_, _-_, _≤_, _<_}
 use native.Mathlib.Numerals.{add-one}
 use native.Mathlib.Omega.{arith}
-use lib.Dec.{eqb, ltb}
+use lib.Dec.{eqb}
 use lib.ListN.{length, getD, drop, set, length-set, length-map, replicate, length-replicate, drop-of-length-le}
 use lib.Seq.{getD-set-same, getD-set-other, ext-getD}
-use borrow.Author.Tests.{eq-eqb, ne-eqb, eqb-true, eqb-false, ltb-true}
+use borrow.Author.Tests.{eq-eqb, ne-eqb, eqb-true, eqb-false}
 use Rattle.definitions.specs.Lists.{all, range, below}
-use Rattle.definitions.specs.Groups.{Domain, Place}
-use Rattle.definitions.specs.Fdr.{FdrTask, noDomain, domainAt}
-use Rattle.definitions.specs.FdrImage.{valuesRight}
+use Rattle.definitions.specs.Groups.{Place}
+use Rattle.definitions.specs.Fdr.{FdrTask, domainAt}
 use Rattle.definitions.specs.Coding.{toAtoms, trueValues, codable, valueFrom}
-use Rattle.definitions.proofs.ListLaws.{never, and-left, and-right, all-at, table-at, table-length}
+use Rattle.definitions.proofs.ListLaws.{never, all-at, table-at, table-length}
 use Rattle.definitions.proofs.Simulation.{getD-map-low}
 use Rattle.definitions.proofs.Walks.{left-here, below-left, below-in}
 use Rattle.fdr_image.specs.Walk.{place}
 use Rattle.coding.specs.Found.{noneFound, valuesOf, withAtom, codableAt, valueAt, byteOf}
 use Rattle.coding.specs.Post.{Noted, Found}
-
--- ---- a value for each variable
-pub values-length : (D : List Domain) (s : List ℕ) → valuesRight D s ≡ true → length s ≡ length D
-unfolding valuesRight
-values-length [] [] h = refl
-values-length [] (x ∷ s) h = never h refl
-values-length (d ∷ D) [] h = never h refl
-values-length (d ∷ D) (x ∷ s) h = ap suc (values-length D s (and-right (ltb x (d .values)) (valuesRight D s) h))
-
-pub values-some : (D : List Domain) (s : List ℕ) → valuesRight D s ≡ true → (v : ℕ) → v < length D → 1 ≤ getD D v noDomain .values
-unfolding valuesRight
-values-some [] s h v l = absurd (omega arith)
-values-some (d ∷ D) [] h v l = never h refl
-values-some (d ∷ D) (x ∷ s) h zero l = let z = ltb-true x (d .values) (and-left (ltb x (d .values)) (valuesRight D s) h) in omega arith
-values-some (d ∷ D) (x ∷ s) h (suc v) l = values-some D s (and-right (ltb x (d .values)) (valuesRight D s) h) v (omega arith)
 
 -- ---- a table that is written from its start: the first i elements of xs are those of f
 pub record Written (f : ℕ → ℕ) (xs : List ℕ) (i : ℕ) : Type 0 where

@@ -2,7 +2,6 @@
 ghost use mathlib.Core.Path.{_≡_};
 ghost use lib.ListN.{length};
 ghost use Rattle.definitions.specs.Answer.{outcome, becomes};
-ghost use Rattle.definitions.specs.Literal.{isState};
 ghost use Rattle.definitions.specs.Coding.{fromAtoms, fromAtomsCall, toAtomsCall};
 ghost use Rattle.answer.specs.Answer.{verdictAnswer};
 ghost use Rattle.fdr_image.specs.Reads.{fdrOf};
@@ -10,23 +9,6 @@ ghost use Rattle.coding.specs.Post.{Encodes};
 
 mod found; // found.rt: the values of the true atoms
 mod atom; // atom.rt: the truth of atoms in a finite-domain state
-
-// Whether a state has `atoms` bytes, each 0 or 1.
-fn is_state(state: &[u8], atoms: usize) -> bool
-    ensures { λ r. ⌜ r ≡ isState atoms (now (state .entry)) ⌝ }
-{
-    if state.len() != atoms {
-        return false;
-    }
-    let mut a: usize = 0;
-    while a < state.len() {
-        if 2 <= state[a] {
-            return false;
-        }
-        a += 1;
-    }
-    true
-}
 
 // Codes a task's state from atoms: question 23. The target is written only where no variable is refused.
 fn encode_read(image: &[u16], state: &[u8], target: &mut [u16]) -> answer::Verdict
@@ -54,7 +36,7 @@ pub fn encode(image: &[u16], state: &[u8], target: &mut [u16]) -> answer::Verdic
     match reading {
         answer::Verdict::Refused(f) => answer::Verdict::Refused(f),
         answer::Verdict::Fine => {
-            let right = is_state(state, fdr_image::atoms(image));
+            let right = literal::is_state(state, fdr_image::atoms(image));
             if !right {
                 return answer::refuse(answer::Refusal::STATE);
             }

@@ -1,5 +1,5 @@
 -- Laws of the walks over lists, and of Boolean tests. Assumes nothing.
-use mathlib.Core.Bool.{Bool, true, false, not, _&&_, _||_, cond, false≢true, true≢false}
+use mathlib.Core.Bool.{Bool, true, false, _&&_, _||_, cond, false≢true, true≢false}
 use mathlib.Core.Logic.{_⊎_, inl, inr}
 use mathlib.Core.Path.{_≡_, refl, sym, _∙_, ap, subst}
 use mathlib.Core.List.{List, [], _∷_, _++_, map, List·Memᴰ, List·Memᴰ·head, List·Memᴰ·tail, List·Memᴰ·not-nil, List·Memᴰ·cases-cons}
@@ -47,10 +47,6 @@ and-right false b e = absurd (false≢true e)
 
 pub and-both : {a b : Bool} → a ≡ true → b ≡ true → (a && b) ≡ true
 and-both {a} {b} p q = rw (p, q)
-
-pub not-false : (a : Bool) → not a ≡ true → a ≡ false
-not-false true e = absurd (false≢true e)
-not-false false e = refl
 
 module _ {A : Type 0} (p : A → Bool) where
   pub any-in : {x : A} {xs : List A} → List·Memᴰ x xs → p x ≡ true → any p xs ≡ true

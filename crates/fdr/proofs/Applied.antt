@@ -8,7 +8,7 @@ use Prim.Native.Nat.{ℕ, zero, suc, _+_, _-_, _≤_, _<_}
 use native.Mathlib.Numerals.{add-two}
 use native.Mathlib.Omega.{arith}
 use lib.Dec.{eqb}
-use lib.ListN.{length, getD, replicate, length-replicate}
+use lib.ListN.{length, getD, length-replicate}
 use lib.Seq.{ext-getD}
 use borrow.Author.Tests.{eq-eqb, ne-eqb, eqb-true}
 use Rattle.definitions.specs.Lists.{any, all, below}
@@ -16,6 +16,7 @@ use Rattle.definitions.specs.Groups.{Domain}
 use Rattle.definitions.specs.Fdr.{FdrRow, FdrTask, noDomain, domainAt}
 use Rattle.definitions.specs.FdrStep.{isSet, clash, fdrConflict, setValue, cleared, sentToNone, fdrAfter, noneThere}
 use Rattle.definitions.proofs.ListLaws.{never, and-left, and-right, any-in, any-of, table-at, table-length}
+use Rattle.definitions.proofs.Walks.{zero-at}
 use Rattle.definitions.proofs.Simulation.{set-some, set-none}
 use Rattle.fdr.specs.Change.{noChanges, noteRows, become}
 use Rattle.fdr.specs.Post.{Changes}
@@ -73,12 +74,7 @@ omitted-none c f g h e = rw (eq-eqb c 1 h, e)
 -- nothing is noted at first
 pub blank : (v : ℕ) → getD noChanges v 0 ≡ 0
 unfolding noChanges
-blank v = go v 1024
-  where
-    go : (k r : ℕ) → getD {A = ℕ} (replicate r 0) k 0 ≡ 0
-    go k zero = refl
-    go zero (suc r) = refl
-    go (suc k) (suc r) = go k r
+blank v = zero-at v 1024
 
 pub blank-length : length noChanges ≡ 1024
 unfolding noChanges

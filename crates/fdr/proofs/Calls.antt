@@ -1,9 +1,9 @@
 -- Laws of the calls: the questions in turn. Assumes nothing.
-use mathlib.Core.Path.{_≡_, refl, sym, ap, _∙_, subst}
-use mathlib.Core.List.{List, [], _∷_, map, List·Memᴰ}
+use mathlib.Core.Path.{_≡_, sym, ap, _∙_, subst}
+use mathlib.Core.List.{List, map, List·Memᴰ}
 use mathlib.Core.Bool.{Bool, true, false, _&&_}
 use mathlib.Core.Option.{Option, none, some}
-use Prim.Native.Nat.{ℕ, zero, suc, _+_, _-_, _≤_, _<_}
+use Prim.Native.Nat.{ℕ, _+_, _-_, _≤_, _<_}
 use native.Mathlib.Omega.{arith}
 use lib.ListN.{length, getD, take, set}
 use lib.Seq.{take-suc, take-suc-set, take-all}
@@ -15,13 +15,15 @@ use Rattle.definitions.specs.Answer.{Refusal, Answer, finding, refused, verdict
 use Rattle.definitions.specs.StepLists.{runFrom, notRun}
 use Rattle.definitions.specs.Groups.{Domain}
 use Rattle.definitions.specs.Fdr.{FdrLiteral, FdrRow, FdrOperator, FdrTask, noDomain, atomValues, fdrAllTrue}
-use Rattle.definitions.specs.FdrImage.{isAtomValue, fdrLiteralRight, fdrRowRight, fdrOperatorRight, valuesRight, readFdr}
+use Rattle.definitions.specs.FdrImage.{isAtomValue, fdrLiteralRight, fdrRowRight, fdrOperatorRight, readFdr}
 use Rattle.definitions.specs.FdrStep.{isFdrState, fdrFired, fdrConflict, noneThere, fdrAfter, noFdrOperator, fdrStep, stepFdr, goalFdr, startFdr, runFdr}
 use Rattle.definitions.proofs.ListLaws.{and-left, and-right, all-at, all-of, keep-of}
 use Rattle.definitions.proofs.CheckSound.{not-finding, bind-of, ask-of}
 use Rattle.answer.specs.Answer.{refusalAt}
+use Rattle.answer.proofs.Laws.{refused-first}
 use Rattle.fdr_image.specs.Reads.{fdrOf, ReadsFdr}
 use Rattle.fdr_image.specs.Walk.{operatorIn}
+use Rattle.fdr_image.proofs.DomainLaws.{values-length, values-some}
 use Rattle.fdr_image.proofs.Reading.{reads, variables-are, initial-right}
 use Rattle.fdr.specs.Change.{noChanges, noted, noteRows, nonesIn, written, applied}
 use Rattle.fdr.specs.Post.{stateAnswer, Standing, Applying, LowBlock, Changes, NotedFor}
@@ -30,29 +32,10 @@ use Rattle.fdr.proofs.Applied.{conflict-sets, conflict-clears, calm, no
 use Rattle.fdr.proofs.ByRows.{nones-by-rows, written-is}
 
 -- ---- questions 17 and 18
-verdict-refused : {A B : Type 0} (m : Answer A) (k : A → Answer B) (r : Refusal) → refused r ≡ verdict m → refused r ≡ (m >>= k)
-unfolding verdict _>>=_
-verdict-refused (finding a) k r e = absurd (not-finding e)
-verdict-refused (refused q) k r e = ap refused (cc)
-
-values-length : (D : List Domain) (s : List ℕ) → valuesRight D s ≡ true → length s ≡ length D
-unfolding valuesRight
-values-length [] [] h = refl
-values-length [] (x ∷ s) h = absurd (let z : _≡_ {A = ℕ} 0 1 = cc in omega arith)
-values-length (d ∷ D) [] h = absurd (let z : _≡_ {A = ℕ} 0 1 = cc in omega arith)
-values-length (d ∷ D) (x ∷ s) h = ap suc (values-length D s (and-right (ltb x (d .values)) (valuesRight D s) h))
-
-values-some : (D : List Domain) (s : List ℕ) → valuesRight D s ≡ true → (v : ℕ) → v < length D → 1 ≤ getD D v noDomain .values
-unfolding valuesRight
-values-some [] s h v l = absurd (omega arith)
-values-some (d ∷ D) [] h v l = absurd (let z : _≡_ {A = ℕ} 0 1 = cc in omega arith)
-values-some (d ∷ D) (x ∷ s) h zero l = let z = ltb-true x (d .values) (and-left (ltb x (d .values)) (valuesRight D s) h) in omega arith
-values-some (d ∷ D) (x ∷ s) h (suc v) l = values-some D s (and-right (ltb x (d .values)) (valuesRight D s) h) v (omega arith)
-
 module _ (w s : List ℕ) where
   pub first-refused : (r : Refusal) → refused r ≡ verdict (readFdr w) → refused r ≡ stateAnswer w s
   unfolding stateAnswer
-  first-refused r e = verdict-refused (readFdr w) (λ t. ask 18 (isFdrState t s)) r e
+  first-refused r e = refused-first (readFdr w) (λ t. ask 18 (isFdrState t s)) r e
 
   module _ (right : Bool) (rd : ReadsFdr w) (er : right ≡ isFdrState (fdrOf w) s) where
     first-18 : ask 18 right ≡ stateAnswer w s
@@ -130,7 +113,7 @@ module _ (w s : List ℕ) where
 module _ (w s : List ℕ) where
   pub start-refused : (r : Refusal) → refused r ≡ verdict (readFdr w) → outcome (refused r) s ≡ becomes s (startFdr w s)
   unfolding startFdr becomes outcome verdict stateAfter
-  start-refused r e = rw (← verdict-refused (readFdr w) (λ t. ask 18 (eqb (length s) (length (t .domains))) >>= λ _. finding (t .initial)) r e)
+  start-refused r e = rw (← refused-first (readFdr w) (λ t. ask 18 (eqb (length s) (length (t .domains))) >>= λ _. finding (t .initial)) r e)
 
   module _ (rd : ReadsFdr w) (n : ℕ) (en : n ≡ length (fdrOf w .domains)) where
     pub start-long : (length s ≡ n → ⊥) → outcome (refused (refusalAt 18 0 0)) s ≡ becomes s (startFdr w s)

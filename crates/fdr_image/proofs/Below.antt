@@ -1,9 +1,9 @@
 -- The numbers below n, as elements of the list of them. Assumes nothing.
-use mathlib.Core.Path.{_≡_, refl, ap}
+use mathlib.Core.Path.{_≡_}
 use mathlib.Core.Bool.{Bool, true}
 use Prim.Native.Nat.{ℕ, zero, suc, _+_, _<_}
 use native.Mathlib.Omega.{arith}
-use lib.ListN.{length, getD}
+use lib.ListN.{getD}
 use Rattle.definitions.specs.Lists.{all, range, below}
 use Rattle.definitions.proofs.ListLaws.{all-at, all-of}
 use Rattle.definitions.proofs.SetLaws.{below-of}
@@ -18,20 +18,11 @@ module _ (p : ℕ → Bool) (n : ℕ) where
   below-all h = all-of p (below n) (λ x m. h x (below-of n m))
 
 -- the list itself
-range-length : (start n : ℕ) → length (range start n) ≡ n
-unfolding range
-range-length start zero = refl
-range-length start (suc n) = ap suc (range-length (suc start) n)
-
 range-getD : (start n i : ℕ) → i < n → getD (range start n) i 0 ≡ start + i
 unfolding range
 range-getD start zero i h = absurd (omega arith)
 range-getD start (suc n) zero h = omega arith
 range-getD start (suc n) (suc i) h = let z = range-getD (suc start) n i (omega arith) in omega arith
-
-pub below-length : (n : ℕ) → length (below n) ≡ n
-unfolding below
-below-length n = range-length 0 n
 
 pub below-getD : (n i : ℕ) → i < n → getD (below n) i 0 ≡ i
 unfolding below

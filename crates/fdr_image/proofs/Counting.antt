@@ -9,6 +9,7 @@ use lib.ListN.{length, getD, set, replicate, length-set, length-replicate}
 use lib.Seq.{getD-set-same, getD-set-other}
 use borrow.Author.Tests.{eqb-true, eqb-false, eq-eqb, ne-eqb, ltb-true, ltb-false}
 use Rattle.definitions.proofs.ListLaws.{and-left, and-right, and-both}
+use Rattle.definitions.proofs.Walks.{zero-at}
 use Rattle.fdr_image.specs.Walk.{allNew}
 
 -- how often k stands in a list
@@ -152,13 +153,8 @@ module _ (n room : ℕ) (xs : List ℕ) (low : Below n xs) (fits : n ≤ room) w
   once-length h = sym (sum-count xs n low) ∙ sum-all (λ k. count k xs) n h
 
   pub once-new : ((k : ℕ) → k < n → count k xs ≡ 1) → allNew (replicate room 0) xs ≡ true
-  once-new h = fresh-new (replicate room 0) xs in-room (record { once = λ k. go k (ltb k n) refl; unmarked = λ k l. absurd (l (zeros k room)) })
+  once-new h = fresh-new (replicate room 0) xs in-room (record { once = λ k. go k (ltb k n) refl; unmarked = λ k l. absurd (l (zero-at k room)) })
     where
       go : (k : ℕ) (b : Bool) → ltb k n ≡ b → count k xs ≤ 1
       go k true l = let z = h k (ltb-true k n l) in omega arith
       go k false l = let z = count-past n xs low k (ltb-false k n l) in omega arith
-
-      zeros : (k r : ℕ) → getD {A = ℕ} (replicate r 0) k 0 ≡ 0
-      zeros k zero = refl
-      zeros zero (suc r) = refl
-      zeros (suc k) (suc r) = zeros k r

@@ -2,17 +2,18 @@
 use mathlib.Core.Path.{_≡_, refl, sym, ap, _∙_}
 use mathlib.Core.List.{List, [], _∷_}
 use mathlib.Core.Bool.{Bool, true, false, _&&_}
-use Prim.Native.Nat.{ℕ, suc, _+_, _-_, _*_, _/_, _≤_, _<_}
+use Prim.Native.Nat.{ℕ, zero, suc, _+_, _-_, _*_, _/_, _≤_, _<_}
 use native.Mathlib.Numerals.{add-one}
 use native.Mathlib.Omega.{arith}
 use lib.Dec.{leb, ltb}
 use lib.ListN.{length, getD, drop, drop-of-length-le}
 use lib.Seq.{drop-cons}
-use borrow.Author.Tests.{lt-leb, le-leb, lt-ltb, le-ltb, eq-eqb, ne-eqb}
+use borrow.Author.Tests.{lt-leb, le-leb, lt-ltb, le-ltb, ltb-true, eq-eqb, ne-eqb}
 use Rattle.definitions.specs.Lists.{all}
 use Rattle.definitions.specs.Groups.{Domain}
 use Rattle.definitions.specs.Fdr.{noDomain, atomValues}
 use Rattle.definitions.specs.FdrImage.{domainsIn, isAtomValue, placeRight, fdrLiteralRight, valuesRight}
+use Rattle.definitions.proofs.ListLaws.{never, and-left, and-right}
 use Rattle.definitions.proofs.Walks.{all-off, all-on}
 use Rattle.fdr_image.specs.Walk.{place, literal, domainsRight}
 use Rattle.fdr_image.proofs.Pairs.{domains-length, domains-at}
@@ -88,6 +89,21 @@ module _ (D : List Domain) (xs : List ℕ) (i : ℕ) (inD : i < length D) (in-xs
 pub values-end : (D : List Domain) (xs : List ℕ) (i : ℕ) → length D ≤ i → length xs ≤ i → valuesRight (drop i D) (drop i xs) ≡ true
 unfolding valuesRight
 values-end D xs i h l = rw (drop-of-length-le D {i = i} h, drop-of-length-le xs {i = i} l)
+
+-- a right value for each variable
+pub values-length : (D : List Domain) (s : List ℕ) → valuesRight D s ≡ true → length s ≡ length D
+unfolding valuesRight
+values-length [] [] h = refl
+values-length [] (x ∷ s) h = never h refl
+values-length (d ∷ D) [] h = never h refl
+values-length (d ∷ D) (x ∷ s) h = ap suc (values-length D s (and-right (ltb x (d .values)) (valuesRight D s) h))
+
+pub values-some : (D : List Domain) (s : List ℕ) → valuesRight D s ≡ true → (v : ℕ) → v < length D → 1 ≤ getD D v noDomain .values
+unfolding valuesRight
+values-some [] s h v l = absurd (omega arith)
+values-some (d ∷ D) [] h v l = never h refl
+values-some (d ∷ D) (x ∷ s) h zero l = let z = ltb-true x (d .values) (and-left (ltb x (d .values)) (valuesRight D s) h) in omega arith
+values-some (d ∷ D) (x ∷ s) h (suc v) l = values-some D s (and-right (ltb x (d .values)) (valuesRight D s) h) v (omega arith)
 
 -- a literal that names an atom value
 pub literal-right : (D : List Domain) (v c : ℕ) (r : Bool) → r ≡ isAtomValue D v (c / 2) → fdrLiteralRight D (literal v c) ≡ r

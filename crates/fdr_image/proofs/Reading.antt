@@ -18,6 +18,7 @@ use Rattle.definitions.specs.FdrStep.{noFdrOperator}
 use Rattle.definitions.proofs.ListLaws.{never, and-left, and-right, all-at}
 use Rattle.definitions.proofs.Simulation.{getD-mem, getD-map-low}
 use Rattle.definitions.proofs.Walks.{range-all-off, range-all-on}
+use Rattle.definitions.proofs.FdrValid.{below-count}
 use Rattle.directory.specs.Directory.{Lies}
 use Rattle.directory.proofs.Laws.{directory-lies, directory-short}
 use Rattle.definitions.proofs.CheckSound.{not-finding}
@@ -25,7 +26,7 @@ use Rattle.fdr_image.specs.Reads.{fdrIn, fdrOf, ReadsFdr}
 use Rattle.fdr_image.specs.Walk.{place, blockRight, someOperator, operatorOr, blockParses, operatorIn, countsRight, domainsRight, atomsRight, goalRight, operatorsRight, partsRight, fdrRight}
 use Rattle.fdr_image.specs.Post.{Laid, BlockGiven}
 use Rattle.fdr_image.proofs.Pairs.{domains-length}
-use Rattle.fdr_image.proofs.Below.{below-at, below-length, below-getD}
+use Rattle.fdr_image.proofs.Below.{below-at, below-getD}
 
 -- ---- the questions in turn, all of them 17
 orRefuse : {A : Type 0} → Bool → Answer A → Answer A
@@ -232,7 +233,7 @@ module _ (w : List ℕ) (r : ReadsFdr w) where
   operators-are = (rw (read .task) (sym (table-size (getD w 1 0))), few-operators w (read .counts))
     where
       table-size : (k : ℕ) → length (map (operatorThere w) (below k)) ≡ k
-      table-size k = length-map (below k) (operatorThere w) ∙ below-length k
+      table-size k = length-map (below k) (operatorThere w) ∙ below-count k
 
   pub few-atoms : length (fdrOf w .atoms) ≤ 1024
   few-atoms = rw (read .task) (atoms-tests (domainsIn (part w 0)) (part w 1) (read .atoms) .0)
@@ -273,7 +274,7 @@ module _ (w : List ℕ) (r : ReadsFdr w) where
       (subst (λ (x : List ℕ). BlockGiven x (fdrThere w) i) (sym e) (given (part w (i + 4)) right (operator-at i (getD w 1 0) low)))
     where
       operator-at : (i k : ℕ) → i < k → operatorIn (part w (i + 4)) ≡ getD (map (operatorThere w) (below k)) i noFdrOperator
-      operator-at i k h = sym (getD-map-low (operatorThere w) (below k) i 0 noFdrOperator (rw (below-length k) h) ∙ ap (operatorThere w) (below-getD k i h))
+      operator-at i k h = sym (getD-map-low (operatorThere w) (below k) i 0 noFdrOperator (rw (below-count k) h) ∙ ap (operatorThere w) (below-getD k i h))
 
       given : (b : List ℕ) → blockRight (domainsIn (part w 0)) (fdrOperatorOf b) ≡ true → operatorIn b ≡ getD (fdrThere w .operators) i noFdrOperator → BlockGiven b (fdrThere w) i
       given b h e = let z = block-some (domainsIn (part w 0)) b h in record { parses = z .0; operator = e; right = z .1 }

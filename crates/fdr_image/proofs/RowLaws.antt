@@ -1,7 +1,7 @@
 -- Rows and blocks, for the walks over them. Assumes nothing.
 use mathlib.Core.Path.{_≡_, refl, sym, ap, _∙_}
 use mathlib.Core.List.{List, [], _∷_}
-use mathlib.Core.Bool.{Bool, true, false, _&&_}
+use mathlib.Core.Bool.{Bool, true, false, _&&_, and-false}
 use mathlib.Core.Option.{Option, none, some}
 use Prim.Native.Nat.{ℕ, zero, suc, _+_, _-_, _*_, _≤_, _<_}
 use native.Mathlib.Numerals.{add-one, add-two, add-three, add-four}
@@ -62,11 +62,7 @@ withRow r (some rs) = some (r ∷ rs)
 
 rows-with : (D : List Domain) (r : FdrRow) (q : Option (List FdrRow)) → rowsRight D (withRow r q) ≡ (fdrRowRight D r && rowsRight D q)
 unfolding rowsRight withRow all
-rows-with D r none = and-none (fdrRowRight D r)
-  where
-    and-none : (a : Bool) → false ≡ (a && false)
-    and-none true = refl
-    and-none false = refl
+rows-with D r none = sym (and-false (fdrRowRight D r))
 rows-with D r (some rs) = refl
 
 -- the first four words of what is left
@@ -158,11 +154,7 @@ withPrecondition pre (some rs) = some (record { precondition = pre; rows = rs })
 
 block-with : (D : List Domain) (pre : List FdrLiteral) (q : Option (List FdrRow)) → blockRight D (withPrecondition pre q) ≡ (all (fdrLiteralRight D) pre && rowsRight D q)
 unfolding blockRight withPrecondition rowsRight fdrOperatorRight
-block-with D pre none = and-none (all (fdrLiteralRight D) pre)
-  where
-    and-none : (a : Bool) → false ≡ (a && false)
-    and-none true = refl
-    and-none false = refl
+block-with D pre none = sym (and-false (all (fdrLiteralRight D) pre))
 block-with D pre (some rs) = refl
 
 block-none : (b : List ℕ) → length b ≤ 2 * getD b 0 0 + 1 → fdrOperatorOf b ≡ none

@@ -12,7 +12,8 @@ use Rattle.definitions.specs.Groups.{Written, written, groupsCall}
 use Rattle.definitions.proofs.CheckSound.{same-finding, bind-of}
 use Rattle.task.specs.Reads.{taskIn, taskOf, Reads}
 use Rattle.clause.specs.Rows.{clausesOf, ClausesRead}
-use Rattle.clause.proofs.ReadLaws.{verdict-refused, verdict-finding, read-are, read-of}
+use Rattle.answer.proofs.Laws.{verdict-refused, verdict-finding}
+use Rattle.clause.proofs.ReadLaws.{read-are, read-of}
 use Rattle.groups.specs.Cover.{groupsAnswer}
 
 -- the task and the clauses that the checker accepts are those that are read

@@ -16,7 +16,7 @@ use Rattle.definitions.specs.Groups.{mutex, join, groupsBelow, groups, Place, p
 use Rattle.definitions.proofs.ListLaws.{decide, never, all-at, all-of, member-in, member-of, or-left, or-right, or-cases}
 use Rattle.definitions.proofs.GroupLaws.{In, in-low, in-mem, mem-in, all-below, group-of}
 use Rattle.definitions.proofs.PlaceLaws as places
-use Rattle.state.specs.Marks.{markIf}
+use Rattle.literal.specs.Mark.{markIf}
 use Rattle.groups.specs.Join.{Apart, Lowest, Joins, Placed, Grouped}
 
 -- ---- marks of the groups that atom a cannot join

@@ -3,17 +3,16 @@ use mathlib.Core.Bool.{Bool, true, false, _&&_, _||_, cond}
 use mathlib.Core.Logic.{_⊎_, inl, inr}
 use mathlib.Core.Path.{_≡_, refl, sym, _∙_, ap}
 use mathlib.Core.List.{List, [], _∷_}
-use Prim.Native.Nat.{ℕ, zero, suc, _+_, _*_, _/_, _%_, _≤_, _<_}
+use Prim.Native.Nat.{ℕ, _+_, _*_, _/_, _%_, _≤_, _<_}
 use native.Mathlib.Decide.{ℕ-discrete}
 use native.Mathlib.Omega.{arith}
-use lib.Dec.{eqb, ltb}
+use lib.Dec.{eqb}
 use lib.ListN.{length, getD, drop, set}
 use lib.Seq.{getD-set-same, getD-set-other}
-use borrow.Author.Tests.{eq-eqb, ne-eqb, ltb-true}
+use borrow.Author.Tests.{eq-eqb, ne-eqb}
 use Rattle.definitions.specs.Lists.{any, all}
-use Rattle.definitions.specs.Literal.{positive, allBelow}
+use Rattle.definitions.specs.Literal.{positive}
 use Rattle.definitions.specs.Clauses.{clauseOf, rowAt}
-use Rattle.definitions.proofs.ListLaws.{and-left, and-right}
 use Rattle.clause.specs.Rows.{rowCount, clausesOf}
 use Rattle.clause.proofs.RowLaws.{clauses-left, clauses-done}
 use Rattle.groups.specs.None.{inGroup, liesIn}
@@ -27,16 +26,6 @@ module _ (places : List ℕ) (v l : ℕ) where
   pub in-negative : (l % 2 ≡ 0 → ⊥) → false ≡ inGroup places v l
   unfolding inGroup positive
   in-negative h = rw (ne-eqb (l % 2) 0 h)
-
--- the literal at i is below n
-pub low-at : (n : ℕ) (ls : List ℕ) (i : ℕ) → allBelow n ls ≡ true → i < length ls → getD ls i 0 < n
-unfolding allBelow all
-low-at n [] i h low = absurd (omega arith)
-low-at n (x ∷ ls) i h low = go i low (λ j k. low-at n ls j (and-right (ltb x n) (all (λ x. ltb x n) ls) h) k)
-  where
-    go : (i : ℕ) → i < suc (length ls) → ((j : ℕ) → j < length ls → getD ls j 0 < n) → getD (x ∷ ls) i 0 < n
-    go zero k rec = ltb-true x n (and-left (ltb x n) (all (λ x. ltb x n) ls) h)
-    go (suc j) k rec = rec j (omega arith)
 
 -- ---- one clause, whose first literal's variable is g
 module _ (places f : List ℕ) (x g : ℕ) (some : 1 ≤ length f) (ex : x ≡ getD f 0 0) (eg : g ≡ getD places x 0) where

@@ -6,8 +6,8 @@ use Prim.Native.Nat.{ℕ, suc, _+_, _*_, _≤_, _<_}
 use native.Mathlib.Numerals.{add-one}
 use native.Mathlib.Decide.{ℕ-discrete}
 use native.Mathlib.Omega.{arith}
-use lib.ListN.{length, getD, take, drop, set, replicate, replicate-append-replicate, drop-of-length-le, take-append-drop}
-use lib.Seq.{ext-getD, getD-set-same, getD-set-other, drop-cons, take-all, take-suc, take-suc-set, drop-set-lt, append-snoc}
+use lib.ListN.{length, getD, take, drop, set, replicate, drop-of-length-le, take-append-drop}
+use lib.Seq.{ext-getD, getD-set-same, getD-set-other, drop-cons, take-suc, take-suc-set, drop-set-lt, append-snoc}
 use Rattle.definitions.specs.Lists.{any, below, member}
 use Rattle.definitions.specs.Image.{Row, Operator}
 use Rattle.definitions.specs.Closure.{has, bit, closure, contradictory}
@@ -94,15 +94,6 @@ module _ (N : ℕ) (C : List (List ℕ)) (o : Operator) (D : List (List ℕ)) wh
   contradictory-fail h =
       sym (flag-none (λ f. not (kept N C o f)) D (replicate (length D) 0) (λ f m. ap not (kept-contradictory N C o f h)))
       ∙ flag-zeros (λ f. not (kept N C o f)) D
-
--- ---- clearing
-pub clear-more : (s : List ℕ) (i : ℕ) → i < length s → take i s ≡ replicate i 0 → take (i + 1) (set s i 0) ≡ replicate (i + 1) 0
-clear-more s i h e = rw (add-one, take-suc-set s i 0 h, e, replicate-append-replicate {A = ℕ} i 1 0, add-one)
-
-pub clear-end : (s z : List ℕ) (i : ℕ) → length s ≤ i → i ≤ length s → length s ≡ length z → take i s ≡ replicate i 0 → s ≡ replicate (length z) 0
-clear-end s z i past inside same e =
-    let k : i ≡ length z = omega arith in
-    sym (take-all i s past) ∙ e ∙ ap (λ n. replicate n 0) k
 
 -- ---- the test of one clause
 module _ (l : ℕ) (G f : List ℕ) where

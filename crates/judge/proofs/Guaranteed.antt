@@ -17,6 +17,7 @@ use Rattle.definitions.specs.Closure.{has, bit, closure, contradictory}
 use Rattle.definitions.specs.Kept.{rowsWith, allIn, madeTrue, staysTrue, guaranteed}
 use Rattle.definitions.proofs.ListLaws.{decide, table-at, table-length}
 use Rattle.propagation.proofs.Sets.{complement-back}
+use Rattle.propagation.proofs.Marks.{bit-back}
 use Rattle.judge.specs.Judging.{flagsOf, addEffects, canFire, dropChanged, guaranteedFlags}
 
 -- ---- tests of kept lists
@@ -67,11 +68,6 @@ flag-bits false true true = refl
 flag-bits false true false = refl
 flag-bits false false true = refl
 flag-bits false false false = refl
-
-pub bit-flag : (b : Bool) → eqb (bit b) 1 ≡ b
-unfolding bit
-bit-flag true = refl
-bit-flag false = refl
 
 -- ---- one flag after the walks over the rows
 module _ (b : Bool) (S : List ℕ) (i x m : ℕ) (low : m < length S) where
@@ -210,7 +206,7 @@ module _ (N : ℕ) (C : List (List ℕ)) where
 
     pub guaranteed-has : (m : ℕ) → m < 2 * N → has (guaranteedFlags N C o ls) m ≡ guaranteed N C o ls (closure N C ls) m
     unfolding has guaranteedFlags
-    guaranteed-has m low = ap (λ x. eqb x 1) (table-at (λ m. bit (guaranteed N C o ls (closure N C ls) m)) (2 * N) m low) ∙ bit-flag (guaranteed N C o ls (closure N C ls) m)
+    guaranteed-has m low = ap (λ x. eqb x 1) (table-at (λ m. bit (guaranteed N C o ls (closure N C ls) m)) (2 * N) m low) ∙ bit-back (guaranteed N C o ls (closure N C ls) m)
 
 -- ---- the walks over the rows, by the row that comes next
 module _ (K : List ℕ) (rs rs′ : List Row) (e : ℕ) (cs S : List ℕ) (next : rs ≡ record { effect = e; conditions = cs } ∷ rs′) where

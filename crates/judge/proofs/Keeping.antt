@@ -18,14 +18,14 @@ use Rattle.definitions.specs.Kept.{kept}
 use Rattle.definitions.specs.Checker.{keeps}
 use Rattle.answer.specs.Answer.{refusalAt}
 use Rattle.clause.specs.Rows.{rowCount, clausesIn, clausesOf, ClausesRead}
-use Rattle.clause.proofs.ReadLaws.{verdict-refused}
-use Rattle.clause.proofs.WordLaws.{ClauseRead}
 use Rattle.task.specs.Reads.{taskOf, Reads}
 use Rattle.task.specs.Post.{BlockGiven}
 use Rattle.task.proofs.Questions.{operator-right}
 use Rattle.judge.specs.Judging.{failFlags}
 use Rattle.judge.specs.Promise.{Given, Judged}
-use Rattle.judge.proofs.Guaranteed.{bit-flag}
+use Rattle.propagation.proofs.Marks.{bit-back}
+use Rattle.answer.proofs.Laws.{verdict-refused}
+use Rattle.clause.specs.Rows.{ClauseRead}
 
 -- what judging asks, of an operator of a task
 pub given-operator : (w c b : List ℕ) (n i : ℕ) → Reads w → n ≡ taskOf w .atoms → n ≤ 1024 → i < length (taskOf w .operators) → ClausesRead n c → BlockGiven b (taskOf w) i → Given n c b
@@ -57,7 +57,7 @@ module _ (n : ℕ) (f : List ℕ) (row : ClauseRead n f) where
   -- its flag
   pub one-fails : (C : List (List ℕ)) (o o′ : Operator) (s : List ℕ) → o ≡ o′ → s ≡ failFlags n C o (clausesOf f) → has s 0 ≡ not (kept n C o′ (clauseOf f))
   unfolding failFlags has
-  one-fails C o o′ s eo e = rw (e, one-clause, eo) (bit-flag (not (kept n C o′ (clauseOf f))))
+  one-fails C o o′ s eo e = rw (e, one-clause, eo) (bit-back (not (kept n C o′ (clauseOf f))))
 
 -- ---- the questions in turn
 module _ (w c f : List ℕ) (i marks : ℕ) where

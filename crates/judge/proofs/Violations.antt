@@ -1,26 +1,22 @@
 -- A clause is kept exactly if no row violates it, and whether a row violates it is told by the flags of the guaranteed literals. Assumes nothing.
-use mathlib.Core.Bool.{Bool, true, false, not, _&&_, _||_, false≢true}
+use mathlib.Core.Bool.{Bool, true, false, not, _&&_, _||_, and-false}
 use mathlib.Core.Logic.{_⊎_, inl, inr}
 use mathlib.Core.Path.{_≡_, refl, sym, _∙_, ap, ap₂, subst}
 use mathlib.Core.List.{List, [], _∷_, _++_, List·Memᴰ, List·Memᴰ·head, List·Memᴰ·tail}
 use Prim.Native.Nat.{ℕ, _*_}
 use lib.Dec.{eqb}
-use borrow.Author.Tests.{eqb-true, eq-eqb}
+use borrow.Author.Tests.{eqb-true, eq-eqb, not-true}
 use Rattle.definitions.specs.Lists.{any, all, keep, member}
 use Rattle.definitions.specs.Literal.{complement, allBelow}
 use Rattle.definitions.specs.Image.{Row, Operator}
 use Rattle.definitions.specs.Closure.{has, closure, contradictory}
 use Rattle.definitions.specs.Kept.{rowsWith, madeTrue, staysTrue, guaranteed, keptCase, kept}
-use Rattle.definitions.proofs.ListLaws.{decide, never, not-false, or-left, and-left, and-right, and-both, any-of, any-in, all-at, all-of, keep-in, keep-of, member-of, member-in}
+use Rattle.definitions.proofs.ListLaws.{decide, never, or-left, and-left, and-right, and-both, any-of, any-in, all-at, all-of, keep-in, keep-of, member-of, member-in}
+use Rattle.definitions.proofs.EncodeLaws.{same-bool}
 use Rattle.propagation.proofs.Sets.{complement-back}
 use Rattle.judge.specs.Judging.{guaranteedFlags, isOther, lacksOther, violates, someViolates}
 use Rattle.judge.proofs.Guaranteed.{any-keep, guaranteed-has}
 use Rattle.clause.proofs.ClauseLaws.{below-at}
-
-same-test : (a b : Bool) → (a ≡ true → b ≡ true) → (b ≡ true → a ≡ true) → a ≡ b
-same-test true b f g = sym (f refl)
-same-test false true f g = absurd (false≢true (g refl))
-same-test false false f g = refl
 
 -- two tests that agree on the elements of a list
 pub any-agree : {A : Type 0} (p q : A → Bool) (xs : List A) → ((x : A) → List·Memᴰ x xs → p x ≡ q x) → any p xs ≡ any q xs
@@ -53,11 +49,7 @@ module _ (N : ℕ) (C : List (List ℕ)) (o : Operator) where
   -- a row whose K is contradictory violates no clause
   pub violates-none : (r : Row) (f : List ℕ) → contradictory N (closure N C (o .precondition ++ r .conditions)) ≡ true → violates N C o r f ≡ false
   unfolding violates
-  violates-none r f h = ap (λ c. member (complement (r .effect)) f && not c) (case-guaranteed f (complement (r .effect)) r ∙ or-left _ h) ∙ go (member (complement (r .effect)) f)
-    where
-      go : (b : Bool) → (b && false) ≡ false
-      go true = refl
-      go false = refl
+  violates-none r f h = ap (λ c. member (complement (r .effect)) f && not c) (case-guaranteed f (complement (r .effect)) r ∙ or-left _ h) ∙ and-false (member (complement (r .effect)) f)
 
   -- nor one whose effect is the complement of no literal of it
   pub violates-passed : (r : Row) (f : List ℕ) → member (complement (r .effect)) f ≡ false → violates N C o r f ≡ false
@@ -80,7 +72,7 @@ module _ (N : ℕ) (C : List (List ℕ)) (o : Operator) where
   -- the cases of each literal and each row with its complement, row by row
   cases-rows : (f : List ℕ) → all (λ l. all (keptCase N C o f l) (rowsWith o (complement l))) f ≡ not (someViolates N C o (o .rows) f)
   unfolding someViolates violates rowsWith
-  cases-rows f = same-test cases (not some) forth back
+  cases-rows f = same-bool cases (not some) forth back
     where
       cases : Bool
       cases = all (λ l. all (keptCase N C o f l) (rowsWith o (complement l))) f
@@ -98,7 +90,7 @@ module _ (N : ℕ) (C : List (List ℕ)) (o : Operator) where
               let m = and-left (member l f) (not (keptCase N C o f l (w .it))) (w .passes) in
               let inRows = keep-in (λ r. eqb (r .effect) (complement l)) (w .mem) (eq-eqb (w .it .effect) (complement l) (sym (complement-back (w .it .effect)))) in
               let good = all-at (keptCase N C o f l) (all-at (λ l. all (keptCase N C o f l) (rowsWith o (complement l))) h (member-of l f m)) inRows in
-              never good (not-false (keptCase N C o f l (w .it)) (and-right (member l f) (not (keptCase N C o f l (w .it))) (w .passes)))
+              never good (not-true (keptCase N C o f l (w .it)) (and-right (member l f) (not (keptCase N C o f l (w .it))) (w .passes)))
           go (inr e) = ap not e
 
       back : not some ≡ true → cases ≡ true
@@ -109,7 +101,7 @@ module _ (N : ℕ) (C : List (List ℕ)) (o : Operator) where
           go l ml r k (inr e) =
               let same : complement (r .effect) ≡ l = ap complement (eqb-true (r .effect) (complement l) (k .1)) ∙ complement-back l in
               let violated : violates N C o r f ≡ true = subst (λ (z : ℕ). (member z f && not (keptCase N C o f z r)) ≡ true) (sym same) (and-both (member-in ml) (ap not e)) in
-              never (any-in (λ r. violates N C o r f) (k .0) violated) (not-false some h)
+              never (any-in (λ r. violates N C o r f) (k .0) violated) (not-true some h)
 
   -- all clauses are kept where the closure of C and the precondition is contradictory
   pub kept-contradictory : (f : List ℕ) → contradictory N (closure N C (o .precondition)) ≡ true → kept N C o f ≡ true

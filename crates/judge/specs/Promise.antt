@@ -7,8 +7,7 @@ use lib.ListN.{length}
 use Rattle.definitions.specs.Image.{operatorRight}
 use Rattle.definitions.specs.Closure.{closure, contradictory}
 use Rattle.definitions.specs.Clauses.{clauseRight, rowAt}
-use Rattle.clause.specs.Rows.{rowCount, ClausesRead, clausesOf}
-use Rattle.clause.proofs.WordLaws.{ClauseRead}
+use Rattle.clause.specs.Rows.{rowCount, ClausesRead, ClauseRead, clausesOf}
 use Rattle.task.specs.Reads.{taskOf, Reads}
 use Rattle.task.specs.Walk.{blockParses, operatorIn}
 use Rattle.propagation.specs.Marks.{Marked}

@@ -1,7 +1,7 @@
 -- Lists that ascend, as one walk: each word is at least the bound that the word before it sets, and below a common bound. Assumes nothing.
 use mathlib.Core.Path.{_≡_, refl, sym, ap, _∙_}
 use mathlib.Core.List.{List, [], _∷_, map}
-use mathlib.Core.Bool.{Bool, true, false, _&&_}
+use mathlib.Core.Bool.{Bool, true, false, _&&_, and-false}
 use Prim.Native.Nat.{ℕ, zero, suc, _+_, _*_, _/_, _≤_, _<_, zero-le}
 use native.Mathlib.Numerals.{add-one}
 use native.Mathlib.Omega.{arith}
@@ -80,10 +80,6 @@ next-literal x y =
     same-bool (ltb x y && ltb (x / 2) (y / 2)) (leb (nextLiteral x) y)
     (λ h. le-leb (nextLiteral x) y (let z = ltb-true (x / 2) (y / 2) (and-right (ltb x y) (ltb (x / 2) (y / 2)) h) in omega arith))
     (λ h. let z = leb-true (nextLiteral x) y h in and-both (lt-ltb x y (omega arith)) (lt-ltb (x / 2) (y / 2) (omega arith)))
-
-and-false : (b : Bool) → (b && false) ≡ false
-and-false true = refl
-and-false false = refl
 
 spread : (a b c d e f : Bool) → ((a && b) && (c && d) && (e && f)) ≡ ((a && e) && (c && (b && d && f)))
 spread true b true d true f = refl

@@ -4,8 +4,9 @@ ghost use mathlib.Core.Bool.{_&&_};
 ghost use Prim.Native.Nat.{_<_, _≤_};
 ghost use lib.ListN.{getD};
 ghost use Rattle.definitions.specs.Lists.{ascending};
-ghost use Rattle.definitions.specs.Literal.{complement, allBelow, literalList, trueIn, allTrue};
+ghost use Rattle.definitions.specs.Literal.{complement, allBelow, literalList, isState, trueIn, allTrue};
 ghost use Rattle.literal.specs.Literal.{literalOf};
+ghost use Rattle.literal.specs.Mark.{markIf};
 
 // A literal: twice its atom if the atom is true, one more if it is false.
 pub struct Literal {
@@ -94,6 +95,23 @@ pub fn is_literal_list(words: &[u16], atoms: usize) -> bool
     true
 }
 
+// Whether a state has `atoms` bytes, each 0 or 1.
+pub fn is_state(state: &[u8], atoms: usize) -> bool
+    ensures { λ r. ⌜ r ≡ isState atoms (now (state .entry)) ⌝ }
+{
+    if state.len() != atoms {
+        return false;
+    }
+    let mut a: usize = 0;
+    while a < state.len() {
+        if 2 <= state[a] {
+            return false;
+        }
+        a += 1;
+    }
+    true
+}
+
 // The byte of an atom in a state, zero for an atom outside it.
 fn value(state: &[u8], atom: usize) -> u8
     ensures { λ r. ⌜ r ≡ getD (now (state .entry)) atom 0 ⌝ }
@@ -122,4 +140,15 @@ pub fn all_true(state: &[u8], literals: &[u16]) -> bool
         i += 1;
     }
     true
+}
+
+// Sets mark `l`, if `fires`.
+pub fn mark_if(fires: bool, marks: &mut [u8], l: usize)
+    ensures { λ _. ⌜ now (marks .exit) ≡ markIf fires (now (marks .entry)) l ⌝ }
+{
+    if fires {
+        if l < marks.len() {
+            marks[l] = 1;
+        }
+    }
 }

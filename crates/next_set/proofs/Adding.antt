@@ -1,5 +1,5 @@
 -- What an operator adds, by rows, flags and a list of literals. Assumes nothing.
-use mathlib.Core.Bool.{Bool, true, false, not, _&&_, _||_, cond, false≢true}
+use mathlib.Core.Bool.{Bool, true, false, not, _&&_, cond, false≢true}
 use mathlib.Core.Logic.{_⊎_, inl, inr}
 use mathlib.Core.Option.{Option, none, some}
 use mathlib.Core.Path.{_≡_, refl, sym, _∙_, ap, subst}
@@ -8,7 +8,7 @@ use Prim.Native.Nat.{ℕ, zero, suc, _+_, _-_, _*_, _≤_, _<_}
 use native.Mathlib.Omega.{arith}
 use lib.Dec.{eqb, ltb}
 use lib.ListN.{length, getD, take}
-use borrow.Author.Tests.{ltb-true, lt-ltb}
+use borrow.Author.Tests.{ltb-true, lt-ltb, not-true}
 use Rattle.definitions.specs.Lists.{any, all, keep, each, range, below, member, empty, ascending, compareWords, isSame}
 use Rattle.definitions.specs.Literal.{atom, allBelow, literalList}
 use Rattle.definitions.specs.Image.{Operator, Task}
@@ -16,7 +16,7 @@ use Rattle.definitions.specs.Closure.{has, bit, closure, contradictory}
 use Rattle.definitions.specs.Clauses.{width, clauseOf, rowOf, clauseRight, rowAt}
 use Rattle.definitions.specs.Kept.{kept, guaranteed}
 use Rattle.definitions.specs.Synthesis.{insertLiteral, guarantees, weakenedBy}
-use Rattle.definitions.proofs.ListLaws.{decide, not-false, and-left, and-right, and-both, all-at, all-of, keep-of, table-length, any-in, any-of}
+use Rattle.definitions.proofs.ListLaws.{decide, or-false-left, and-left, and-right, and-both, all-at, all-of, keep-of, table-length, any-in, any-of}
 use Rattle.definitions.proofs.SetLaws.{below-of, range-of}
 use Rattle.definitions.proofs.Walks.{below-in}
 use Rattle.clause.specs.Rows.{rowCount, clausesOf, ClausesRead, RightRows, Ascending}
@@ -124,12 +124,8 @@ module _ (t : Task) (C : List (List ℕ)) (o : Operator) where
         let w = any-of (isDue C flags k) (range 0 (length C)) h in
         let i = range-of 0 (length C) (w .mem) .1 in
         let d = sym (due-fails (w .it) (omega arith)) ∙ w .passes in
-        let e = not-false (kept (t .atoms) C o (getD C (w .it) [])) (and-right (eqb (length (getD C (w .it) [])) k) (not (kept (t .atoms) C o (getD C (w .it) []))) d) in
-        subst (λ (m : ℕ). contradictory m (closure m C (o .precondition)) ≡ false) atoms (or-off (contradictory (t .atoms) (closure (t .atoms) C (o .precondition))) _ e)
-      where
-        or-off : (a b : Bool) → (a || b) ≡ false → a ≡ false
-        or-off true b h = h
-        or-off false b h = refl
+        let e = not-true (kept (t .atoms) C o (getD C (w .it) [])) (and-right (eqb (length (getD C (w .it) [])) k) (not (kept (t .atoms) C o (getD C (w .it) []))) d) in
+        subst (λ (m : ℕ). contradictory m (closure m C (o .precondition)) ≡ false) atoms (or-false-left (contradictory (t .atoms) (closure (t .atoms) C (o .precondition))) _ e)
 
 -- the listed literals
 pub listed-low : (flags list : List ℕ) (k : ℕ) → Listed flags list k → length flags ≤ 2 * mostAtoms → allBelow (2 * mostAtoms) (take k list) ≡ true

@@ -1,8 +1,8 @@
 -- The rows that are to be weakened, and what is added for them. Assumes nothing.
-use mathlib.Core.Bool.{Bool, true, false, not, _&&_, _||_, cond, false≢true}
+use mathlib.Core.Bool.{true, false, not, _||_, cond, false≢true, and-true, and-false}
 use mathlib.Core.Logic.{_⊎_, inl, inr}
 use mathlib.Core.Option.{Option, none, some}
-use mathlib.Core.Path.{_≡_, refl, sym, _∙_, ap, subst}
+use mathlib.Core.Path.{_≡_, sym, _∙_, ap, subst}
 use mathlib.Core.List.{List, [], _∷_, _++_, map}
 use Prim.Native.Nat.{ℕ, zero, suc, _+_, _-_, _*_, _≤_, _<_}
 use native.Mathlib.Omega.{arith}
@@ -23,24 +23,16 @@ use Rattle.next_set.specs.Build.{isDue, addedRow}
 use Rattle.next_set.specs.Post.{Weakening}
 use Rattle.next_set.proofs.Flags.{has-one, has-not}
 
-and-off : (a : Bool) → (a && false) ≡ false
-and-off true = refl
-and-off false = refl
-
-and-on : (a : Bool) → (a && true) ≡ a
-and-on true = refl
-and-on false = refl
-
 module _ (w flags : List ℕ) (k i : ℕ) (inside : i < rowCount w) where
   pub due-unflagged : (getD flags i 0 ≡ 1 → ⊥) → false ≡ isDue (clausesOf w) flags k i
   unfolding isDue
-  due-unflagged h = sym (rw (has-not flags i h) (and-off (eqb (length (getD (clausesOf w) i [])) k)))
+  due-unflagged h = sym (rw (has-not flags i h) (and-false (eqb (length (getD (clausesOf w) i [])) k)))
 
   pub due-flagged : (row f : List ℕ) → row ≡ rowAt w i → f ≡ clauseOf row → getD flags i 0 ≡ 1 → eqb (length f) k ≡ isDue (clausesOf w) flags k i
   unfolding isDue
   due-flagged row f r e h =
       let q : f ≡ getD (clausesOf w) i [] = e ∙ ap clauseOf r ∙ sym (clauses-at w i inside) in
-      ap (λ (g : List ℕ). eqb (length g) k) q ∙ sym (rw (has-one flags i h) (and-on (eqb (length (getD (clausesOf w) i [])) k)))
+      ap (λ (g : List ℕ). eqb (length g) k) q ∙ sym (rw (has-one flags i h) (and-true (eqb (length (getD (clausesOf w) i [])) k)))
 
 -- ---- what is added for a row
 module _ (rows : ℕ) (C : List (List ℕ)) (flags list : List ℕ) (k i : ℕ) (s : Option (List (List ℕ))) where

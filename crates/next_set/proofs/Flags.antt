@@ -13,7 +13,7 @@ use Rattle.definitions.specs.Lists.{keep, range, below}
 use Rattle.definitions.specs.Closure.{has, bit}
 use Rattle.definitions.proofs.Walks.{below-left}
 use Rattle.judge.specs.Judging.{flagMore}
-use Rattle.judge.proofs.Guaranteed.{bit-flag}
+use Rattle.propagation.proofs.Marks.{bit-back}
 use Rattle.next_set.specs.Post.{Listed}
 use Rattle.next_set.proofs.NextSet.{keep-yes, keep-no}
 
@@ -53,7 +53,7 @@ module _ (t : List ℕ → Bool) where
 
     pub flag-has : (i : ℕ) → i < length flags → has flags i ≡ t (getD D i [])
     unfolding has
-    flag-has i h = rw (flag-at i h) (bit-flag (t (getD D i [])))
+    flag-has i h = rw (flag-at i h) (bit-back (t (getD D i [])))
 
 bit-or : (a b : Bool) → cond a 1 (bit b) ≡ bit (a || b)
 unfolding bit

@@ -8,7 +8,7 @@ use Prim.Native.Nat.{ℕ, zero, suc, _+_, _-_, _*_, _≤_, _<_}
 use native.Mathlib.Omega.{arith}
 use lib.Dec.{eqb, ltb, leb}
 use lib.ListN.{length}
-use borrow.Author.Tests.{eqb-true, eq-eqb, ltb-true, lt-ltb, le-leb, lt-leb}
+use borrow.Author.Tests.{eqb-true, eq-eqb, ltb-true, lt-ltb, le-leb, lt-leb, not-true}
 use Rattle.definitions.specs.Lists.{any, all, keep, each, empty, below, range, member}
 use Rattle.definitions.specs.Literal.{atom}
 use Rattle.definitions.specs.Image.{Operator, Task}
@@ -16,16 +16,16 @@ use Rattle.definitions.specs.Clauses.{width}
 use Rattle.definitions.specs.Closure.{closure}
 use Rattle.definitions.specs.Kept.{kept, guaranteed}
 use Rattle.definitions.specs.Synthesis.{insertLiteral, insertClause, insertAll, contains, undominated, Tested, tested, passes, guarantees, weakenedBy, weakened, nextOf, next, fits}
-use Rattle.definitions.proofs.ListLaws.{decide, never, not-false, and-left, and-right, and-both, map-in, map-of, keep-in, keep-of}
+use Rattle.definitions.proofs.ListLaws.{decide, never, and-left, and-right, and-both, map-in, map-of, keep-in, keep-of}
 use Rattle.definitions.proofs.OrderLaws.{up, insertAll-up, keep-up}
 use Rattle.definitions.proofs.SetLaws.{each-of, below-of, insertClause-of, insertAll-of, insertLiteral-keeps}
-use Rattle.definitions.proofs.SetRight.{GoodClause}
+use Rattle.definitions.proofs.SetRight.{GoodClause, insert-length, good-insert}
 use Rattle.clause.proofs.ClauseLaws.{same-set}
 use Rattle.clause_set.specs.Put.{putAll}
 use Rattle.next_set.specs.Build.{fitted, survivors, addedFor, addedBy, addedAt, addedFrom}
 use Rattle.clause_set.proofs.Counting.{Part, part-length}
 use Rattle.clause_set.proofs.Insertion.{puts-none, puts-append}
-use Rattle.clause_set.proofs.Inserted.{insert-length, NewAtom, new-atom, insert-good, Goods, put-self, all-keeps}
+use Rattle.clause_set.proofs.Inserted.{Goods, put-self, all-keeps}
 use Rattle.next_set.proofs.Undominated.{least-of, least-in, Antichain, up-distinct}
 use Rattle.next_set.proofs.Levels.{Stage, Grown, puts, next-stage}
 
@@ -120,7 +120,7 @@ module _ (t : Task) (C : List (List ℕ)) where
   pub record Literal (f g : List ℕ) : Type 0 where
     pub it : ℕ
     pub low : it < 2 * t .atoms
-    pub new : NewAtom it f
+    pub new : member (atom it) (map atom f) ≡ false
     pub same : g ≡ insertLiteral it f
 
   pub literal-of : (f g : List ℕ) (o : Operator) → List·Memᴰ g (weakenedBy t C f o) → Literal f g
@@ -132,7 +132,7 @@ module _ (t : Task) (C : List (List ℕ)) where
       record {
         it = a .it;
         low = below-of (2 * t .atoms) (c .0);
-        new = new-atom (a .it) f (not-false (member (atom (a .it)) (map atom f)) (b .1));
+        new = not-true (member (atom (a .it)) (map atom f)) (b .1);
         same = a .same;
       }
 
@@ -153,7 +153,7 @@ module _ (t : Task) (C : List (List ℕ)) where
                 mem = mf;
                 operator = a .it;
                 one = b .0;
-                fails = not-false (fine (a .it) f) (b .1);
+                fails = not-true (fine (a .it) f) (b .1);
                 there = a .there;
               },
               ltb-true (length f) n e,
@@ -182,7 +182,7 @@ module _ (t : Task) (C : List (List ℕ)) where
             mem = mf;
             operator = o;
             one = mo;
-            fails = not-false (fine o f) (and-right (eqb (length f) k) (not (fine o f)) e);
+            fails = not-true (fine o f) (and-right (eqb (length f) k) (not (fine o f)) e);
             there = rw (e, addedFor) at j;
           },
           eqb-true (length f) k (and-left (eqb (length f) k) (not (fine o f)) e),
@@ -195,6 +195,11 @@ module _ (t : Task) (C : List (List ℕ)) where
         each-in (addedBy t C k) (t .operators) (w .one)
         (each-in (addedFor t C k (w .operator)) C (w .mem)
         (rw (and-both (eq-eqb (length (w .clause)) k h) (ap not (w .fails)), addedFor) (w .there)))
+
+  -- the survivors of a set in row order are in row order
+  pub survivors-up : up C ≡ true → up (survivors t C) ≡ true
+  unfolding survivors
+  survivors-up order = keep-up (λ f. all (λ o. fine o f) (t .operators)) C order
 
 -- ---- C is a set of the synthesis, in a buffer of its rows
 module _ (t : Task) (n rows : ℕ) (C : List (List ℕ)) (few : t .atoms ≤ 1024) (some-n : 1 ≤ n) (narrow : n ≤ width) (good : (f : List ℕ) → List·Memᴰ f C → GoodClause (t .atoms) n f) (order : up C ≡ true) (anti : Antichain C) (inside : length C ≤ rows) where
@@ -219,7 +224,7 @@ module _ (t : Task) (n rows : ℕ) (C : List (List ℕ)) (few : t .atoms ≤ 102
   weak-good : {g : List ℕ} (w : Weak t C g) → length (w .clause) < n → GoodClause (t .atoms) n g
   weak-good {g} w h =
       let l = literal-of t C (w .clause) g (w .operator) (w .there) in
-      rw (l .same) (insert-good (t .atoms) n (l .it) (w .clause) (good (w .clause) (w .mem)) h (l .low) (l .new))
+      rw (l .same) (good-insert (t .atoms) n (l .it) (w .clause) (good (w .clause) (w .mem)) (lt-ltb (length (w .clause)) n h) (l .low) (l .new))
 
   weak-length : {g : List ℕ} (w : Weak t C g) → length g ≡ suc (length (w .clause))
   weak-length {g} w =
@@ -264,20 +269,16 @@ module _ (t : Task) (n rows : ℕ) (C : List (List ℕ)) (few : t .atoms ≤ 102
           let e = weak-length (w .0) in
           anti g (w .0 .clause) (survivor-of m) (w .0 .mem) (omega arith) (λ x j. p x (weak-part (w .0) x j))
 
-  survivors-up : up (survivors t C) ≡ true
-  unfolding survivors
-  survivors-up = keep-up (λ f. all (λ o. kept (t .atoms) C o f) (t .operators)) C order
-
   abbrev Staged : ℕ → List (List ℕ) → Type 0
   Staged k D = Stage (t .atoms) rows few U goods k D
 
   start : Staged 1 (survivors t C)
   start =
       record {
-        order = survivors-up;
+        order = survivors-up t C order;
         least = λ f m. survivor-least m;
         lower = λ f m l. go f l (from (least-of U f m .0));
-        room = (let h = part-length (up-distinct (survivors t C) survivors-up) C (λ f m. survivor-of m) in omega arith);
+        room = (let h = part-length (up-distinct (survivors t C) (survivors-up t C order)) C (λ f m. survivor-of m) in omega arith);
       }
     where
       go : (f : List ℕ) → length f ≤ 1 → From f → List·Memᴰ f (survivors t C)
@@ -322,7 +323,7 @@ module _ (t : Task) (n rows : ℕ) (C : List (List ℕ)) (few : t .atoms ≤ 102
   unfolding undominated
   next-up =
       keep-up (λ f. not (any (contains f) U)) U
-      (insertAll-up (each (weakened t n C) (tested t C)) (map (λ x. x .clause) (keep passes (tested t C))) (rw (survivors-are t C) survivors-up))
+      (insertAll-up (each (weakened t n C) (tested t C)) (map (λ x. x .clause) (keep passes (tested t C))) (rw (survivors-are t C) (survivors-up t C order)))
 
   finish : (q : Option (List (List ℕ))) → Final q → q ≡ fitted rows (undominated U)
   unfolding fitted fits

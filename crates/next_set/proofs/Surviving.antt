@@ -15,8 +15,9 @@ use Rattle.definitions.specs.Clauses.{width, mostRows, rowOf, rowAt, clauseWord
 use Rattle.definitions.specs.Synthesis.{next, setAt}
 use Rattle.definitions.proofs.ListLaws.{keep-of}
 use Rattle.definitions.proofs.SetLaws.{range-of}
-use Rattle.definitions.proofs.OrderLaws.{up, keep-up}
+use Rattle.definitions.proofs.OrderLaws.{up}
 use Rattle.definitions.proofs.SetRight.{GoodClause, good-sets, up-sets}
+use Rattle.definitions.proofs.Accepts.{words-length}
 use Rattle.clause.specs.Rows.{rowCount, clausesOf, ClausesRead, RightRows}
 use Rattle.clause.proofs.RowLaws.{clauses-length}
 use Rattle.clause.proofs.ReadLaws.{read-right, read-whole}
@@ -24,7 +25,7 @@ use Rattle.clause.proofs.WordLaws.{row-at}
 use Rattle.clause_set.specs.Put.{putAll}
 use Rattle.clause_set.specs.Held.{mostAtoms, held, Room}
 use Rattle.clause_set.proofs.Inserted.{Goods}
-use Rattle.clause_set.proofs.Insertion.{words-length, room-of, held-of}
+use Rattle.clause_set.proofs.Insertion.{room-of, held-of}
 use Rattle.task.specs.Reads.{taskOf}
 use Rattle.next_set.specs.Build.{failsBelow, survivors, addedFrom, fitted, rowsWithout, wordsWithout}
 use Rattle.next_set.specs.Post.{Copied, Round}
@@ -32,7 +33,7 @@ use Rattle.next_set.proofs.Flags.{flags-length, flag-has}
 use Rattle.next_set.proofs.Testing.{fails-all}
 use Rattle.next_set.proofs.Adding.{each-agree, each-places, list-more}
 use Rattle.next_set.proofs.Undominated.{Antichain, sets-antichain}
-use Rattle.next_set.proofs.NextSet.{keep-yes, keep-no, next-built}
+use Rattle.next_set.proofs.NextSet.{keep-yes, keep-no, survivors-up, next-built}
 
 each-keep : {A B : Type 0} (g : A → List B) (p : A → Bool) (xs : List A) → each g (keep p xs) ≡ each (λ x. cond (p x) (g x) []) xs
 unfolding each keep
@@ -114,22 +115,18 @@ module _ (w c : List ℕ) (n most rows : ℕ) (r : Round w c n most rows) where
           most = (let a = g .most in let b = r .narrow in omega arith);
         }
 
-    survivors-up : up (survivors t C) ≡ true
-    unfolding survivors
-    survivors-up = keep-up (λ f. all (λ o. kept (t .atoms) C o f) (t .operators)) C order
-
     module _ (k : ℕ) (v : List ℕ) (copied : Copied c flags v k) (fits : width * rows ≤ length v) where
       size : length (survivors t C) ≡ k
-      size = cancel (length (survivors t C)) k (sym (words-length mostAtoms (omega arith) (survivors t C) survivors-good) ∙ ap length (sym survivor-words) ∙ copied .size)
+      size = cancel (length (survivors t C)) k (sym (words-length mostAtoms width (omega arith) (omega arith) (survivors t C) survivors-good) ∙ ap length (sym survivor-words) ∙ copied .size)
 
       inside : k ≤ rows
       inside = let a = copied .few in let b = r .size in omega arith
 
       pub survivors-room : Room rows k v
-      survivors-room = room-of rows k v (survivors t C) inside (r .few) fits survivors-good survivors-up size (copied .words ∙ survivor-words)
+      survivors-room = room-of rows k v (survivors t C) inside (r .few) fits survivors-good (survivors-up t C order) size (copied .words ∙ survivor-words)
 
       survivors-held : held k v ≡ survivors t C
-      survivors-held = held-of rows k v (survivors t C) inside (r .few) fits survivors-good survivors-up size (copied .words ∙ survivor-words)
+      survivors-held = held-of rows k v (survivors t C) inside (r .few) fits survivors-good (survivors-up t C order) size (copied .words ∙ survivor-words)
 
       pub next-set-built : putAll rows (addedFrom t C 1 (most - 1)) (some (held k v)) ≡ fitted rows (next t most C)
       next-set-built =

@@ -23,7 +23,7 @@ use Rattle.task.specs.Post.{BlockGiven}
 use Rattle.judge.specs.Judging.{failFlags, flagMore}
 use Rattle.judge.specs.Promise.{Given, Judged}
 use Rattle.judge.proofs.Keeping.{given-operator}
-use Rattle.judge.proofs.Guaranteed.{bit-flag}
+use Rattle.propagation.proofs.Marks.{bit-back}
 use Rattle.next_set.specs.Build.{failsBelow, survivors}
 use Rattle.next_set.specs.Post.{Read}
 use Rattle.next_set.proofs.Flags.{flag-map}
@@ -92,4 +92,4 @@ module _ (t : Task) (C : List (List ℕ)) where
 
       go : (D : List (List ℕ)) → any (λ x. eqb x 1) (map (λ f. bit (failsBelow t C (length (t .operators)) f)) D) ≡ not (all (λ f. all (λ o. kept (t .atoms) C o f) (t .operators)) D)
       go [] = refl
-      go (f ∷ D) = rw (bit-flag (failsBelow t C (length (t .operators)) f), fails-all f, go D) (or-not (all (λ o. kept (t .atoms) C o f) (t .operators)) (all (λ f. all (λ o. kept (t .atoms) C o f) (t .operators)) D))
+      go (f ∷ D) = rw (bit-back (failsBelow t C (length (t .operators)) f), fails-all f, go D) (or-not (all (λ o. kept (t .atoms) C o f) (t .operators)) (all (λ f. all (λ o. kept (t .atoms) C o f) (t .operators)) D))

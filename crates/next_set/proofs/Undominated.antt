@@ -2,19 +2,20 @@
 use mathlib.Core.Bool.{Bool, true, false, not, _&&_, _||_, false≢true}
 use mathlib.Core.Logic.{_⊎_, inl, inr}
 use mathlib.Core.Path.{_≡_, refl, sym, _∙_, ap, subst}
-use mathlib.Core.List.{List, [], _∷_, map, List·Memᴰ, List·Memᴰ·head, List·Memᴰ·tail, List·Memᴰ·not-nil, List·Memᴰ·cases-cons}
+use mathlib.Core.List.{List, [], _∷_, map, List·Memᴰ, List·Memᴰ·head, List·Memᴰ·tail, List·Memᴰ·not-nil}
 use Prim.Native.Nat.{ℕ, zero, suc, _+_, _-_, _*_, _≤_, _<_}
 use native.Mathlib.Omega.{arith}
 use lib.Dec.{eqb, ltb}
 use lib.ListN.{length, getD}
-use borrow.Author.Tests.{ltb-true, lt-ltb}
+use borrow.Author.Tests.{ltb-true, lt-ltb, not-true}
 use Rattle.definitions.specs.Lists.{any, all, keep, below, member}
 use Rattle.definitions.specs.Image.{Task, initialState}
 use Rattle.definitions.specs.Clauses.{rowOf, rowLess}
 use Rattle.definitions.specs.Synthesis.{contains, undominated, firstSet, nextOf, next, setAt}
-use Rattle.definitions.proofs.ListLaws.{decide, never, not-false, and-left, and-right, and-both, any-in, any-of, all-at, all-of, keep-in, keep-of, map-of, member-in, member-of}
+use Rattle.definitions.proofs.ListLaws.{decide, never, and-left, and-right, and-both, any-in, any-of, all-at, all-of, keep-in, keep-of, map-of, member-in, member-of}
 use Rattle.definitions.proofs.OrderLaws.{up, upFrom}
-use Rattle.clause.proofs.RowOrder.{row-trans, row-irrefl}
+use Rattle.clause.proofs.RowOrder.{row-irrefl}
+use Rattle.clause.proofs.ClauseLaws.{above-all}
 use Rattle.clause_set.proofs.Counting.{Part, Distinct, nothing, another}
 
 pub contains-of : (f g : List ℕ) → contains f g ≡ true → (length g < length f) × Part g f
@@ -34,7 +35,7 @@ module _ (U : List (List ℕ)) where
   unfolding undominated
   least-of f m =
       let k = keep-of (λ f. not (any (contains f) U)) U m in
-      (k .0, λ g mg h p. never {A = ⊥} (any-in (contains f) mg (contains-in f g h p)) (not-false (any (contains f) U) (k .1)))
+      (k .0, λ g mg h p. never {A = ⊥} (any-in (contains f) mg (contains-in f g h p)) (not-true (any (contains f) U) (k .1)))
 
   pub least-in : (f : List ℕ) → List·Memᴰ f U → ((g : List ℕ) → List·Memᴰ g U → length g < length f → Part g f → ⊥) → List·Memᴰ f (undominated U)
   unfolding undominated
@@ -108,23 +109,11 @@ sets-antichain t n zero = first-antichain t
 sets-antichain t n (suc r) = undominated-antichain _
 
 -- ---- a set in row order has no clause twice
-from-all : (g : List ℕ) (D : List (List ℕ)) → upFrom g D ≡ true → (x : List ℕ) → List·Memᴰ x D → rowLess (rowOf g) (rowOf x) ≡ true
-unfolding upFrom
-from-all g [] h x m = absurd (List·Memᴰ·not-nil m)
-from-all g (y ∷ D) h x m = go (List·Memᴰ·cases-cons m) (λ k. from-all y D (and-right (rowLess (rowOf g) (rowOf y)) (upFrom y D) h) x k)
-  where
-    first : rowLess (rowOf g) (rowOf y) ≡ true
-    first = and-left (rowLess (rowOf g) (rowOf y)) (upFrom y D) h
-
-    go : (x ≡ y) ⊎ List·Memᴰ x D → (List·Memᴰ x D → rowLess (rowOf y) (rowOf x) ≡ true) → rowLess (rowOf g) (rowOf x) ≡ true
-    go (inl e) rec = rw e first
-    go (inr k) rec = row-trans (rowOf g) (rowOf y) (rowOf x) first (rec k)
-
 from-distinct : (g : List ℕ) (D : List (List ℕ)) → upFrom g D ≡ true → Distinct (g ∷ D)
 unfolding upFrom
 from-distinct g [] h = another (λ m. List·Memᴰ·not-nil m) nothing
 from-distinct g (y ∷ D) h =
-    another (λ m. row-irrefl (rowOf g) (from-all g (y ∷ D) h g m)) (from-distinct y D (and-right (rowLess (rowOf g) (rowOf y)) (upFrom y D) h))
+    another (λ m. row-irrefl (rowOf g) (above-all g (y ∷ D) h g m)) (from-distinct y D (and-right (rowLess (rowOf g) (rowOf y)) (upFrom y D) h))
 
 pub up-distinct : (D : List (List ℕ)) → up D ≡ true → Distinct D
 unfolding up

@@ -1,8 +1,8 @@
 -- Laws of marks, for the walks and for callers. Assumes nothing.
 use mathlib.Core.Path.{_≡_, refl, sym, _∙_, subst}
 use mathlib.Core.Bool.{Bool, true, false}
-use mathlib.Core.List.{List, [], _∷_, _++_, List·Memᴰ, List·Memᴰ·head, List·Memᴰ·tail}
-use Prim.Native.Nat.{ℕ, zero, suc, _+_, _*_, _≤_, _<_}
+use mathlib.Core.List.{List, [], _∷_, _++_}
+use Prim.Native.Nat.{ℕ, _+_, _*_, _≤_, _<_}
 use native.Mathlib.Omega.{arith}
 use native.Mathlib.Decide.{ℕ-discrete}
 use lib.Dec.{eqb, ltb}
@@ -12,7 +12,7 @@ use Rattle.definitions.specs.Lists.{all}
 use Rattle.definitions.specs.Literal.{allBelow}
 use Rattle.definitions.specs.Closure.{has, bit, closure, contradictory}
 use Rattle.definitions.proofs.ListLaws.{and-left, and-right, and-both}
-use Rattle.clause.proofs.ClauseLaws.{below-at}
+use Rattle.clause.proofs.ClauseLaws.{low-at}
 use Rattle.propagation.specs.Marks.{Marked, Behind, ConsistentMarks, Closes}
 use Rattle.propagation.specs.declared.Closing.{Closing}
 use Rattle.propagation.specs.declared.Closing.the-variants.{Consistent, Contradictory}
@@ -48,7 +48,7 @@ below-both n (x ∷ a) b p q =
     and-both (and-left (ltb x n) (all (λ x. ltb x n) a) p) (below-both n a b (and-right (ltb x n) (all (λ x. ltb x n) a) p) q)
 
 -- ---- reading
-bit-back : (b : Bool) → eqb (bit b) 1 ≡ b
+pub bit-back : (b : Bool) → eqb (bit b) 1 ≡ b
 unfolding bit
 bit-back true = refl
 bit-back false = refl
@@ -61,13 +61,8 @@ pub marked-same : (N : ℕ) (ms S T : List ℕ) (l : ℕ) → Marked N ms S → 
 marked-same N ms S T l m n h = sym (marked-has N ms S l m h) ∙ marked-has N ms T l n h
 
 -- a literal of a list
-pub place-in : (ls : List ℕ) (i : ℕ) → i < length ls → List·Memᴰ (getD ls i 0) ls
-place-in [] i h = absurd (omega arith)
-place-in (l ∷ ls) zero h = List·Memᴰ·head refl
-place-in (l ∷ ls) (suc i) h = List·Memᴰ·tail (place-in ls i (omega arith))
-
 pub place-below : (n : ℕ) (ls : List ℕ) (i x : ℕ) → allBelow n ls ≡ true → x ≡ getD ls i 0 → i < length ls → x < n
-place-below n ls i x b e h = rw e (below-at n ls b (getD ls i 0) (place-in ls i h))
+place-below n ls i x b e h = rw e (low-at n ls i b h)
 
 -- ---- copying, up to mark i
 pub record Copied (from to₀ to : List ℕ) (end i : ℕ) : Type 0 where

@@ -13,10 +13,10 @@ use Rattle.definitions.specs.Literal.{complement}
 use Rattle.definitions.specs.Closure.{has}
 use Rattle.definitions.proofs.ListLaws.{or-cases, member-in}
 use Rattle.definitions.proofs.Walks.{left-here, any-end}
+use Rattle.definitions.proofs.Simulation.{getD-mem}
 use Rattle.propagation.specs.declared.Closing.the-variants as closing
 use Rattle.propagation.specs.Walk.{In, Part, Lists, Clash, Bits, Sound, Added, Seeded}
 use Rattle.propagation.proofs.Sets.{set-same, set-in, set-least, set-bits, set-consistent}
-use Rattle.propagation.proofs.Marks.{place-in}
 
 pub record Seeding (s₀ ls s : List ℕ) (i : ℕ) : Type 0 where
   pub most : i ≤ length ls
@@ -41,7 +41,7 @@ seed-start s ls o =
 
 module _ (s₀ ls s : List ℕ) (i x : ℕ) (k : Seeding s₀ ls s i) (at : x ≡ getD ls i 0) (inside : i < length ls) where
   listed : member x ls ≡ true
-  listed = rw at (member-in (place-in ls i inside))
+  listed = rw at (member-in (getD-mem ls i 0 inside))
 
   -- the complement is there
   pub seed-clash : In s (complement x) → Seeded s₀ ls s closing.Contradictory

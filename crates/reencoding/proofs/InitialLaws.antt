@@ -24,7 +24,7 @@ use Rattle.groups.specs.Join.{Placed}
 use Rattle.groups.specs.Cover.{Covered}
 use Rattle.groups.proofs.Joining.{at-variable, variable-at, variable-low}
 use Rattle.groups.specs.Writing.{Wrote}
-use Rattle.groups.proofs.Omitting.{low-at}
+use Rattle.clause.proofs.ClauseLaws.{low-at}
 use Rattle.reencoding.specs.Words.{atomsOf}
 use Rattle.reencoding.specs.Parts.{lower, lowered}
 

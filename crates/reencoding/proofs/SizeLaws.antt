@@ -1,7 +1,7 @@
 -- Sizes: a block of L words is an operator of that size, and becomes 2L - 2 words. Assumes nothing.
 use mathlib.Core.Bool.{Bool, true, false, _&&_, false≢true}
 use mathlib.Core.Option.{Option, none, some}
-use mathlib.Core.Path.{_≡_, refl, sym, _∙_, ap, subst}
+use mathlib.Core.Path.{_≡_, refl, sym, _∙_, ap}
 use mathlib.Core.List.{List, [], _∷_, _++_, map}
 use Prim.Native.Nat.{ℕ, zero, suc, _+_, _-_, _*_, _≤_, _<_}
 use native.Mathlib.Omega.{arith}
@@ -13,7 +13,7 @@ use Rattle.definitions.specs.Lists.{all, each}
 use Rattle.definitions.specs.Literal.{allBelow, literalList}
 use Rattle.definitions.specs.Image.{Row, Operator, rowsOf, rowRight, operatorRight}
 use Rattle.definitions.proofs.ListLaws.{and-left, and-right}
-use Rattle.definitions.proofs.ImageSize.{rowsSize, operatorSize, operatorsSize}
+use Rattle.definitions.proofs.ImageSize.{rowsSize, operatorSize, operatorsSize, not-some}
 use Rattle.task.specs.Walk.{row, someRows, rowsOr, parsesAt, rowsAt, blockParses, operatorIn}
 use Rattle.task.specs.Post.{BlockRead}
 use Rattle.task.proofs.Blocks.{block-read}
@@ -29,14 +29,6 @@ parsed b p k h = go (rowsOf k (drop p b)) h
     go : (o : Option (List Row)) → someRows o ≡ true → o ≡ some (rowsOr o)
     go none e = absurd (false≢true e)
     go (some rs) e = refl
-
-isSome : {A : Type 0} → Option A → Type 0
-isSome none = ⊥
-isSome (some a) = Unit {0}
-
-not-some : {A : Type 0} {B : Type 0} {a : A} → _≡_ {A = Option A} none (some a) → B
-unfolding isSome
-not-some {A} e = absurd (subst isSome (sym e) tt)
 
 rows-exact : (k : ℕ) (xs : List ℕ) (rs : List Row) → rowsOf k xs ≡ some rs → (length rs ≡ k) × (rowsSize rs ≡ length xs)
 unfolding rowsOf rowsSize

@@ -17,7 +17,7 @@ use Rattle.task.specs.Walk.{row}
 use Rattle.clause.proofs.ClauseLaws.{list-below}
 use Rattle.groups.specs.Writing.{Wrote, Writing}
 use Rattle.groups.proofs.Writes.{write-two, write-same}
-use Rattle.groups.proofs.Omitting.{low-at}
+use Rattle.clause.proofs.ClauseLaws.{low-at}
 use Rattle.reencoding.specs.Words.{atomsOf, literalBy, literalsBy, countedBy, rowBy, rowsBy, operatorBy}
 
 -- ---- lengths

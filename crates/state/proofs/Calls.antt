@@ -3,10 +3,9 @@ use mathlib.Core.Path.{_≡_, refl, sym, ap, _∙_}
 use mathlib.Core.List.{List}
 use mathlib.Core.Bool.{Bool, true, false, cond, not, _&&_}
 use Prim.Native.Nat.{ℕ, _*_, _≤_, _<_}
-use lib.ListN.{length, drop, replicate}
-use lib.Dec.{ltb, eqb}
+use lib.ListN.{length, replicate}
+use lib.Dec.{eqb}
 use borrow.Author.Tests.{lt-ltb, le-ltb, eq-eqb, ne-eqb, eqb-true, not-true, not-false}
-use Rattle.definitions.specs.Lists.{all}
 use Rattle.definitions.specs.Answer.{Refusal, Answer, finding, refused, verdict, outcome, stateAfter, becomes, ask, askAt, _>>=_}
 use Rattle.definitions.specs.StepLists.{runFrom, notRun}
 use Rattle.definitions.specs.Literal.{allTrue, allBelow, isState}
@@ -15,6 +14,7 @@ use Rattle.definitions.specs.Step.{effects, conflict, result, operatorAt, step,
 use Rattle.definitions.proofs.ListLaws.{and-left, and-right}
 use Rattle.definitions.proofs.CheckSound.{not-finding, bind-of, ask-of}
 use Rattle.answer.specs.Answer.{refusalAt}
+use Rattle.answer.proofs.Laws.{refused-first}
 use Rattle.task.specs.Reads.{taskOf, Reads}
 use Rattle.task.specs.Walk.{operatorIn}
 use Rattle.task.proofs.Questions.{reads}
@@ -22,25 +22,11 @@ use Rattle.state.specs.Marks.{markFired, changed, unmarked, Settled}
 use Rattle.state.specs.Post.{stateAnswer, Standing}
 use Rattle.state.proofs.Marks.{marks-conflict, marks-result, marks-gone}
 
--- ---- question 18
-pub state-long : (n : ℕ) (s : List ℕ) → (length s ≡ n → ⊥) → false ≡ isState n s
-unfolding isState
-state-long n s h = rw (ne-eqb (length s) n h)
-
-pub state-bytes : (n : ℕ) (s : List ℕ) → length s ≡ n → isState n s ≡ all (λ x. ltb x 2) (drop 0 s)
-unfolding isState allBelow
-state-bytes n s h = rw (eq-eqb (length s) n h)
-
 -- ---- questions 1 to 7 and 18
-verdict-refused : {A B : Type 0} (m : Answer A) (k : A → Answer B) (r : Refusal) → refused r ≡ verdict m → refused r ≡ (m >>= k)
-unfolding verdict _>>=_
-verdict-refused (finding a) k r e = absurd (not-finding e)
-verdict-refused (refused q) k r e = ap refused (cc)
-
 module _ (w s : List ℕ) where
   pub first-refused : (r : Refusal) → refused r ≡ verdict (readTask w) → refused r ≡ stateAnswer w s
   unfolding stateAnswer
-  first-refused r e = verdict-refused (readTask w) (λ t. ask 18 (isState (t .atoms) s)) r e
+  first-refused r e = refused-first (readTask w) (λ t. ask 18 (isState (t .atoms) s)) r e
 
   module _ (n : ℕ) (right : Bool) (rd : Reads w) (en : n ≡ taskOf w .atoms) (er : right ≡ isState n s) where
     first-18 : ask 18 right ≡ stateAnswer w s
@@ -118,7 +104,7 @@ module _ (w s : List ℕ) where
 module _ (w s : List ℕ) where
   pub start-refused : (r : Refusal) → refused r ≡ verdict (readTask w) → outcome (refused r) s ≡ becomes s (startTask w s)
   unfolding startTask becomes outcome verdict stateAfter
-  start-refused r e = rw (← verdict-refused (readTask w) (λ t. ask 18 (eqb (length s) (t .atoms)) >>= λ _. finding (initialState t)) r e)
+  start-refused r e = rw (← refused-first (readTask w) (λ t. ask 18 (eqb (length s) (t .atoms)) >>= λ _. finding (initialState t)) r e)
 
   module _ (rd : Reads w) (n : ℕ) (en : n ≡ taskOf w .atoms) where
     pub start-long : (length s ≡ n → ⊥) → outcome (refused (refusalAt 18 0 0)) s ≡ becomes s (startTask w s)

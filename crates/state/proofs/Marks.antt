@@ -1,13 +1,13 @@
 -- Laws of the marks: their walks, and that they are the effects of the fired rows. Assumes nothing.
 use mathlib.Core.Path.{_≡_, refl, sym, ap, _∙_}
-use mathlib.Core.List.{List, [], _∷_, _++_, map, List·Memᴰ, List·Memᴰ·head, List·Memᴰ·tail}
+use mathlib.Core.List.{List, [], _∷_, map, List·Memᴰ, List·Memᴰ·head, List·Memᴰ·tail}
 use mathlib.Core.Bool.{Bool, true, false, cond, not, _&&_, _||_, or-false, or-true, or-assoc}
 use Prim.Native.Nat.{ℕ, zero, suc, _+_, _-_, _*_, _%_, _≤_, _<_}
 use native.Mathlib.Numerals.{add-one}
 use native.Mathlib.Nat.{not-suc-le-zero, le-of-suc-le-suc}
 use native.Mathlib.Omega.{arith}
-use lib.ListN.{length, getD, take, drop, set, drop-of-length-le, List·getD-eq-default, length-set, replicate, length-replicate, getD-replicate, replicate-append-replicate}
-use lib.Seq.{drop-cons, take-suc-set, take-all, set-out, getD-set-same, getD-set-other, ext-getD}
+use lib.ListN.{length, getD, take, drop, set, drop-of-length-le, List·getD-eq-default, length-set, replicate, length-replicate, getD-replicate}
+use lib.Seq.{drop-cons, getD-set-same, getD-set-other, ext-getD}
 use lib.Dec.{ltb, eqb}
 use borrow.Author.Tests.{eq-eqb, eqb-true, eqb-false, ltb-true, ltb-false}
 use Rattle.definitions.specs.Lists.{any, all, keep, below, member}
@@ -18,16 +18,11 @@ use Rattle.definitions.specs.Closure.{has}
 use Rattle.definitions.proofs.ListLaws.{never, and-left, and-right, and-both, or-false-left, or-false-right, any-in, any-of, all-at, keep-of, member-in, member-of, map-of, table-at, table-length}
 use Rattle.definitions.proofs.LiteralLaws.{Shape, is, isnt, shape, atom-even, atom-odd, complement-low}
 use Rattle.definitions.proofs.EncodeLaws.{same-bool}
-use Rattle.state.specs.Marks.{markIf, markFired, bothMarked, conflictIn, makeTrue, changed, unmarked, Settled, setTrue}
+use Rattle.literal.specs.Mark.{markIf}
+use Rattle.literal.proofs.Mark.{mark-length}
+use Rattle.state.specs.Marks.{markFired, bothMarked, conflictIn, makeTrue, changed, unmarked, Settled, setTrue}
 
 -- ---- marking
-pub mark-out : (m : List ℕ) (l : ℕ) → length m ≤ l → m ≡ markIf true m l
-mark-out m l h = sym (set-out m l 1 h)
-
-mark-length : (t : Bool) (m : List ℕ) (l : ℕ) → length (markIf t m l) ≡ length m
-mark-length true m l = length-set m l 1
-mark-length false m l = refl
-
 -- one row of the walk, and the end
 pub fired-turn : (s : List ℕ) (rows rest : List Row) (r : Row) (t : Bool) (m m′ : List ℕ) → rows ≡ r ∷ rest → t ≡ fires s r → m′ ≡ markIf t m (r .effect) → markFired s rows m ≡ markFired s rest m′
 fired-turn s rows rest r t m m′ er et em = rw (er, em, et)
@@ -333,15 +328,6 @@ module _ (N : ℕ) (s : List ℕ) (o : Operator) (m : List ℕ) (em : m ≡ mark
               by false e = stays a (omega arith) e
 
 -- ---- the initial state
-pub clear-on : (s : List ℕ) (i : ℕ) → i < length s → take i s ≡ replicate i 0 → take (i + 1) (set s i 0) ≡ replicate (i + 1) 0
-clear-on s i h e =
-    ap (λ (k : ℕ). take k (set s i 0)) (add-one i) ∙ take-suc-set s i 0 h ∙ ap (λ (l : List ℕ). l ++ (0 ∷ [])) e ∙ replicate-append-replicate i 1 0
-
-pub clear-end : (s : List ℕ) (i n : ℕ) → length s ≡ n → i ≡ n → take i s ≡ replicate i 0 → s ≡ replicate n 0
-clear-end s i n el ei e =
-    let h : length s ≤ i = omega arith in
-    sym (take-all i s h) ∙ e ∙ ap (λ (k : ℕ). replicate k 0) ei
-
 pub true-on : (s s′ xs : List ℕ) (i x : ℕ) → i < length xs → x ≡ getD xs i 0 → s′ ≡ set s x 1 → setTrue s (drop i xs) ≡ setTrue s′ (drop (i + 1) xs)
 true-on s s′ xs i x h ex es = let one = add-one i in rw (drop-cons xs i 0 h, ← ex, es, one)
 

@@ -9,10 +9,7 @@ use Rattle.definitions.specs.Literal.{atom, positive, complement}
 use Rattle.definitions.specs.Image.{Row}
 use Rattle.definitions.specs.Step.{fires}
 use Rattle.definitions.specs.Closure.{has}
-
-abbrev pub markIf : Bool → List ℕ → ℕ → List ℕ
-markIf true m l = set m l 1
-markIf false m l = m
+use Rattle.literal.specs.Mark.{markIf}
 
 -- the effects of the rows that fire in s, marked in m
 abbrev pub markFired : List ℕ → List Row → List ℕ → List ℕ

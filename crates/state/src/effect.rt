@@ -6,18 +6,7 @@ ghost use Prim.Native.Nat.{_≤_};
 ghost use lib.ListN.{length, set};
 ghost use Rattle.definitions.specs.Closure.{has};
 ghost use Rattle.task.specs.Walk.{blockParses, operatorIn};
-ghost use Rattle.state.specs.Marks.{markIf, markFired, bothMarked, conflictIn, makeTrue, changed, unmarked, Settled};
-
-// Sets mark `l`, if `fires`.
-pub fn mark_if(fires: bool, marks: &mut [u8], l: usize)
-    ensures { λ _. ⌜ now (marks .exit) ≡ markIf fires (now (marks .entry)) l ⌝ }
-{
-    if fires {
-        if l < marks.len() {
-            marks[l] = 1;
-        }
-    }
-}
+ghost use Rattle.state.specs.Marks.{markFired, bothMarked, conflictIn, makeTrue, changed, unmarked, Settled};
 
 // Marks the effects of the rows of a block that fire in a state. The state stays as it is, so each row fires by the state before the step.
 pub fn mark_fired(block: &[u16], state: &[u8], marks: &mut [u8])
@@ -30,7 +19,7 @@ pub fn mark_fired(block: &[u16], state: &[u8], marks: &mut [u8])
     while 0 < left {
         let task::block::RowPart { effect, from, end } = task::block::row(block, at, left);
         let fires = literal::all_true(state, &block[from..end]);
-        mark_if(fires, marks, effect);
+        literal::mark_if(fires, marks, effect);
         at = end;
         left -= 1;
     }

@@ -4,7 +4,6 @@ ghost use mathlib.Core.Bool.{true};
 ghost use Prim.Native.Nat.{_*_, _≤_};
 ghost use lib.ListN.{length, replicate};
 ghost use Rattle.definitions.specs.Answer.{verdict, finding, outcome, becomes};
-ghost use Rattle.definitions.specs.Literal.{isState};
 ghost use Rattle.definitions.specs.Image.{initialState};
 ghost use Rattle.definitions.specs.StepLists.{runFrom};
 ghost use Rattle.definitions.specs.Step.{step, stepTask, goalTask, startTask, runTask};
@@ -15,23 +14,6 @@ ghost use Rattle.state.specs.Post.{stateAnswer, Standing};
 
 pub mod effect; // effect.rt: the effects of one operator in a state
 
-// Whether a state has `atoms` bytes, each 0 or 1.
-fn is_state(state: &[u8], atoms: usize) -> bool
-    ensures { λ r. ⌜ r ≡ isState atoms (now (state .entry)) ⌝ }
-{
-    if state.len() != atoms {
-        return false;
-    }
-    let mut a: usize = 0;
-    while a < state.len() {
-        if 2 <= state[a] {
-            return false;
-        }
-        a += 1;
-    }
-    true
-}
-
 // Reads an image and a state: questions 1 to 7 and 18.
 pub fn read_state(image: &[u16], state: &[u8]) -> answer::Verdict
     ensures { λ r. ⌜ verdictAnswer r ≡ stateAnswer (now (image .entry)) (now (state .entry)) ⌝ }
@@ -40,7 +22,7 @@ pub fn read_state(image: &[u16], state: &[u8]) -> answer::Verdict
     match reading {
         answer::Verdict::Refused(f) => answer::Verdict::Refused(f),
         answer::Verdict::Fine => {
-            let right = is_state(state, task::atoms(image));
+            let right = literal::is_state(state, task::atoms(image));
             if right {
                 answer::Verdict::Fine
             } else {
@@ -178,7 +160,7 @@ fn set_true(state: &mut [u8], atoms: &[u16])
 {
     let mut i: usize = 0;
     while i < atoms.len() {
-        effect::mark_if(true, state, literal::wide(atoms[i]));
+        literal::mark_if(true, state, literal::wide(atoms[i]));
         i += 1;
     }
 }

@@ -19,7 +19,7 @@ use Rattle.definitions.specs.Synthesis.{firstSet, tested, passes, nextOf, Found
 use Rattle.definitions.proofs.ListLaws.{and-left, and-right}
 use Rattle.definitions.proofs.CheckSound.{not-finding}
 use Rattle.answer.specs.Answer.{refusalAt}
-use Rattle.clause.proofs.ReadLaws.{verdict-refused}
+use Rattle.answer.proofs.Laws.{verdict-refused}
 use Rattle.task.specs.Reads.{taskOf, Reads}
 use Rattle.synthesis.specs.Rounds.{Begun}
 use Rattle.synthesis.proofs.Rounds.{first-size, first-words}

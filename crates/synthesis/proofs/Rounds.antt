@@ -1,5 +1,5 @@
 -- What a round comes to, and the rounds in turn. Assumes nothing.
-use mathlib.Core.Bool.{Bool, true, false, not, cond, false≢true}
+use mathlib.Core.Bool.{Bool, true, false, cond, false≢true}
 use mathlib.Core.Option.{Option, none, some}
 use mathlib.Core.Path.{_≡_, refl, sym, _∙_, ap, subst}
 use mathlib.Core.List.{List, [], _∷_, _++_, map, List·Memᴰ}
@@ -9,7 +9,7 @@ use native.Mathlib.Omega.{arith}
 use native.Mathlib.Nat.{mul-le-mul-left}
 use lib.Dec.{eqb, leb}
 use lib.Seq.{take-at, length-take-le}
-use borrow.Author.Tests.{eqb-true, eqb-false}
+use borrow.Author.Tests.{eqb-true, eqb-false, not-true, not-false}
 use lib.ListN.{length, take, drop, replicate}
 use Rattle.definitions.specs.Lists.{any, all}
 use Rattle.definitions.specs.Answer.{Answer, Outcome, finding, refused, refuse, outcome}
@@ -38,18 +38,10 @@ use Rattle.synthesis.proofs.Units.{units-size, first-length}
 -- ---- the test
 module _ (t : Task) (C : List (List ℕ)) (flags : List ℕ) (e : flags ≡ map (λ f. bit (failsBelow t C (length (t .operators)) f)) C) (b : Bool) (found : b ≡ any (λ x. eqb x 1) flags) where
   pub test-passes : b ≡ false → all passes (tested t C) ≡ true
-  test-passes h = flip (all passes (tested t C)) (sym (found ∙ none-flagged t C flags e) ∙ h)
-    where
-      flip : (a : Bool) → not a ≡ false → a ≡ true
-      flip true h = refl
-      flip false h = sym h
+  test-passes h = not-false (all passes (tested t C)) (sym (found ∙ none-flagged t C flags e) ∙ h)
 
   pub test-fails : b ≡ true → all passes (tested t C) ≡ false
-  test-fails h = flip (all passes (tested t C)) (sym (found ∙ none-flagged t C flags e) ∙ h)
-    where
-      flip : (a : Bool) → not a ≡ true → a ≡ false
-      flip true h = sym h
-      flip false h = refl
+  test-fails h = not-true (all passes (tested t C)) (sym (found ∙ none-flagged t C flags e) ∙ h)
 
 -- ---- the next set
 fits-none : (rows : ℕ) (D : List (List ℕ)) → fitted rows D ≡ none → fits rows D ≡ false

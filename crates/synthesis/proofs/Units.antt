@@ -18,7 +18,7 @@ use Rattle.definitions.specs.Clauses.{width, rowOf, clauseWords}
 use Rattle.definitions.specs.Synthesis.{firstSet}
 use Rattle.definitions.proofs.ListLaws.{decide, and-right, and-both, all-of, map-of, table-length}
 use Rattle.literal.specs.Literal.{literalOf}
-use Rattle.clause_set.proofs.Extended.{low-at}
+use Rattle.clause.proofs.ClauseLaws.{low-at}
 use Rattle.synthesis.specs.Rounds.{unitsFrom}
 
 some-width : 1 ≤ width
@@ -29,7 +29,7 @@ some-width = omega arith
 module _ (s : List ℕ) where
   state-low : (n a : ℕ) → isState n s ≡ true → a < length s → getD s a 0 < 2
   unfolding isState
-  state-low n a h k = low-at 2 a s (and-right (eqb (length s) n) (allBelow 2 s) h) k
+  state-low n a h k = low-at 2 s a (and-right (eqb (length s) n) (allBelow 2 s) h) k
 
   pub unit-word : (n a : ℕ) → isState n s ≡ true → a < length s → literalOf a (eqb (getD s a 0) 1) ≡ 2 * a + (1 - getD s a 0)
   unit-word n a h k = go (decide (eqb (getD s a 0) 1))

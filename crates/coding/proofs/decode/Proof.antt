@@ -5,7 +5,7 @@ use Rattle.answer.specs.Answer.{placed, verdictAnswer}
 use Rattle.answer.proofs.Laws.{outcome-of}
 use Rattle.fdr_image.specs.Reads.{ReadsFdr}
 use Rattle.fdr_image.proofs.Reading.{reads}
-use Rattle.coding.proofs.Laws.{values-length}
+use Rattle.fdr_image.proofs.DomainLaws.{values-length}
 use Rattle.coding.proofs.Calls.{decode-codes, codes-17, codes-source, codes-target, codes-rest, done}
 use borrow.Author.Needs.{needs}
 use Rattle.coding.proofs.decode.Statement.{statement}

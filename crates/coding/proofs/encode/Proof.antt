@@ -7,7 +7,8 @@ use Rattle.answer.specs.Answer.{placed, verdictAnswer}
 use Rattle.answer.proofs.Laws.{outcome-of}
 use Rattle.fdr_image.specs.Reads.{fdrOf, ReadsFdr}
 use Rattle.fdr_image.proofs.Reading.{reads}
-use Rattle.coding.proofs.Calls.{state-length, encode-codes, codes-17, codes-source, codes-target, codes-rest}
+use Rattle.literal.proofs.State.{state-length}
+use Rattle.coding.proofs.Calls.{encode-codes, codes-17, codes-source, codes-target, codes-rest}
 use borrow.Author.Needs.{needs}
 use Rattle.coding.proofs.encode.Statement.{statement}
 use Rattle.coding.proofs.encode.Tie as tie

@@ -2,7 +2,7 @@ use Prim.Native.Nat.{_≤_, _-_, _+_}
 use mathlib.Core.Path.{_≡_, refl}
 use native.Mathlib.Omega.{arith}
 use lib.ListN.{length, take, replicate, length-set}
-use Rattle.state.proofs.Marks.{clear-on, clear-end}
+use Rattle.definitions.proofs.Walks.{clear-on, clear-end}
 use borrow.Author.Needs.{needs}
 use Rattle.state.proofs.clear.Statement.{statement}
 use Rattle.state.proofs.clear.Tie as tie

@@ -1,7 +1,8 @@
 use native.Mathlib.Omega.{arith}
 use Rattle.definitions.specs.Fdr.{domainAt}
 use Rattle.fdr_image.proofs.Reading.{initial-right}
-use Rattle.coding.proofs.Laws.{values-some, value-noted, value-none}
+use Rattle.fdr_image.proofs.DomainLaws.{values-some}
+use Rattle.coding.proofs.Laws.{value-noted, value-none}
 use borrow.Author.Needs.{needs}
 use Rattle.coding.proofs.found.value_at.Statement.{statement}
 use Rattle.coding.proofs.found.value_at.Tie as tie

@@ -6,7 +6,7 @@ use borrow.Author.Tests.{not-true, not-false}
 use Rattle.definitions.specs.Lists.{all}
 use Rattle.definitions.proofs.Walks.{all-off, all-on, all-end}
 use Rattle.groups.specs.None.{inGroup, liesIn}
-use Rattle.groups.proofs.Omitting.{low-at}
+use Rattle.clause.proofs.ClauseLaws.{low-at}
 use borrow.Author.Needs.{needs}
 use Rattle.groups.proofs.none.lies_in.Statement.{statement}
 use Rattle.groups.proofs.none.lies_in.Tie as tie

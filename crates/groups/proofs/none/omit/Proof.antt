@@ -1,6 +1,7 @@
 use mathlib.Core.Path.{_≡_, sym, _∙_, ap}
 use native.Mathlib.Omega.{arith}
-use Rattle.groups.proofs.Omitting.{low-at, omit-lies, omit-not}
+use Rattle.clause.proofs.ClauseLaws.{low-at}
+use Rattle.groups.proofs.Omitting.{omit-lies, omit-not}
 use borrow.Author.Needs.{needs}
 use Rattle.groups.proofs.none.omit.Statement.{statement}
 use Rattle.groups.proofs.none.omit.Tie as tie

@@ -1,10 +1,9 @@
 -- `judge::flags::clear`: the bytes before i are zeros.
-use denote.Ref.{now}
 use Prim.Native.Nat.{_≤_, _-_}
 use mathlib.Core.Path.{_≡_, refl}
 use native.Mathlib.Omega.{arith}
 use lib.ListN.{length, take, replicate, length-set}
-use Rattle.judge.proofs.Flagged.{clear-more, clear-end}
+use Rattle.definitions.proofs.Walks.{clear-on, clear-end}
 use borrow.Author.Needs.{needs}
 use Rattle.judge.proofs.flags.clear.Statement.{statement}
 use Rattle.judge.proofs.flags.clear.Tie as tie
@@ -28,13 +27,13 @@ loop-less : tie.Need-loop-less Inv-loop μ-loop
 loop-less c = simp length-set (omega arith)
 
 loop-again : tie.Need-loop-again Inv-loop μ-loop
-loop-again c = (simp length-set (omega arith), simp length-set (omega arith), clear-more _ _ (c .loop-test .taken) (c .before .loop .inv .2))
+loop-again c = (simp length-set (omega arith), simp length-set (omega arith), clear-on _ _ (c .loop-test .taken) (c .before .loop .inv .2))
 
 same-length : tie.Need-same-length Inv-loop μ-loop
 same-length c = c .before .loop .inv .1
 
 returns : tie.Need-returns Inv-loop μ-loop
-returns c = clear-end _ (now (c .before .before .args .flags)) _ (c .loop-test .left) (c .before .loop .inv .0) (c .before .loop .inv .1) (c .before .loop .inv .2)
+returns c = clear-end _ (c .before .loop .i) _ (c .before .loop .inv .1) (omega arith) (c .before .loop .inv .2)
 
 pub clear-spec : {M : Type 1} → statement M
 clear-spec =

@@ -1,10 +1,10 @@
-use mathlib.Core.Path.{_≡_, sym, ap, _∙_}
+use mathlib.Core.Path.{sym, ap, _∙_}
 use mathlib.Core.Bool.{Bool}
-use Rattle.state.specs.Marks.{markIf}
-use Rattle.state.proofs.Marks.{mark-out}
+use Rattle.literal.specs.Mark.{markIf}
+use Rattle.literal.proofs.Mark.{mark-out}
 use borrow.Author.Needs.{needs}
-use Rattle.state.proofs.effect.mark_if.Statement.{statement}
-use Rattle.state.proofs.effect.mark_if.Tie as tie
+use Rattle.literal.proofs.mark_if.Statement.{statement}
+use Rattle.literal.proofs.mark_if.Tie as tie
 
 slice-write-marks : tie.Need-slice-write-marks
 slice-write-marks c = search needs

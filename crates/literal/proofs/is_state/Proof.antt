@@ -1,5 +1,5 @@
--- `state::is_state`: the test of all bytes is the test of those that are left.
-use Prim.Native.Nat.{_≤_, _-_, _+_}
+-- `literal::is_state`: the test of all bytes is the test of those that are left.
+use Prim.Native.Nat.{_≤_, _-_}
 use mathlib.Core.Path.{_≡_, refl, sym, _∙_}
 use native.Mathlib.Omega.{arith}
 use lib.Dec.{ltb}
@@ -8,10 +8,10 @@ use borrow.Author.Tests.{lt-ltb, le-ltb}
 use Rattle.definitions.specs.Lists.{all}
 use Rattle.definitions.specs.Literal.{isState}
 use Rattle.definitions.proofs.Walks.{all-off, all-on, all-end}
-use Rattle.state.proofs.Calls.{state-long, state-bytes}
+use Rattle.literal.proofs.State.{state-long, state-bytes}
 use borrow.Author.Needs.{needs}
-use Rattle.state.proofs.is_state.Statement.{statement}
-use Rattle.state.proofs.is_state.Tie as tie
+use Rattle.literal.proofs.is_state.Statement.{statement}
+use Rattle.literal.proofs.is_state.Tie as tie
 
 abbrev Inv-loop : tie.InvT-loop
 Inv-loop state atoms a₀ a = (a ≤ length state) × (isState atoms state ≡ all (λ x. ltb x 2) (drop a state))
