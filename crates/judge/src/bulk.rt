@@ -5,6 +5,7 @@ ghost use Prim.Native.Nat.{ℕ, _*_, _≤_};
 ghost use lib.ListN.{length};
 ghost use Rattle.definitions.specs.Lists.{any, member};
 ghost use Rattle.definitions.specs.Literal.{complement};
+ghost use Rattle.definitions.specs.Clauses.{clauseOf};
 ghost use Rattle.clause.specs.Rows.{rowCount, clausesOf};
 ghost use Rattle.judge.specs.Judging.{lacksOther, isOther, flagMore, guaranteedFlags, violates, someViolates, failFlags, Guarantees};
 ghost use Rattle.judge.specs.Promise.{Given, Judged, ConsistentClosure};
@@ -13,20 +14,6 @@ ghost use Rattle.task.specs.Walk.{row, operatorIn};
 use propagation::Closing;
 use task::block::BlockHead;
 use task::block::RowPart;
-
-// Whether a list holds literal `l`.
-fn holds_literal(literals: &[u16], l: u16) -> bool
-    ensures { λ r. ⌜ r ≡ member l (now (literals .entry)) ⌝ }
-{
-    let mut i: usize = 0;
-    while i < literals.len() {
-        if literals[i] == l {
-            return true;
-        }
-        i += 1;
-    }
-    false
-}
 
 // Whether a literal other than `l` has its flag.
 fn is_other(m: u16, l: u16, flags: &[u8]) -> bool
@@ -52,14 +39,14 @@ fn other_flagged(literals: &[u16], l: u16, flags: &[u8]) -> bool
     false
 }
 
-// Whether a clause holds `l` and no other literal that has its flag.
-fn lacks_other(literals: &[u16], l: u16, flags: &[u8]) -> bool
-    ensures { λ r. ⌜ r ≡ lacksOther l (now (flags .entry)) (now (literals .entry)) ⌝ }
+// Whether the clause of a row holds `l` and no other literal that has its flag.
+fn lacks_other(row: &[u16], l: u16, flags: &[u8]) -> bool
+    ensures { λ r. ⌜ r ≡ lacksOther l (now (flags .entry)) (clauseOf (now (row .entry))) ⌝ }
 {
-    if !holds_literal(literals, l) {
+    if !clause::has_literal(row, l) {
         return false;
     }
-    !other_flagged(literals, l, flags)
+    !other_flagged(clause::literals(row), l, flags)
 }
 
 // Whether some judged clause holds `l`.
@@ -69,7 +56,7 @@ fn some_holds(judged: &[u16], l: u16) -> bool
     let count = clause::rows(judged);
     let mut i: usize = 0;
     while i < count {
-        if holds_literal(clause::literals(clause::row(judged, i)), l) {
+        if clause::has_literal(clause::row(judged, i), l) {
             return true;
         }
         i += 1;
@@ -87,7 +74,7 @@ fn flag_lacking(judged: &[u16], l: u16, flags: &[u8], fails: &mut [u8])
     while i < count {
         let at = i;
         i += 1;
-        if !lacks_other(clause::literals(clause::row(judged, at)), l, flags) {
+        if !lacks_other(clause::row(judged, at), l, flags) {
             continue;
         }
         fails[at] = 1;

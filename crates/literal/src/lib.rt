@@ -33,14 +33,8 @@ impl Literal {
         requires { ⌜ self .code < 65535 ⌝ }
         ensures { λ r. ⌜ r .code ≡ complement (self .code) ⌝ }
     {
-        if self.code % 2 == 0 {
-            Literal {
-                code: self.code + 1,
-            }
-        } else {
-            Literal {
-                code: self.code - 1,
-            }
+        Literal {
+            code: self.code ^ 1,
         }
     }
 }

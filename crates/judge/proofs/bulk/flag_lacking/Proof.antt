@@ -33,9 +33,6 @@ add-i c = search needs
 row-requires : tie.Need-row-requires Inv-loop μ-loop
 row-requires c κs = omega (arith, c .before .loop .inv .1)
 
-literals-requires : tie.Need-literals-requires Inv-loop μ-loop
-literals-requires c κs = search needs
-
 lacks-other-requires : tie.Need-lacks-other-requires Inv-loop μ-loop
 lacks-other-requires c κs = search needs
 
@@ -44,41 +41,39 @@ loop-less c = search needs
 
 loop-again : tie.Need-loop-again Inv-loop μ-loop
 loop-again c =
-    let t = c .before .before .before .before in
-    let i = t .before .loop .inv in
-    let w = now (t .before .before .before .before .before .before .args .judged) in
-    let h : t .before .loop .i < rowCount w = omega (arith, i .1) in (
+    let i = c .before .before .before .before .loop .inv in
+    let w = now (c .before .before .before .before .before .before .before .before .before .args .judged) in
+    let h : c .before .before .before .before .loop .i < rowCount w = omega (arith, i .1) in (
       omega arith,
       i .1,
       i .2,
       i .3,
       i .4
           ∙ flag-stay (lacksOther _ _) (clausesOf w) _ _ _
-          (clause-read w _ _ _ h (c .before .before .before .row .ensures) (c .before .before .literals .ensures))
+          (clause-read w _ _ _ h (c .before .before .row .ensures) refl)
           (omega (arith, clauses-length w))
           (omega (arith, i .2))
           (sym (c .before .lacks-other .ensures) ∙ not-true _ (c .if1 .taken)),
     )
 
 slice-write-fails : tie.Need-slice-write-fails Inv-loop μ-loop
-slice-write-fails c = omega (arith, c .before .before .before .before .before .loop .inv .2)
+slice-write-fails c = omega (arith, c .before .before .before .before .loop .inv .2)
 
 loop-less-2 : tie.Need-loop-less-2 Inv-loop μ-loop
 loop-less-2 c = search needs
 
 loop-again-2 : tie.Need-loop-again-2 Inv-loop μ-loop
 loop-again-2 c =
-    let t = c .before .before .before .before in
-    let i = t .before .loop .inv in
-    let w = now (t .before .before .before .before .before .before .args .judged) in
-    let h : t .before .loop .i < rowCount w = omega (arith, i .1) in (
+    let i = c .before .before .before .before .loop .inv in
+    let w = now (c .before .before .before .before .before .before .before .before .before .args .judged) in
+    let h : c .before .before .before .before .loop .i < rowCount w = omega (arith, i .1) in (
       omega arith,
       i .1,
       simp length-set (i .2),
       simp length-set (i .3),
       i .4
           ∙ flag-set (lacksOther _ _) (clausesOf w) _ _ _
-          (clause-read w _ _ _ h (c .before .before .before .row .ensures) (c .before .before .literals .ensures))
+          (clause-read w _ _ _ h (c .before .before .row .ensures) refl)
           (omega (arith, clauses-length w))
           (omega (arith, i .2))
           (sym (c .before .lacks-other .ensures) ∙ not-false _ (c .if1 .left)),
@@ -103,7 +98,6 @@ flag-lacking-spec =
     loop-holds
     add-i
     row-requires
-    literals-requires
     lacks-other-requires
     loop-less
     loop-again

@@ -1,22 +1,33 @@
+-- `judge::bulk::lacks_other`: the literal itself, then the others. Assumes nothing.
 use mathlib.Core.Bool.{not}
 use mathlib.Core.Path.{sym, _∙_, ap}
+use denote.Ref.{now}
 use borrow.Author.Tests.{not-true, not-false}
+use Rattle.definitions.specs.Lists.{any}
+use Rattle.judge.specs.Judging.{isOther}
 use Rattle.judge.proofs.Flagged.{lacks-missing, lacks-held}
 use borrow.Author.Needs.{needs}
 use Rattle.judge.proofs.bulk.lacks_other.Statement.{statement}
 use Rattle.judge.proofs.bulk.lacks_other.Tie as tie
 
-holds-literal-requires : tie.Need-holds-literal-requires
-holds-literal-requires c κs = search needs
+has-literal-requires : tie.Need-has-literal-requires
+has-literal-requires c κs = search needs
 
 returns : tie.Need-returns
-returns c = sym (lacks-missing _ _ _ (sym (c .before .holds-literal .ensures) ∙ not-true _ (c .if1 .taken)))
+returns c = sym (lacks-missing _ _ _ (sym (c .before .has-literal .ensures) ∙ not-true _ (c .if1 .taken)))
+
+literals-requires : tie.Need-literals-requires
+literals-requires c κs = search needs
 
 other-flagged-requires : tie.Need-other-flagged-requires
 other-flagged-requires c κs = search needs
 
 returns-2 : tie.Need-returns-2
-returns-2 c = ap not (c .other-flagged .ensures) ∙ sym (lacks-held _ _ _ (sym (c .before .before .holds-literal .ensures) ∙ not-false _ (c .before .if1 .left)))
+returns-2 c =
+    let a = c .before .before .before .before .before .before .args in
+    ap not (c .other-flagged .ensures ∙ ap (any (isOther (now (a .flags)) (a .l))) (c .before .literals .ensures)) ∙ sym (lacks-held _ _ _ (sym (c .before .before .before .has-literal .ensures) ∙ not-false _ (c .before .before .if1 .left)))
 
 pub lacks-other-spec : {M : Type 1} → statement M
-lacks-other-spec = tie.close (tie.spec holds-literal-requires returns other-flagged-requires returns-2)
+lacks-other-spec =
+    tie.close
+    (tie.spec has-literal-requires returns literals-requires other-flagged-requires returns-2)

@@ -1,4 +1,4 @@
--- `judge::bulk::some_holds`: the test of all clauses is the test of those that are left.
+-- `judge::bulk::some_holds`: the test of all clauses is the test of those that are left. Assumes nothing.
 use denote.Ref.{now}
 use Prim.Native.Nat.{_≤_, _<_, _-_}
 use mathlib.Core.Path.{_≡_, refl, sym, _∙_}
@@ -29,25 +29,21 @@ loop-holds c = (omega arith, c .rows .ensures, refl)
 row-requires : tie.Need-row-requires Inv-loop μ-loop
 row-requires c κs = omega (arith, c .before .loop .inv .1)
 
-literals-requires : tie.Need-literals-requires Inv-loop μ-loop
-literals-requires c κs = search needs
-
-holds-literal-requires : tie.Need-holds-literal-requires Inv-loop μ-loop
-holds-literal-requires c κs = search needs
+has-literal-requires : tie.Need-has-literal-requires Inv-loop μ-loop
+has-literal-requires c κs = search needs
 
 returns : tie.Need-returns Inv-loop μ-loop
 returns c =
-    let t = c .before .before .before .before in
-    let i = t .before .loop .inv in
-    let w = now (t .before .before .before .before .args .judged) in
-    let h : t .before .loop .i < rowCount w = omega (arith, i .1) in
+    let i = c .before .before .before .before .loop .inv in
+    let w = now (c .before .before .before .before .before .before .before .args .judged) in
+    let h : c .before .before .before .before .loop .i < rowCount w = omega (arith, i .1) in
     sym
     (i .2
     ∙ any-found (clausesOf w) _ [] _
-    (clause-read w _ _ _ h (c .before .before .before .row .ensures) (c .before .before .literals .ensures))
+    (clause-read w _ _ _ h (c .before .before .row .ensures) refl)
     (omega (arith, clauses-length w))
     (member _)
-    (sym (c .before .holds-literal .ensures) ∙ c .if1 .taken))
+    (sym (c .before .has-literal .ensures) ∙ c .if1 .taken))
 
 add-i : tie.Need-add-i Inv-loop μ-loop
 add-i c = search needs
@@ -57,18 +53,17 @@ loop-less c = search needs
 
 loop-again : tie.Need-loop-again Inv-loop μ-loop
 loop-again c =
-    let t = c .before .before .before .before in
-    let i = t .before .loop .inv in
-    let w = now (t .before .before .before .before .args .judged) in
-    let h : t .before .loop .i < rowCount w = omega (arith, i .1) in (
+    let i = c .before .before .before .before .loop .inv in
+    let w = now (c .before .before .before .before .before .before .before .args .judged) in
+    let h : c .before .before .before .before .loop .i < rowCount w = omega (arith, i .1) in (
       omega arith,
       i .1,
       i .2
           ∙ any-on (clausesOf w) _ [] _
-          (clause-read w _ _ _ h (c .before .before .before .row .ensures) (c .before .before .literals .ensures))
+          (clause-read w _ _ _ h (c .before .before .row .ensures) refl)
           (omega (arith, clauses-length w))
           (member _)
-          (sym (c .before .holds-literal .ensures) ∙ c .if1 .left),
+          (sym (c .before .has-literal .ensures) ∙ c .if1 .left),
     )
 
 returns-2 : tie.Need-returns-2 Inv-loop μ-loop
@@ -86,8 +81,7 @@ some-holds-spec =
     rows-requires
     loop-holds
     row-requires
-    literals-requires
-    holds-literal-requires
+    has-literal-requires
     returns
     add-i
     loop-less
