@@ -16,6 +16,11 @@ unfolding verdict
 verdict-finding (finding a) u e = (a, refl)
 verdict-finding (refused q) u e = absurd (not-finding e)
 
+pub verdict-bind : {A B : Type 0} (m : Answer A) (f : A → B) → verdict (m >>= λ a. finding (f a)) ≡ verdict m
+unfolding verdict _>>=_
+verdict-bind (finding a) f = refl
+verdict-bind (refused r) f = refl
+
 -- the first refusal decides
 pub refused-first : {A B : Type 0} (m : Answer A) (k : A → Answer B) (r : Refusal) → refused r ≡ verdict m → refused r ≡ (m >>= k)
 unfolding verdict _>>=_

@@ -7,15 +7,11 @@ use native.Mathlib.Numerals.{add-one}
 use native.Mathlib.Omega.{arith}
 use lib.ListN.{length}
 use borrow.Author.Tests.{eq-eqb, ne-eqb, le-leb, lt-leb}
-use Rattle.definitions.specs.Answer.{Answer, finding, refused, verdict, ask, askAt, _>>=_}
+use Rattle.definitions.specs.Answer.{finding, refused, verdict, ask, askAt, _>>=_}
 use Rattle.definitions.specs.Clauses.{width, mostRows, clauseOf, clauseRight, rowLess, rowAt, aboveLast, readRows, readClauses, readClause}
 use Rattle.answer.specs.Answer.{refusalAt}
+use Rattle.answer.proofs.Laws.{verdict-bind}
 use Rattle.clause.specs.Rows.{rowCount}
-
-verdict-on : {A B : Type 0} (m : Answer A) (g : A → B) → verdict (m >>= λ a. finding (g a)) ≡ verdict m
-unfolding verdict _>>=_
-verdict-on (finding a) g = refl
-verdict-on (refused r) g = refl
 
 -- ---- above the last
 pub above-first : (w : List ℕ) (i : ℕ) → i ≡ 0 → true ≡ aboveLast w i
@@ -35,7 +31,7 @@ module _ (N : ℕ) (w : List ℕ) (i k k′ : ℕ) (more : k ≡ suc k′) where
 
   pub rows-on : (clauseRight N (rowAt w i) && aboveLast w i) ≡ true → verdict (readRows N w i k) ≡ verdict (readRows N w (i + 1) k′)
   unfolding readRows verdict askAt _>>=_
-  rows-on h = rw (more, add-one, h) (verdict-on (readRows N w (suc i) k′) (λ C. clauseOf (rowAt w i) ∷ C))
+  rows-on h = rw (more, add-one, h) (verdict-bind (readRows N w (suc i) k′) (λ C. clauseOf (rowAt w i) ∷ C))
 
 pub rows-end : (N : ℕ) (w : List ℕ) (i k : ℕ) → k ≡ 0 → verdict (readRows N w i k) ≡ finding tt
 unfolding readRows verdict

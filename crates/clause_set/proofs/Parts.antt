@@ -11,7 +11,7 @@ use lib.ListN.{length}
 use borrow.Author.Tests.{eqb-true, eqb-false, eq-eqb, ne-eqb, ltb-true, ltb-false}
 use Rattle.definitions.specs.Lists.{any, range, above, ascending, compareWords, isSame}
 use Rattle.definitions.specs.Groups.{hasClause}
-use Rattle.definitions.proofs.ListLaws.{decide, never, and-left, and-right, or-cases, or-left, or-right, any-in, any-of}
+use Rattle.definitions.proofs.ListLaws.{decide, never, and-left, and-right, or-cases, or-left, or-right, any-in, any-of, later-ascends}
 use Rattle.definitions.proofs.PlaceLaws.{same-words}
 use Rattle.definitions.proofs.SetLaws.{range-of}
 use Rattle.definitions.proofs.OrderLaws.{same-self}
@@ -97,11 +97,6 @@ above-low x (z ∷ f) h y m = go (List·Memᴰ·cases-cons m) (λ k. above-low z
         let r = rec k in
         omega arith
 
-above-up : (x : ℕ) (f : List ℕ) → above x f ≡ true → ascending f ≡ true
-unfolding above ascending
-above-up x [] h = refl
-above-up x (z ∷ f) h = and-right (ltb x z) (above z f) h
-
 -- the mask of a part
 pub record Mask (d f : List ℕ) : Type 0 where
   pub mask : ℕ
@@ -115,7 +110,7 @@ mask-of [] (x ∷ d) fu du p = absurd (List·Memᴰ·not-nil (p x (List·Memᴰ�
 mask-of (l ∷ f) [] fu du p =
     record { mask = 0; low = (let h = masks-some (length f) in omega arith); names = part-none (l ∷ f) }
 mask-of (l ∷ f) (x ∷ d) fu du p =
-    go (ℕ-discrete x l) (λ q. mask-of f d (above-up l f fu) (above-up x d du) q) (λ q. mask-of f (x ∷ d) (above-up l f fu) du q)
+    go (ℕ-discrete x l) (λ q. mask-of f d (later-ascends l f fu) (later-ascends x d du) q) (λ q. mask-of f (x ∷ d) (later-ascends l f fu) du q)
   where
     drop-first : (y : ℕ) → (y ≡ l → ⊥) → List·Memᴰ y (l ∷ f) → List·Memᴰ y f
     drop-first y ne m = pick (List·Memᴰ·cases-cons m)

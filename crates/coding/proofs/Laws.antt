@@ -6,7 +6,7 @@ use Prim.Native.Nat.{ℕ, zero, suc, _+_, _-_, _≤_, _<_}
 use native.Mathlib.Numerals.{add-one}
 use native.Mathlib.Omega.{arith}
 use lib.Dec.{eqb}
-use lib.ListN.{length, getD, drop, set, length-set, length-map, replicate, length-replicate, drop-of-length-le}
+use lib.ListN.{length, getD, drop, set, length-set, length-map, length-replicate, drop-of-length-le}
 use lib.Seq.{getD-set-same, getD-set-other, ext-getD}
 use borrow.Author.Tests.{eq-eqb, ne-eqb, eqb-true, eqb-false}
 use Rattle.definitions.specs.Lists.{all, range, below}
@@ -15,7 +15,7 @@ use Rattle.definitions.specs.Fdr.{FdrTask, domainAt}
 use Rattle.definitions.specs.Coding.{toAtoms, trueValues, codable, valueFrom}
 use Rattle.definitions.proofs.ListLaws.{never, all-at, table-at, table-length}
 use Rattle.definitions.proofs.Simulation.{getD-map-low}
-use Rattle.definitions.proofs.Walks.{left-here, below-left, below-in}
+use Rattle.definitions.proofs.Walks.{left-here, below-left, below-in, zero-at}
 use Rattle.fdr_image.specs.Walk.{place}
 use Rattle.coding.specs.Found.{noneFound, valuesOf, withAtom, codableAt, valueAt, byteOf}
 use Rattle.coding.specs.Post.{Noted, Found}
@@ -136,11 +136,6 @@ pub record Walked (t : FdrTask) (s : List ℕ) (a : ℕ) (m : List ℕ) : Type 0
   pub low : (v : ℕ) → getD m v 0 ≤ 65536
   pub all-values : (v : ℕ) → trueValues v (t .atoms) s ≡ valuesOf (getD m v 0) ++ trueValues v (drop a (t .atoms)) (drop a s)
 
-none-at : (n v : ℕ) → _≡_ {A = ℕ} (getD (replicate n 0) v 0) 0
-none-at zero v = refl
-none-at (suc n) zero = refl
-none-at (suc n) (suc v) = none-at n v
-
 pub walked-none : (t : FdrTask) (s m : List ℕ) → m ≡ noneFound → Walked t s 0 m
 unfolding noneFound valuesOf
 walked-none t s m e =
@@ -151,7 +146,7 @@ walked-none t s m e =
     }
   where
     at : (v : ℕ) → getD m v 0 ≡ 0
-    at v = ap (λ (l : List ℕ). getD l v 0) e ∙ none-at 1024 v
+    at v = ap (λ (l : List ℕ). getD l v 0) e ∙ zero-at v 1024
 
 module _ (t : FdrTask) (s : List ℕ) (a : ℕ) (m : List ℕ) (w : Walked t s a m) where
   walked-all : length s ≤ a → (v : ℕ) → trueValues v (t .atoms) s ≡ valuesOf (getD m v 0)

@@ -14,23 +14,19 @@ use borrow.Author.Tests.{eqb-true, eqb-false, eq-eqb, ne-eqb}
 use Rattle.definitions.specs.Lists.{any, all, member}
 use Rattle.definitions.specs.Groups.{mutex, join, groupsBelow, groups, Place, placeIn, placeOf}
 use Rattle.definitions.proofs.ListLaws.{decide, never, all-at, all-of, member-in, member-of, or-left, or-right, or-cases}
+use Rattle.definitions.proofs.Walks.{zero-at}
 use Rattle.definitions.proofs.GroupLaws.{In, in-low, in-mem, mem-in, all-below, group-of}
 use Rattle.definitions.proofs.PlaceLaws as places
 use Rattle.literal.specs.Mark.{markIf}
 use Rattle.groups.specs.Join.{Apart, Lowest, Joins, Placed, Grouped}
 
 -- ---- marks of the groups that atom a cannot join
-zero-at : (n i : ℕ) → _≡_ {A = ℕ} (getD (replicate n 0) i 0) 0
-zero-at zero i = refl
-zero-at (suc n) zero = refl
-zero-at (suc n) (suc i) = zero-at n i
-
 module _ (C : List (List ℕ)) (places : List ℕ) (a : ℕ) where
   pub apart-start : (apart : List ℕ) (n : ℕ) → apart ≡ replicate n 0 → Apart C places a 0 apart
   apart-start apart n e =
       record {
         clean = λ x h z. absurd (omega arith);
-        marked = λ g h. absurd (h (rw e (zero-at n g)));
+        marked = λ g h. absurd (h (rw e (zero-at g n)));
       }
 
   pub apart-on : (b : ℕ) (apart after : List ℕ) (m : Bool) (g : ℕ) → Apart C places a b apart → m ≡ mutex C a b → g ≡ getD places (2 * b) 0 → g < length apart → after ≡ markIf (not m) apart g → Apart C places a (b + 1) after
@@ -240,10 +236,10 @@ module _ (C : List (List ℕ)) where
   grouped-start ps sizes n e =
       record {
         placed = record { variable = λ x h. absurd (omega arith); value = λ x h. absurd (omega arith) };
-        size = λ v. rw e (zero-at n v);
+        size = λ v. rw e (zero-at v n);
         count = refl;
         few = omega arith;
-        small = λ v. (let z : getD sizes v 0 ≡ 0 = rw e (zero-at n v) in omega arith);
+        small = λ v. (let z : getD sizes v 0 ≡ 0 = rw e (zero-at v n) in omega arith);
       }
 
   module _ (a : ℕ) (ps sizes : List ℕ) (n : ℕ) (grouped : Grouped C a ps sizes n) (r : ℕ) (joins : Joins C a (groupsBelow C a) r) where

@@ -12,13 +12,14 @@ use borrow.Author.Tests.{ltb-true, lt-ltb}
 use Rattle.definitions.specs.Lists.{all, empty, ascending, compareWords, isSame}
 use Rattle.definitions.specs.Literal.{atom, fill, allBelow, literalList}
 use Rattle.definitions.specs.Clauses.{width, rowOf, clauseOf, clauseRight, rowAt}
+use Rattle.definitions.specs.Closure.{bit}
 use Rattle.definitions.specs.Groups.{hasClause, mutex}
 use Rattle.definitions.proofs.ListLaws.{and-left, and-right, and-both, or-left, or-right}
 use Rattle.clause.specs.Rows.{rowCount, clausesOf, RightRows}
 use Rattle.clause.specs.Search.{Sought, isThere}
 use Rattle.clause.specs.declared.Found.{Found}
 use Rattle.clause.proofs.ClauseLaws.{sought-clause}
-use Rattle.groups.specs.Mutex.{flag, Alone}
+use Rattle.groups.specs.Mutex.{Alone}
 
 -- ---- rows that are right for N atoms are right for more
 below-wider : (n m : ℕ) → n ≤ m → (f : List ℕ) → allBelow n f ≡ true → allBelow m f ≡ true
@@ -72,26 +73,28 @@ module _ (w : List ℕ) (rows : RightRows 1024 w) where
       ∙ sym (sought-clause 1024 w rows (l ∷ m ∷ []) r (omega arith) (and-both (lt-ltb l 2048 h) (and-both (lt-ltb m 2048 k) refl)) (rw e at s))
 
 -- ---- marks of atoms that are mutex with every other
-flag-on : (b : Bool) → flag b ≡ 1 → b ≡ true
-flag-on true e = refl
-flag-on false e = absurd (omega arith)
+bit-on : (b : Bool) → bit b ≡ 1 → b ≡ true
+unfolding bit
+bit-on true e = refl
+bit-on false e = absurd (omega arith)
 
-flag-off : (b : Bool) → (flag b ≡ 1 → ⊥) → b ≡ false
-flag-off true h = absurd (h refl)
-flag-off false h = refl
+bit-off : (b : Bool) → (bit b ≡ 1 → ⊥) → b ≡ false
+unfolding bit
+bit-off true h = absurd (h refl)
+bit-off false h = refl
 
 module _ (C : List (List ℕ)) where
   abbrev pub AloneBelow : List ℕ → ℕ → Type 0
-  AloneBelow alone n = (x : ℕ) → x < n → getD alone x 0 ≡ flag (hasClause C ((2 * x + 1) ∷ []))
+  AloneBelow alone n = (x : ℕ) → x < n → getD alone x 0 ≡ bit (hasClause C ((2 * x + 1) ∷ []))
 
-  pub alone-on : (alone : List ℕ) (a l v : ℕ) (b : Bool) → a < length alone → AloneBelow alone a → l ≡ 2 * a + 1 → b ≡ hasClause C (l ∷ []) → v ≡ flag b → AloneBelow (set alone a v) (a + 1)
+  pub alone-on : (alone : List ℕ) (a l v : ℕ) (b : Bool) → a < length alone → AloneBelow alone a → l ≡ 2 * a + 1 → b ≡ hasClause C (l ∷ []) → v ≡ bit b → AloneBelow (set alone a v) (a + 1)
   alone-on alone a l v b inside h el eb ev x low = go (decLt x a)
     where
-      go : Dec (x < a) → getD (set alone a v) x 0 ≡ flag (hasClause C ((2 * x + 1) ∷ []))
+      go : Dec (x < a) → getD (set alone a v) x 0 ≡ bit (hasClause C ((2 * x + 1) ∷ []))
       go (yes k) = getD-set-other alone a x v 0 (λ e. absurd (omega arith)) ∙ h x k
       go (no k) =
           let e : x ≡ a = omega arith in
-          rw e (getD-set-same alone a v 0 inside ∙ ev ∙ ap flag (eb ∙ ap (λ (z : ℕ). hasClause C (z ∷ [])) el))
+          rw e (getD-set-same alone a v 0 inside ∙ ev ∙ ap bit (eb ∙ ap (λ (z : ℕ). hasClause C (z ∷ [])) el))
 
   module _ (alone : List ℕ) (known : Alone C alone) (a b : ℕ) (high : a < length alone) (low : b < a) where
     mutex-is : mutex C a b ≡ (hasClause C ((2 * b + 1) ∷ (2 * a + 1) ∷ []) || hasClause C ((2 * a + 1) ∷ []) || hasClause C ((2 * b + 1) ∷ []))
@@ -105,17 +108,17 @@ module _ (C : List (List ℕ)) where
     mutex-first h =
         sym (mutex-is
         ∙ or-left (hasClause C ((2 * b + 1) ∷ []))
-        (or-right (hasClause C ((2 * b + 1) ∷ (2 * a + 1) ∷ [])) (flag-on (hasClause C ((2 * a + 1) ∷ [])) (sym (known .told a high) ∙ h))))
+        (or-right (hasClause C ((2 * b + 1) ∷ (2 * a + 1) ∷ [])) (bit-on (hasClause C ((2 * a + 1) ∷ [])) (sym (known .told a high) ∙ h))))
 
     pub mutex-second : getD alone b 0 ≡ 1 → true ≡ mutex C a b
     mutex-second h =
         sym (mutex-is
-        ∙ or-right (hasClause C ((2 * b + 1) ∷ (2 * a + 1) ∷ []) || hasClause C ((2 * a + 1) ∷ [])) (flag-on (hasClause C ((2 * b + 1) ∷ [])) (sym (known .told b (omega arith)) ∙ h)))
+        ∙ or-right (hasClause C ((2 * b + 1) ∷ (2 * a + 1) ∷ []) || hasClause C ((2 * a + 1) ∷ [])) (bit-on (hasClause C ((2 * b + 1) ∷ [])) (sym (known .told b (omega arith)) ∙ h)))
 
     pub mutex-two : (getD alone a 0 ≡ 1 → ⊥) → (getD alone b 0 ≡ 1 → ⊥) → (r : Bool) (l m : ℕ) → l ≡ 2 * b + 1 → m ≡ 2 * a + 1 → r ≡ hasClause C (l ∷ m ∷ []) → r ≡ mutex C a b
     mutex-two ha hb r l m el em er =
-        let fa : hasClause C ((2 * a + 1) ∷ []) ≡ false = flag-off (hasClause C ((2 * a + 1) ∷ [])) (λ e. ha (known .told a high ∙ e)) in
-        let fb : hasClause C ((2 * b + 1) ∷ []) ≡ false = flag-off (hasClause C ((2 * b + 1) ∷ [])) (λ e. hb (known .told b (omega arith) ∙ e)) in
+        let fa : hasClause C ((2 * a + 1) ∷ []) ≡ false = bit-off (hasClause C ((2 * a + 1) ∷ [])) (λ e. ha (known .told a high ∙ e)) in
+        let fb : hasClause C ((2 * b + 1) ∷ []) ≡ false = bit-off (hasClause C ((2 * b + 1) ∷ [])) (λ e. hb (known .told b (omega arith) ∙ e)) in
         er ∙ rw (mutex-is, fa, fb, el, em) (sym (or-none (hasClause C ((2 * b + 1) ∷ (2 * a + 1) ∷ []))))
       where
         or-none : (b : Bool) → (b || false || false) ≡ b

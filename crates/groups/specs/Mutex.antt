@@ -1,15 +1,11 @@
 -- Marks of the atoms that are mutex with every other. Assumes nothing.
 use mathlib.Core.Path.{_≡_}
-use mathlib.Core.Bool.{Bool, true, false}
 use mathlib.Core.List.{List, [], _∷_}
 use Prim.Native.Nat.{ℕ, _+_, _*_, _<_}
 use lib.ListN.{length, getD}
+use Rattle.definitions.specs.Closure.{bit}
 use Rattle.definitions.specs.Groups.{hasClause}
-
-abbrev pub flag : Bool → ℕ
-flag true = 1
-flag false = 0
 
 -- a mark for each atom: the set has the clause that the atom is false
 pub record Alone (C : List (List ℕ)) (alone : List ℕ) : Type 0 where
-  pub told : (a : ℕ) → a < length alone → getD alone a 0 ≡ flag (hasClause C ((2 * a + 1) ∷ []))
+  pub told : (a : ℕ) → a < length alone → getD alone a 0 ≡ bit (hasClause C ((2 * a + 1) ∷ []))

@@ -17,7 +17,7 @@ fn mark_apart(clauses: &[u16], alone: &[u8], places: &[u16], a: usize, apart: &m
     while b < a {
         let mutex = super::mutex::is_mutex(clauses, alone, a, b);
         let group = literal::wide(places[2 * b]);
-        literal::mark_if(!mutex, apart, group);
+        literal::flags::mark_if(!mutex, apart, group);
         b += 1;
     }
 }

@@ -7,7 +7,7 @@ ghost use lib.ListN.{length};
 ghost use Rattle.definitions.specs.Groups.{hasClause, mutex};
 ghost use Rattle.clause.specs.Rows.{clausesOf, RightRows};
 ghost use Rattle.clause.specs.Search.{isThere};
-ghost use Rattle.groups.specs.Mutex.{flag, Alone};
+ghost use Rattle.groups.specs.Mutex.{Alone};
 
 fn is_there(found: clause::Found) -> bool
     ensures { λ r. ⌜ r ≡ isThere found ⌝ }
@@ -47,12 +47,6 @@ fn negative(atom: usize) -> u16
     (2 * atom + 1) as u16
 }
 
-fn flag(test: bool) -> u8
-    ensures { λ r. ⌜ r ≡ flag test ⌝ }
-{
-    if test { 1 } else { 0 }
-}
-
 // Marks each atom that the set says to be false, which is mutex with every other.
 pub fn mark_alone(clauses: &[u16], alone: &mut [u8])
     requires { ⌜ (RightRows 1024 (now clauses)) × (length (now alone) ≤ 1024) ⌝ }
@@ -60,7 +54,7 @@ pub fn mark_alone(clauses: &[u16], alone: &mut [u8])
 {
     let mut a: usize = 0;
     while a < alone.len() {
-        alone[a] = flag(has_one(clauses, negative(a)));
+        alone[a] = literal::flags::byte(has_one(clauses, negative(a)));
         a += 1;
     }
 }

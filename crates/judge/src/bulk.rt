@@ -22,7 +22,7 @@ fn is_other(m: u16, l: u16, flags: &[u8]) -> bool
     if m == l {
         return false;
     }
-    super::flags::has(flags, literal::wide(m))
+    literal::flags::has(flags, literal::wide(m))
 }
 
 // Whether some literal of a list, other than `l`, has its flag.
@@ -218,7 +218,7 @@ pub fn judge_guaranteed(
     requires { ⌜ Given n (now clauses) (now block) × Judged n (now judged) × (2 * n ≤ length (now marks)) × (length (now fails) ≡ rowCount (now judged)) × (length (now flags) ≡ 2 * n) ⌝ }
     ensures { λ r. ⌜ (now (fails .exit) ≡ failFlags n (clausesOf (now (clauses .entry))) (operatorIn (now (block .entry))) (clausesOf (now (judged .entry)))) × Guarantees n (clausesOf (now (clauses .entry))) (operatorIn (now (block .entry))) (now (flags .exit)) r ⌝ }
 {
-    super::flags::clear(fails);
+    literal::flags::clear(fails);
     let head = task::block::head(block);
     let end = head.end;
     let closed = propagation::close(clauses, &block[1..end], marks, n);

@@ -6,7 +6,6 @@ ghost use Prim.Native.Nat.{ℕ, _*_, _<_, _≤_};
 ghost use lib.ListN.{length};
 ghost use Rattle.definitions.specs.Literal.{complement};
 ghost use Rattle.definitions.specs.Image.{operatorRight};
-ghost use Rattle.definitions.specs.Closure.{bit};
 ghost use Rattle.clause.specs.Rows.{clausesOf};
 ghost use Rattle.task.specs.Walk.{blockParses, operatorIn};
 ghost use Rattle.propagation.specs.Marks.{Marked, ConsistentMarks, Asked};
@@ -36,12 +35,6 @@ pub fn complement(effect: usize) -> u16
         .code
 }
 
-fn byte(b: bool) -> u8
-    ensures { λ r. ⌜ r ≡ bit b ⌝ }
-{
-    if b { 1 } else { 0 }
-}
-
 // Flags the marked literals.
 fn flag_marked(marks: &[u8], n: usize, flags: &mut [u8])
     requires { ⌜ (n ≤ 1024) × (length (now flags) ≡ 2 * n) ⌝ }
@@ -50,7 +43,7 @@ fn flag_marked(marks: &[u8], n: usize, flags: &mut [u8])
     let end = 2 * n;
     let mut l: usize = 0;
     while l < end {
-        flags[l] = byte(propagation::holds(marks, l));
+        flags[l] = literal::flags::byte(propagation::holds(marks, l));
         l += 1;
     }
 }
@@ -91,13 +84,13 @@ fn drop_changed(
         at = end;
         left -= 1;
         let l = literal::wide(complement(effect));
-        if super::flags::is_zero(flags, l) {
+        if literal::flags::is_zero(flags, l) {
             continue;
         }
         if !can_fire(clauses, &block[from..end], marks, n, work) {
             continue;
         }
-        super::flags::put(flags, l, 0);
+        literal::flags::put(flags, l, 0);
     }
 }
 
@@ -116,7 +109,7 @@ fn add_effects(block: &[u16], marks: &[u8], flags: &mut [u8])
         if !propagation::holds_all(marks, &block[from..end]) {
             continue;
         }
-        super::flags::put(flags, effect, 1);
+        literal::flags::put(flags, effect, 1);
     }
 }
 

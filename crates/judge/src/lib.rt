@@ -16,7 +16,6 @@ use answer::Tested;
 use answer::Verdict;
 
 pub mod bulk; // bulk.rt: all judged clauses under one operator
-pub mod flags; // flags.rt: flags of literals and of clauses
 pub mod guarantee; // guarantee.rt: the literals that an operator guarantees
 
 // The refusal of a question, with both places zero.
@@ -52,7 +51,7 @@ fn test(
     let block = task::operator_block(image, operator);
     let mut fails = one();
     bulk::judge(clauses, clause, block, marks, n, &mut fails[..1]);
-    if flags::has(&fails[..1], 0) {
+    if literal::flags::has(&fails[..1], 0) {
         Tested::Fails
     } else {
         Tested::Holds

@@ -1,4 +1,4 @@
--- A mark that is set. Assumes nothing.
+-- A flag that is set. Assumes nothing.
 use Prim.Native.Nat.{ℕ}
 use mathlib.Core.List.{List}
 use mathlib.Core.Bool.{Bool, true, false}

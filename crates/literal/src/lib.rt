@@ -6,7 +6,8 @@ ghost use lib.ListN.{getD};
 ghost use Rattle.definitions.specs.Lists.{ascending};
 ghost use Rattle.definitions.specs.Literal.{complement, allBelow, literalList, isState, trueIn, allTrue};
 ghost use Rattle.literal.specs.Literal.{literalOf};
-ghost use Rattle.literal.specs.Mark.{markIf};
+
+pub mod flags; // flags.rt: flags, a byte each
 
 // A literal: twice its atom if the atom is true, one more if it is false.
 pub struct Literal {
@@ -140,15 +141,4 @@ pub fn all_true(state: &[u8], literals: &[u16]) -> bool
         i += 1;
     }
     true
-}
-
-// Sets mark `l`, if `fires`.
-pub fn mark_if(fires: bool, marks: &mut [u8], l: usize)
-    ensures { λ _. ⌜ now (marks .exit) ≡ markIf fires (now (marks .entry)) l ⌝ }
-{
-    if fires {
-        if l < marks.len() {
-            marks[l] = 1;
-        }
-    }
 }

@@ -30,7 +30,7 @@ fn add_flags(clauses: &[u16], flags: &[u8], to: &mut [u8], due: &mut [u8], at: u
         }
         to[row] = 1;
         let literals = clause::literals(clause::row(clauses, row));
-        judge::flags::put(due, at + literals.len(), 1);
+        literal::flags::put(due, at + literals.len(), 1);
     }
 }
 
@@ -78,7 +78,7 @@ pub fn test(
     ensures { λ _. ⌜ (now (failing .exit) ≡ map (λ f. bit (failsBelow (taskOf (now (image .entry))) (clausesOf (now (clauses .entry))) (length (taskOf (now (image .entry)) .operators)) f)) (clausesOf (now (clauses .entry)))) × Told (taskOf (now (image .entry))) (clausesOf (now (clauses .entry))) (now (due .exit)) ⌝ }
 {
     let operators = task::operators(image);
-    judge::flags::clear(failing);
+    literal::flags::clear(failing);
     let mut operator: usize = 0;
     while operator < operators {
         judge_operator(image, clauses, n, operator, marks, fails);

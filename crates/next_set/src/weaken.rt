@@ -195,7 +195,7 @@ fn weaken_operator(
     requires { ⌜ Read (now image) (now clauses) n × (operator < length (taskOf (now image) .operators)) × (operator < 1024) × Told (taskOf (now image)) (clausesOf (now clauses)) (now due) × (2 * n ≤ length (now marks)) × (length (now fails) ≡ rowCount (now clauses)) × (k < width) × Room rows count (now work) ⌝ }
     ensures { λ r. ⌜ Holds rows r (now (work .exit)) (putAll rows (addedBy (taskOf (now (image .entry))) (clausesOf (now (clauses .entry))) k (operatorAt (taskOf (now (image .entry))) operator)) (some (held count (now (work .entry))))) ⌝ }
 {
-    if judge::flags::is_zero(due, WIDTH * operator + k) {
+    if literal::flags::is_zero(due, WIDTH * operator + k) {
         return Built::Rows(count);
     }
     let block = task::operator_block(image, operator);

@@ -3,8 +3,7 @@
 ghost use mathlib.Core.Path.{_≡_};
 ghost use mathlib.Core.Bool.{true};
 ghost use Prim.Native.Nat.{_≤_};
-ghost use lib.ListN.{length, set};
-ghost use Rattle.definitions.specs.Closure.{has};
+ghost use lib.ListN.{length};
 ghost use Rattle.task.specs.Walk.{blockParses, operatorIn};
 ghost use Rattle.state.specs.Marks.{markFired, bothMarked, conflictIn, makeTrue, changed, unmarked, Settled};
 
@@ -19,19 +18,9 @@ pub fn mark_fired(block: &[u16], state: &[u8], marks: &mut [u8])
     while 0 < left {
         let task::block::RowPart { effect, from, end } = task::block::row(block, at, left);
         let fires = literal::all_true(state, &block[from..end]);
-        literal::mark_if(fires, marks, effect);
+        literal::flags::mark_if(fires, marks, effect);
         at = end;
         left -= 1;
-    }
-}
-
-fn is_marked(marks: &[u8], l: usize) -> bool
-    ensures { λ r. ⌜ r ≡ has (now (marks .entry)) l ⌝ }
-{
-    if l < marks.len() {
-        marks[l] == 1
-    } else {
-        false
     }
 }
 
@@ -40,11 +29,11 @@ fn both_marked(marks: &[u8], l: usize) -> bool
     requires { ⌜ length (now marks) ≤ 2048 ⌝ }
     ensures { λ r. ⌜ r ≡ bothMarked (now (marks .entry)) l ⌝ }
 {
-    let marked = is_marked(marks, l);
+    let marked = literal::flags::has(marks, l);
     if !marked {
         return false;
     }
-    is_marked(marks, literal::complement(l))
+    literal::flags::has(marks, literal::complement(l))
 }
 
 // Whether an effect of a block is marked with its complement: an atom is both added and deleted.
@@ -90,7 +79,7 @@ fn change(block: &[u16], marks: &[u8], state: &mut [u8])
     while 0 < left {
         let row = task::block::row(block, at, left);
         let effect = row.effect;
-        make_true(is_marked(marks, effect), state, effect);
+        make_true(literal::flags::has(marks, effect), state, effect);
         at = row.end;
         left -= 1;
     }
@@ -109,14 +98,6 @@ pub fn settle(block: &[u16], marks: &[u8], state: &mut [u8]) -> bool
     true
 }
 
-fn clear_mark(marks: &mut [u8], l: usize)
-    ensures { λ _. ⌜ now (marks .exit) ≡ set (now (marks .entry)) l 0 ⌝ }
-{
-    if l < marks.len() {
-        marks[l] = 0;
-    }
-}
-
 // Clears the marks of the effects of a block.
 pub fn unmark(block: &[u16], marks: &mut [u8])
     requires { ⌜ blockParses (now block) ≡ true ⌝ }
@@ -127,7 +108,7 @@ pub fn unmark(block: &[u16], marks: &mut [u8])
     let mut left = head.rows;
     while 0 < left {
         let row = task::block::row(block, at, left);
-        clear_mark(marks, row.effect);
+        literal::flags::put(marks, row.effect, 0);
         at = row.end;
         left -= 1;
     }

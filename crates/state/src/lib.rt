@@ -145,22 +145,12 @@ pub fn goal_met(image: &[u16], state: &[u8]) -> answer::Tested
     }
 }
 
-fn clear(state: &mut [u8])
-    ensures { λ _. ⌜ now (state .exit) ≡ replicate (length (now (state .entry))) 0 ⌝ }
-{
-    let mut a: usize = 0;
-    while a < state.len() {
-        state[a] = 0;
-        a += 1;
-    }
-}
-
 fn set_true(state: &mut [u8], atoms: &[u16])
     ensures { λ _. ⌜ now (state .exit) ≡ setTrue (now (state .entry)) (now (atoms .entry)) ⌝ }
 {
     let mut i: usize = 0;
     while i < atoms.len() {
-        literal::mark_if(true, state, literal::wide(atoms[i]));
+        literal::flags::mark_if(true, state, literal::wide(atoms[i]));
         i += 1;
     }
 }
@@ -170,7 +160,7 @@ pub fn write_initial(image: &[u16], state: &mut [u8])
     requires { ⌜ Reads (now image) × (length (now state) ≡ taskOf (now image) .atoms) ⌝ }
     ensures { λ _. ⌜ now (state .exit) ≡ initialState (taskOf (now (image .entry))) ⌝ }
 {
-    clear(state);
+    literal::flags::clear(state);
     set_true(state, task::initial(image));
 }
 

@@ -18,6 +18,7 @@ use Rattle.definitions.proofs.ListLaws.{and-left, and-right}
 use Rattle.definitions.proofs.CheckSound.{not-finding, same-finding, bind-of, ask-of, ReadRight, read-right}
 use Rattle.definitions.proofs.Simulation.{getD-mem}
 use Rattle.answer.specs.Answer.{refusalAt}
+use Rattle.answer.proofs.Laws.{verdict-bind}
 use Rattle.task.specs.Reads.{taskIn, taskOf, Reads}
 use Rattle.task.specs.Walk.{someOperator, operatorOr, blockParses, operatorIn, sizeRight, countsRight}
 use Rattle.task.specs.Post.{BlockGiven}
@@ -65,11 +66,6 @@ module _ (w : List ℕ) where
     counts-operators = leb-true M 1024 (and-right (leb 1 N && leb N 1024) (leb M 1024) h)
 
 -- ---- the operators, one before the next
-verdict-bind : {A B : Type 0} (m : Answer A) (f : A → B) → verdict (m >>= λ a. finding (f a)) ≡ verdict m
-unfolding verdict _>>=_
-verdict-bind (finding a) f = refl
-verdict-bind (refused r) f = refl
-
 verdict-then : {A B D : Type 0} (m : Answer A) (k : Answer B) (f : A → B → D) → verdict m ≡ finding tt → verdict (m >>= λ a. k >>= λ b. finding (f a b)) ≡ verdict k
 unfolding verdict _>>=_
 verdict-then (finding a) k f e = verdict-bind k (f a)

@@ -23,8 +23,8 @@ negative-requires c κs = search needs
 has-one-requires : tie.Need-has-one-requires Inv-loop μ-loop
 has-one-requires c κs = search needs
 
-flag-requires : tie.Need-flag-requires Inv-loop μ-loop
-flag-requires c κs = search needs
+byte-requires : tie.Need-byte-requires Inv-loop μ-loop
+byte-requires c κs = search needs
 
 slice-write-alone : tie.Need-slice-write-alone Inv-loop μ-loop
 slice-write-alone c = search needs
@@ -38,7 +38,7 @@ loop-less c = search needs
 loop-again : tie.Need-loop-again Inv-loop μ-loop
 loop-again c =
     let l = c .before .before .before .before .loop in
-    (simp length-set (omega arith), (simp length-set (l .inv .1 .0), alone-on _ (l .alone) (l .a) _ _ _ (c .before .before .before .loop-test .taken) (l .inv .1 .1) (c .before .before .negative .ensures) (c .before .has-one .ensures) (c .flag .ensures)))
+    (simp length-set (omega arith), (simp length-set (l .inv .1 .0), alone-on _ (l .alone) (l .a) _ _ _ (c .before .before .before .loop-test .taken) (l .inv .1 .1) (c .before .before .negative .ensures) (c .before .has-one .ensures) (c .byte .ensures)))
 
 same-length : tie.Need-same-length Inv-loop μ-loop
 same-length c = c .before .loop .inv .1 .0
@@ -57,7 +57,7 @@ mark-alone-spec =
     loop-holds
     negative-requires
     has-one-requires
-    flag-requires
+    byte-requires
     slice-write-alone
     add-a
     loop-less

@@ -35,8 +35,8 @@ loop-holds c =
 row-requires : tie.Need-row-requires Inv-loop μ-loop
 row-requires c κs = (c .before .loop .inv .1 .0, omega arith)
 
-is-marked-requires : tie.Need-is-marked-requires Inv-loop μ-loop
-is-marked-requires c κs = search needs
+has-requires : tie.Need-has-requires Inv-loop μ-loop
+has-requires c κs = search needs
 
 make-true-requires : tie.Need-make-true-requires Inv-loop μ-loop
 make-true-requires c κs = search needs
@@ -51,7 +51,7 @@ loop-again : tie.Need-loop-again Inv-loop μ-loop
 loop-again c =
     let l = c .before .before .before .before .before .before .before .loop in
     let r = c .before .before .before .before .before .row .ensures in
-    (omega (arith, c .before .before .make-true .kept .1 .0), (r .next, l .inv .1 .1 ∙ changed-turn _ _ _ _ (r .row) _ _ _ (c .before .before .before .before .is-marked .ensures) (c .before .before .make-true .ensures)))
+    (omega (arith, c .before .before .make-true .kept .1 .0), (r .next, l .inv .1 .1 ∙ changed-turn _ _ _ _ (r .row) _ _ _ (c .before .before .before .before .has .ensures) (c .before .before .make-true .ensures)))
 
 same-length : tie.Need-same-length Inv-loop μ-loop
 same-length c = c .before .loop .inv .0
@@ -71,7 +71,7 @@ change-spec =
     add-at
     loop-holds
     row-requires
-    is-marked-requires
+    has-requires
     make-true-requires
     sub-left
     loop-less

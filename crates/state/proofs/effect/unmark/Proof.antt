@@ -34,8 +34,8 @@ loop-holds c =
 row-requires : tie.Need-row-requires Inv-loop μ-loop
 row-requires c κs = (c .before .loop .inv .1 .0, omega arith)
 
-clear-mark-requires : tie.Need-clear-mark-requires Inv-loop μ-loop
-clear-mark-requires c κs = search needs
+put-requires : tie.Need-put-requires Inv-loop μ-loop
+put-requires c κs = search needs
 
 sub-left : tie.Need-sub-left Inv-loop μ-loop
 sub-left c = search needs
@@ -47,7 +47,7 @@ loop-again : tie.Need-loop-again Inv-loop μ-loop
 loop-again c =
     let l = c .before .before .before .before .before .before .loop in
     let r = c .before .before .before .before .row .ensures in
-    (omega (arith, c .before .before .clear-mark .kept .0), (r .next, l .inv .1 .1 ∙ unmarked-turn _ _ _ _ (r .row) _ (c .before .before .clear-mark .ensures)))
+    (omega (arith, c .before .before .put .kept .0), (r .next, l .inv .1 .1 ∙ unmarked-turn _ _ _ _ (r .row) _ (c .before .before .put .ensures)))
 
 same-length : tie.Need-same-length Inv-loop μ-loop
 same-length c = c .before .loop .inv .0
@@ -67,7 +67,7 @@ unmark-spec =
     add-at
     loop-holds
     row-requires
-    clear-mark-requires
+    put-requires
     sub-left
     loop-less
     loop-again

@@ -1,9 +1,17 @@
-// Flags: a byte each, 1 for what has it.
+// Flags: a byte each, 1 for what has it. They flag literals, atoms, groups, operators or clauses.
 ghost use mathlib.Core.Path.{_≡_};
 ghost use mathlib.Core.Bool.{true};
 ghost use Prim.Native.Nat.{_<_};
 ghost use lib.ListN.{length, getD, set, replicate};
-ghost use Rattle.definitions.specs.Closure.{has};
+ghost use Rattle.definitions.specs.Closure.{bit, has};
+ghost use Rattle.literal.specs.Mark.{markIf};
+
+// The byte of a flag.
+pub fn byte(b: bool) -> u8
+    ensures { λ r. ⌜ r ≡ bit b ⌝ }
+{
+    if b { 1 } else { 0 }
+}
 
 // Whether `i` has its flag.
 pub fn has(flags: &[u8], i: usize) -> bool
@@ -33,6 +41,17 @@ pub fn put(flags: &mut [u8], i: usize, x: u8)
 {
     if i < flags.len() {
         flags[i] = x;
+    }
+}
+
+// Gives `l` its flag, if `fires`.
+pub fn mark_if(fires: bool, marks: &mut [u8], l: usize)
+    ensures { λ _. ⌜ now (marks .exit) ≡ markIf fires (now (marks .entry)) l ⌝ }
+{
+    if fires {
+        if l < marks.len() {
+            marks[l] = 1;
+        }
     }
 }
 

@@ -1,12 +1,12 @@
--- `judge::flags::clear`: the bytes before i are zeros.
+-- `literal::flags::clear`: the bytes before i are zeros.
 use Prim.Native.Nat.{_≤_, _-_}
 use mathlib.Core.Path.{_≡_, refl}
 use native.Mathlib.Omega.{arith}
 use lib.ListN.{length, take, replicate, length-set}
 use Rattle.definitions.proofs.Walks.{clear-on, clear-end}
 use borrow.Author.Needs.{needs}
-use Rattle.judge.proofs.flags.clear.Statement.{statement}
-use Rattle.judge.proofs.flags.clear.Tie as tie
+use Rattle.literal.proofs.flags.clear.Statement.{statement}
+use Rattle.literal.proofs.flags.clear.Tie as tie
 
 abbrev Inv-loop : tie.InvT-loop
 Inv-loop flags₀ i₀ flags i = (i ≤ length flags) × (length flags ≡ length flags₀) × (take i flags ≡ replicate i 0)

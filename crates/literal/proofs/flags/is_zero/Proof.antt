@@ -1,9 +1,9 @@
--- `judge::flags::is_zero`: the byte's test, where it has a place. Assumes nothing.
+-- `literal::flags::is_zero`: the byte's test, where it has a place. Assumes nothing.
 use borrow.Author.Tests.{eqb-true}
 use mathlib.Core.Bool.{false≢true}
 use borrow.Author.Needs.{needs}
-use Rattle.judge.proofs.flags.is_zero.Statement.{statement}
-use Rattle.judge.proofs.flags.is_zero.Tie as tie
+use Rattle.literal.proofs.flags.is_zero.Statement.{statement}
+use Rattle.literal.proofs.flags.is_zero.Tie as tie
 
 shared-slice-read-result : tie.Need-shared-slice-read-result
 shared-slice-read-result c = search needs

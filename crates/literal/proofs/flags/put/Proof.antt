@@ -1,8 +1,8 @@
 use mathlib.Core.Path.{sym}
 use lib.Seq.{set-out}
 use borrow.Author.Needs.{needs}
-use Rattle.judge.proofs.flags.put.Statement.{statement}
-use Rattle.judge.proofs.flags.put.Tie as tie
+use Rattle.literal.proofs.flags.put.Statement.{statement}
+use Rattle.literal.proofs.flags.put.Tie as tie
 
 slice-write-flags : tie.Need-slice-write-flags
 slice-write-flags c = search needs

@@ -4,8 +4,8 @@ use lib.Dec.{eqb}
 use lib.ListN.{List·getD-eq-default}
 use Rattle.definitions.specs.Closure.{has}
 use borrow.Author.Needs.{needs}
-use Rattle.judge.proofs.flags.has.Statement.{statement}
-use Rattle.judge.proofs.flags.has.Tie as tie
+use Rattle.literal.proofs.flags.has.Statement.{statement}
+use Rattle.literal.proofs.flags.has.Tie as tie
 
 shared-slice-read-result : tie.Need-shared-slice-read-result
 shared-slice-read-result c = search needs

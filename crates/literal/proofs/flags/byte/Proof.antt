@@ -1,7 +1,7 @@
 use mathlib.Core.Path.{ap, sym}
 use Rattle.definitions.specs.Closure.{bit}
-use Rattle.judge.proofs.guarantee.byte.Statement.{statement}
-use Rattle.judge.proofs.guarantee.byte.Tie as tie
+use Rattle.literal.proofs.flags.byte.Statement.{statement}
+use Rattle.literal.proofs.flags.byte.Tie as tie
 
 returns : tie.Need-returns
 unfolding bit

@@ -3,8 +3,8 @@ use mathlib.Core.Bool.{Bool}
 use Rattle.literal.specs.Mark.{markIf}
 use Rattle.literal.proofs.Mark.{mark-out}
 use borrow.Author.Needs.{needs}
-use Rattle.literal.proofs.mark_if.Statement.{statement}
-use Rattle.literal.proofs.mark_if.Tie as tie
+use Rattle.literal.proofs.flags.mark_if.Statement.{statement}
+use Rattle.literal.proofs.flags.mark_if.Tie as tie
 
 slice-write-marks : tie.Need-slice-write-marks
 slice-write-marks c = search needs
