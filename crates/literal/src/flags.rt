@@ -1,7 +1,7 @@
 // Flags: a byte each, 1 for what has it. They flag literals, atoms, groups, operators or clauses.
 ghost use mathlib.Core.Path.{_≡_};
-ghost use mathlib.Core.Bool.{true};
-ghost use Prim.Native.Nat.{_<_};
+ghost use mathlib.Core.Bool.{_&&_};
+ghost use lib.Dec.{ltb, eqb};
 ghost use lib.ListN.{length, getD, set, replicate};
 ghost use Rattle.definitions.specs.Closure.{bit, has};
 ghost use Rattle.literal.specs.Mark.{markIf};
@@ -24,9 +24,9 @@ pub fn has(flags: &[u8], i: usize) -> bool
     }
 }
 
-// Whether the byte of `i` is zero, if it has a place.
+// Whether `i` has a place, and zero there.
 pub fn is_zero(flags: &[u8], i: usize) -> bool
-    ensures { λ r. ⌜ (r ≡ true → (getD (now (flags .entry)) i 0 ≡ 0) × (i < length (now (flags .entry)))) ⌝ }
+    ensures { λ r. ⌜ r ≡ (ltb i (length (now (flags .entry))) && eqb (getD (now (flags .entry)) i 0) 0) ⌝ }
 {
     if i < flags.len() {
         flags[i] == 0

@@ -5,6 +5,7 @@ use mathlib.Core.List.{List}
 use native.Mathlib.Omega.{arith}
 use lib.ListN.{length}
 use borrow.Author.Tests.{not-true, not-false}
+use Rattle.literal.proofs.Mark.{zero-place}
 use Rattle.clause.specs.Rows.{clausesOf}
 use Rattle.task.specs.Walk.{operatorIn, rowsAt}
 use Rattle.task.proofs.Blocks.{rows-none}
@@ -59,7 +60,7 @@ loop-again : tie.Need-loop-again Inv-loop μ-loop
 loop-again c =
     let i = c .before .before .before .before .before .before .before .loop .inv in
     let r = c .before .before .before .before .before .row .ensures in
-    (i .0, i .1, left-next _ _ _ _ _ _ _ (i .2) r, λ ls closed. i .3 ls closed ∙ drop-zero _ _ ls _ _ _ _ _ (r .row) _ (c .before .before .before .wide .ensures .0 ∙ c .before .before .before .before .complement .ensures) (c .before .is-zero .ensures (c .if1 .taken) .0))
+    (i .0, i .1, left-next _ _ _ _ _ _ _ (i .2) r, λ ls closed. i .3 ls closed ∙ drop-zero _ _ ls _ _ _ _ _ (r .row) _ (c .before .before .before .wide .ensures .0 ∙ c .before .before .before .before .complement .ensures) (zero-place (c .before .before .before .before .before .before .before .loop .flags) (c .before .before .before .wide .result) (c .before .is-zero .result) (c .before .is-zero .ensures) (c .if1 .taken) .0))
 
 mul-can-fire : tie.Need-mul-can-fire Inv-loop μ-loop
 mul-can-fire c = search needs

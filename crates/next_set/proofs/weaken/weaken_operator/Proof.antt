@@ -1,12 +1,13 @@
 -- `next_set::weaken::weaken_operator`: nothing is added where that was noted, else what the operator's block adds. Assumes nothing.
 use Rattle.definitions.specs.Clauses.{width}
 use denote.Ref.{now}
-use Prim.Native.Nat.{ℕ}
+use Prim.Native.Nat.{ℕ, _+_, _*_}
 use mathlib.Core.Option.{some}
 use mathlib.Core.Path.{_≡_, refl, sym, _∙_, ap, subst}
 use native.Mathlib.Omega.{arith}
 use lib.ListN.{length}
 use Rattle.definitions.specs.Image.{Operator}
+use Rattle.literal.proofs.Mark.{zero-place}
 use Rattle.clause.specs.Rows.{clausesOf}
 use Rattle.task.specs.Reads.{taskOf}
 use Rattle.clause_set.specs.Put.{putAll}
@@ -33,7 +34,7 @@ unfolding width
 returns c =
     let a = c .before .before .before .before .before .before .before .before .args in
     let p = c .before .before .before .before .before .before .before .before .pre in
-    let z = c .before .is-zero .ensures (c .if1 .taken) in
+    let z = zero-place (a .due .now) (width * a .operator + a .k) (c .before .is-zero .result) (c .before .is-zero .ensures) (c .if1 .taken) in
     (p .7, put-none (taskOf (a .image .now)) (clausesOf (a .clauses .now)) (a .due .now) (p .3) (a .operator) (a .k) (p .1) (z .1) (z .0) (a .rows) (some (held (a .count) (a .work .now))))
 
 operator-block-requires : tie.Need-operator-block-requires
