@@ -55,7 +55,7 @@ module _ (w : List ℕ) (t : Task) (C : List (List ℕ)) (read : readTask w ≡ 
   start = starts-coded t C (inv .starts)
 
   -- the re-encoded image is read
-  image-there : readFdr image ≡ finding (encode t C)
+  pub image-there : readFdr image ≡ finding (encode t C)
   unfolding encodedImage
   image-there = image-read t C right (inv .starts) (read-sizes w t read) goal
 
@@ -144,6 +144,7 @@ module _ (w : List ℕ) (t : Task) (C : List (List ℕ)) (read : readTask w ≡ 
   same s v k =
       record {
         invariant = k .sat;
+        bytes = k .len;
         vars = k .vars ∙ sym (start .vars);
         goal = goal-call s v k;
         goal-fdr = fdr-goal-call s v k;

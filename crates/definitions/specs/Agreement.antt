@@ -52,7 +52,8 @@ module _ (w : List ℕ) (t : Task) (C : List (List ℕ)) where
     -- both goal tests say whether all literals of the goal are true
     pub goal : goalTask w s ≡ finding (allTrue s (t .goal))
     pub goal-fdr : goalFdr encoded v ≡ finding (allTrue s (t .goal))
-    -- V values
+    -- N bytes, V values
+    pub bytes : length s ≡ t .atoms
     pub vars : length v ≡ length v₀
     -- the finite-domain state is that of the task's state (question 23 does not refuse), and coded back it gives that state
     pub from : fromAtomsCall encoded s (length v) ≡ finding v
