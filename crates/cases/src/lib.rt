@@ -1,8 +1,8 @@
 // The test programs over the C interface: `run` runs the calls on the cases of standard input, and writes what each answers.
 // A case is little-endian words: the call, two numbers, for each of four lists its length and how many of its first values are
 // stored, then the stored values of the lists. The lists are an image, two more lists of words, and a list of bytes (a word for
-// each byte). A value that is not stored is 7. The calls, their numbers and lists stand in task.rt (0 to 4), clause.rt (5 to 9)
-// and fdr.rt (10 to 15). A line has the returned number, both values or places, and the lists that were lent to be changed
+// each byte). A value that is not stored is 7. The calls, their numbers and lists stand in task.rt (0 to 4), clause.rt (5 to 9),
+// fdr.rt (10 to 15) and agreement.rt (16). A line has the returned number, both values or places, and the lists that were lent to be changed
 // (not marks and work, which may hold anything), each behind a bar.
 ghost use mathlib.Core.Path.{_≡_};
 ghost use Prim.Native.Nat.{_+_, _≤_, _<_};
@@ -13,6 +13,7 @@ mod output; // output.rt: the fields of a line
 mod task; // task.rt: calls on tasks
 mod clause; // clause.rt: calls on clauses
 mod fdr; // fdr.rt: calls on re-encoded tasks
+mod agreement; // agreement.rt: task and re-encoding compared along a list
 
 fn call(
     which: u16,
@@ -31,7 +32,11 @@ fn call(
         clause::call(which, x, y, image, list, other, small);
         return;
     }
-    fdr::call(which, x, image, list, other, small);
+    if which < 16 {
+        fdr::call(which, x, image, list, other, small);
+        return;
+    }
+    agreement::agree(image, list, other, small);
 }
 
 // Loads the lists of the case at word `at`, and runs it.

@@ -1,3 +1,4 @@
 pub mod Searching
 pub mod Prefix
 pub mod Checking
+pub mod Accepting

@@ -31,7 +31,7 @@ fn flag_room() -> [u8; 10000]
 }
 
 // Whether all clauses hold in a state, or the lowest that is false there.
-fn check_true(clauses: &[u16], state: &[u8]) -> Verdict
+pub fn check_true(clauses: &[u16], state: &[u8]) -> Verdict
     ensures { λ r. ⌜ verdictAnswer r ≡ falseAnswer (firstFail (holdsIn (now (state .entry))) 0 (clausesOf (now (clauses .entry)))) ⌝ }
 {
     let count = clause::rows(clauses);

@@ -11,6 +11,7 @@ ghost use Rattle.definitions.specs.Groups.{written, groupsCall};
 ghost use Rattle.definitions.specs.Encoding.{encodeCall};
 ghost use Rattle.definitions.specs.Coding.{toAtomsCall, fromAtomsCall};
 ghost use Rattle.definitions.specs.FdrStep.{stepFdr, goalFdr, startFdr, runFdr};
+ghost use Rattle.agreement.specs.Compared.{comparison, demanded};
 ghost use Rattle.exports.specs.Told.{told, toldVerdict, toldTest, toldCount, toldMade};
 
 mod tell; // tell.rt: answers as numbers
@@ -246,4 +247,20 @@ pub extern "C" fn kb_decode(
     ensures { λ r. ⌜ (told r (now (first .exit)) (now (second .exit)) ≡ toldVerdict (verdict (toAtomsCall (now (image .entry)) (now (state .entry)) (length (now (target .entry)))))) × (now (target .exit) ≡ stateAfter (now (target .entry)) (toAtomsCall (now (image .entry)) (now (state .entry)) (length (now (target .entry))))) ⌝ }
 {
     tell::verdict(coding::decode(image, state, target), first, second)
+}
+
+// Demand 3 along a list of operator numbers: the checker's questions; then task and re-encoding are compared at the start and after
+// each step, and by list runs. `first` is 1 if they agree, as they do for every accepted set, else 0.
+#[no_mangle]
+pub extern "C" fn kb_agree(
+    image: &[u16],
+    clauses: &[u16],
+    list: &[u16],
+    marks: &mut [u8],
+    first: &mut u64,
+    second: &mut u64,
+) -> u32
+    ensures { λ r. ⌜ (told r (now (first .exit)) (now (second .exit)) ≡ toldTest (comparison (now (image .entry)) (now (clauses .entry)) (length (now (marks .entry))) (now (list .entry)))) × (told r (now (first .exit)) (now (second .exit)) ≡ toldTest (demanded (check (now (image .entry)) (now (clauses .entry)) (length (now (marks .entry)))))) ⌝ }
+{
+    tell::test(agreement::agree(image, clauses, list, marks), first, second)
 }

@@ -1,50 +1,18 @@
--- What the checker's verdict says to the calls that ask its questions first. Assumes nothing.
-use mathlib.Core.Path.{_≡_, refl, sym, _∙_, ap, subst}
+-- What the checker's verdict says to the calls that ask its questions, and then write. Assumes nothing.
+use mathlib.Core.Path.{_≡_, sym}
 use mathlib.Core.List.{List}
-use Prim.Native.Nat.{ℕ, _*_}
-use lib.Dec.{leb}
+use Prim.Native.Nat.{ℕ}
 use lib.ListN.{length}
-use Rattle.definitions.specs.Answer.{Refusal, Answer, finding, refused, outcome, verdict, ask, askAt, _>>=_}
-use Rattle.definitions.specs.Image.{Task, readTask}
-use Rattle.definitions.specs.Clauses.{readClauses}
-use Rattle.definitions.specs.Checker.{Accepted, accept, check}
+use Rattle.definitions.specs.Answer.{Refusal, Answer, refused, outcome, verdict, _>>=_}
+use Rattle.definitions.specs.Checker.{Accepted, check}
 use Rattle.definitions.specs.Groups.{Written, written, groupsCall}
-use Rattle.definitions.proofs.CheckSound.{same-finding, bind-of}
-use Rattle.task.specs.Reads.{taskIn, taskOf, Reads}
-use Rattle.clause.specs.Rows.{clausesOf, ClausesRead}
-use Rattle.answer.proofs.Laws.{verdict-refused, verdict-finding}
-use Rattle.clause.proofs.ReadLaws.{read-are, read-of}
+use Rattle.task.specs.Reads.{taskOf}
+use Rattle.clause.specs.Rows.{clausesOf}
+use Rattle.checker.specs.Accepts.{Accepts}
+use Rattle.answer.proofs.Laws.{verdict-refused}
 use Rattle.groups.specs.Cover.{groupsAnswer}
 
--- the task and the clauses that the checker accepts are those that are read
-pub record Accepts (w c : List ℕ) (marks : ℕ) : Type 0 where
-  pub reads : Reads w
-  pub rows : ClausesRead (taskOf w .atoms) c
-  pub found : check w c marks ≡ finding (record { task = taskOf w; clauses = clausesOf c })
-
 module _ (w c : List ℕ) (marks : ℕ) where
-  found-task : (t : Task) → readTask w ≡ finding t → t ≡ taskOf w
-  unfolding taskOf taskIn
-  found-task t e = rw e
-
-  pub accepted : finding tt ≡ verdict (check w c marks) → Accepts w c marks
-  unfolding check
-  accepted h =
-      let a = verdict-finding (check w c marks) tt (sym h) in
-      let p = bind-of (readTask w) _ (a .0) (a .1) in
-      let t = p .0 in
-      let q = bind-of (readClauses (t .atoms) c) _ (a .0) (p .2) in
-      let r = bind-of (ask 13 (leb (2 * t .atoms) marks)) _ (a .0) (q .2) in
-      let s = bind-of (accept t (q .0)) (λ _. finding (record { task = t; clauses = q .0 })) (a .0) (r .2) in
-      let is-task : t ≡ taskOf w = found-task t (p .1) in
-      let is-set : q .0 ≡ clausesOf c = read-are (t .atoms) c (q .0) (q .1) in
-      let is-both : record { task = t; clauses = q .0 } ≡ a .0 = same-finding (record { task = t; clauses = q .0 }) (a .0) (s .2) in
-      record {
-        reads = record { found = p .1 ∙ ap finding is-task };
-        rows = subst (λ (z : Task). ClausesRead (z .atoms) c) is-task (read-of (t .atoms) c (q .0) (q .1));
-        found = a .1 ∙ ap finding (sym is-both ∙ cc);
-      }
-
   module _ (k : Accepted → Answer Written) (old : List ℕ) where
     -- a refusal of the checker is handed on, and changes nothing
     pub call-refused : (r : Refusal) → refused r ≡ verdict (check w c marks) → outcome (refused r) old ≡ written old (check w c marks >>= k)

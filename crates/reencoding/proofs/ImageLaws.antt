@@ -31,7 +31,8 @@ use Rattle.groups.specs.Writing.{Wrote, domainBy}
 use Rattle.groups.proofs.Writes.{wrote-both, domains-size}
 use Rattle.groups.proofs.Joining.{variable-low}
 use Rattle.groups.proofs.Covering.{domains-are, places-are, fits-not, fits-done}
-use Rattle.groups.proofs.Accepting.{Accepts, call-refused, call-accepted}
+use Rattle.checker.specs.Accepts.{Accepts}
+use Rattle.groups.proofs.Accepting.{call-refused, call-accepted}
 use Rattle.reencoding.specs.Words.{atomsOf, literalBy, literalsBy, countedBy, rowBy, rowsBy, operatorBy}
 use Rattle.reencoding.specs.Parts.{sum, wordsOf, lengthsOf, partsStart, imageSize, pairsOf, headerBy, lowered, operatorsBy, imageBy}
 use Rattle.reencoding.specs.Image.{Laid, encodeAnswer}

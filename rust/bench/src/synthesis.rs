@@ -18,7 +18,11 @@ pub fn run(bench: &Bench) {
     one(bench, "briefcase 10 4", &structured::briefcase(10, 4));
     one(bench, "transport 3 8 5", &structured::transport(3, 8, 5));
     for places in [25, 50, 71, 100, 141] {
-        one(bench, &format!("growth ring {places}"), &structured::ring(places));
+        one(
+            bench,
+            &format!("growth ring {places}"),
+            &structured::ring(places),
+        );
     }
 }
 

@@ -1,13 +1,14 @@
 //! One case: a call with what it is given, and the line that belongs to it.
 
-use reference::{checker, coding, fdr, groups, kept, reencoding, state, synthesis, task, Reply};
+use reference::{agreement, checker, coding, fdr, groups, kept, reencoding};
+use reference::{state, synthesis, task, Reply};
 use std::fmt::Write;
 
 /// What a list holds behind its stored values.
 pub const FILL: u16 = 7;
 
 /// A call by its number, with its two numbers and four lists; what these mean
-/// is said in crates/cases/src (task.rt, clause.rt, fdr.rt).
+/// is said in crates/cases/src (task.rt, clause.rt, fdr.rt, agreement.rt).
 #[derive(Clone, Default)]
 pub struct Case {
     pub call: u16,
@@ -60,6 +61,7 @@ impl Case {
             13 => fdr::run(image, list, other).into(),
             14 => coding::encode(image, small, list).into(),
             15 => coding::decode(image, list, small).into(),
+            16 => agreement::agree(image, list, other, small).into(),
             call => unreachable!("no call has the number {call}"),
         }
     }

@@ -35,7 +35,7 @@ pub fn add_cases(collection: &mut Collection) {
 }
 
 /// A call that is lent a clause set, another list and as many marks as needed.
-fn case(call: u16, image: &[u16], clauses: &[u16], other: &[u16]) -> Case {
+pub fn case(call: u16, image: &[u16], clauses: &[u16], other: &[u16]) -> Case {
     Case {
         call,
         numbers: [0, 0],
@@ -110,7 +110,7 @@ fn structured_cases() -> Vec<Case> {
 }
 
 /// The image, now and then damaged, with a clause set and marks for it.
-fn checker_case(rng: &mut Rng, source: &Synthesized, call: u16, clauses: &[u16]) -> Case {
+pub fn checker_case(rng: &mut Rng, source: &Synthesized, call: u16, clauses: &[u16]) -> Case {
     let mut image = source.image.clone();
     if rng.chance(12) {
         damage::task_image(rng, &mut image);

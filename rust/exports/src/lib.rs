@@ -472,6 +472,45 @@ mod coding {
     }
 }
 
+/// Demand 3 along a list.
+mod agreement {
+    use super::{reply, Reply};
+
+    extern "C" {
+        fn kb_agree(
+            image: *const u16,
+            image_length: usize,
+            clauses: *const u16,
+            clauses_length: usize,
+            list: *const u16,
+            list_length: usize,
+            marks: *mut u8,
+            marks_length: usize,
+            first: *mut u64,
+            second: *mut u64,
+        ) -> u32;
+    }
+
+    pub fn agree(image: &[u16], clauses: &[u16], list: &[u16], marks: &mut [u8]) -> Reply {
+        // Safety: every pointer comes with the length of its slice.
+        reply(|first, second| unsafe {
+            kb_agree(
+                image.as_ptr(),
+                image.len(),
+                clauses.as_ptr(),
+                clauses.len(),
+                list.as_ptr(),
+                list.len(),
+                marks.as_mut_ptr(),
+                marks.len(),
+                first,
+                second,
+            )
+        })
+    }
+}
+
+pub use agreement::*;
 pub use checker::*;
 pub use coding::*;
 pub use fdr::*;

@@ -4,6 +4,7 @@
 //! Every public call works on lent slices as the C interface does and asks
 //! document 01's questions in their order; the first "no" is the refusal.
 
+pub mod agreement;
 pub mod answer;
 pub mod card;
 pub mod checker;

@@ -1,7 +1,9 @@
 use mathlib.Core.Path.{_≡_, sym, ap, _∙_}
 use lib.ListN.{length}
 use Rattle.answer.specs.Answer.{placed, verdictAnswer}
-use Rattle.groups.proofs.Accepting.{Accepts, accepted, groups-refused, groups-accepted}
+use Rattle.checker.specs.Accepts.{Accepts}
+use Rattle.checker.proofs.Accepting.{accepted}
+use Rattle.groups.proofs.Accepting.{groups-refused, groups-accepted}
 use borrow.Author.Needs.{needs}
 use Rattle.groups.proofs.groups.Statement.{statement}
 use Rattle.groups.proofs.groups.Tie as tie

@@ -1,7 +1,8 @@
 use mathlib.Core.Path.{_≡_, sym, ap, _∙_}
 use lib.ListN.{length}
 use Rattle.answer.specs.Answer.{placed, verdictAnswer}
-use Rattle.groups.proofs.Accepting.{Accepts, accepted}
+use Rattle.checker.specs.Accepts.{Accepts}
+use Rattle.checker.proofs.Accepting.{accepted}
 use Rattle.reencoding.proofs.ImageLaws.{encode-refused, encode-accepted}
 use borrow.Author.Needs.{needs}
 use Rattle.reencoding.proofs.reencode.Statement.{statement}

@@ -1,0 +1,14 @@
+-- `agreement::tested`: by the two cases.
+use mathlib.Core.Path.{sym, ap}
+use Rattle.definitions.specs.Answer.{finding}
+use Rattle.agreement.proofs.tested.Statement.{statement}
+use Rattle.agreement.proofs.tested.Tie as tie
+
+returns : tie.Need-returns
+returns c = ap finding (sym (c .if1 .taken))
+
+returns-2 : tie.Need-returns-2
+returns-2 c = ap finding (sym (c .if1 .left))
+
+pub tested-spec : {M : Type 1} → statement M
+tested-spec = tie.close (tie.spec returns returns-2)
