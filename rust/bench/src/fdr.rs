@@ -56,7 +56,7 @@ fn initial(image: &[u16]) -> Vec<u16> {
 }
 
 /// A list that runs from the initial state.
-fn random_list(rng: &mut Rng, image: &[u16], length: usize) -> Vec<u16> {
+pub fn random_list(rng: &mut Rng, image: &[u16], length: usize) -> Vec<u16> {
     let task = model::read(image).expect("a right image");
     let mut state = initial(image);
     let mut fired = Vec::new();

@@ -5,6 +5,7 @@
 //! Arguments name the benchmarks to run (a part of the name is enough); without
 //! arguments all run.
 
+mod agreement;
 mod checker;
 mod fdr;
 mod synthesis;
@@ -19,4 +20,5 @@ fn main() {
     checker::run(&bench);
     synthesis::run(&bench);
     fdr::run(&bench);
+    agreement::run(&bench);
 }

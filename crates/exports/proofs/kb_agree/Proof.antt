@@ -5,6 +5,13 @@ use borrow.Author.Needs.{needs}
 use Rattle.exports.proofs.kb_agree.Statement.{statement}
 use Rattle.exports.proofs.kb_agree.Tie as tie
 
+-- where the comparison is made
+abbrev back : tie.After-test → tie.After-slice-known2
+back c = c .before .before .before
+
+abbrev compared : tie.After-test → tie.After-agree
+compared c = back c .before .before
+
 agree-requires : tie.Need-agree-requires
 agree-requires c κs = search needs
 
@@ -15,7 +22,9 @@ same-length : tie.Need-same-length
 same-length c = search needs
 
 returns : tie.Need-returns
-returns c = ?
+returns c =
+    let a = compared c .agree .ensures in
+    (c .test .ensures ∙ ap toldTest (a .compared), c .test .ensures ∙ ap toldTest (a .demand))
 
 pub kb-agree-spec : {M : Type 1} → statement M
 kb-agree-spec = tie.close (tie.spec agree-requires test-requires same-length returns)
