@@ -5,7 +5,6 @@ use answer::Tested;
 use answer::Verdict;
 ghost use mathlib.Core.Path.{_≡_};
 ghost use lib.ListN.{length};
-ghost use Rattle.definitions.specs.Answer.{finding};
 ghost use Rattle.answer.specs.Answer.{testAnswer};
 ghost use Rattle.checker.specs.Accepts.{Accepts};
 ghost use Rattle.agreement.specs.Compared.{listSame, imagesSame, comparison, Agreed, Images, Small};
@@ -59,13 +58,6 @@ fn compare_images(image: &[u16], encoded: &[u16], clauses: &[u16], list: &[u16])
     )
 }
 
-// The answer of a comparison.
-fn tested(same: bool) -> Tested
-    ensures { λ r. ⌜ testAnswer r ≡ finding same ⌝ }
-{
-    if same { Tested::Holds } else { Tested::Fails }
-}
-
 // The comparison for an accepted set: the re-encoding, then the list.
 fn compare_accepted(
     image: &[u16],
@@ -80,7 +72,12 @@ fn compare_accepted(
     let written = reencoding::reencode(image, clauses, marks, room);
     match written {
         Counted::Refused(f) => Tested::Fails,
-        Counted::Count(words) => tested(compare_images(image, &room[..words], clauses, list)),
+        Counted::Count(words) => answer::whether(compare_images(
+            image,
+            &room[..words],
+            clauses,
+            list,
+        )),
     }
 }
 

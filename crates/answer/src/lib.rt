@@ -1,7 +1,7 @@
 // The answers of the calls: a finding, or a refusal with its number and places.
 ghost use mathlib.Core.Path.{_≡_};
-ghost use Rattle.definitions.specs.Answer.{refused};
-ghost use Rattle.answer.specs.Answer.{refusalAt, verdictAnswer};
+ghost use Rattle.definitions.specs.Answer.{finding, refused};
+ghost use Rattle.answer.specs.Answer.{refusalAt, verdictAnswer, testAnswer};
 
 // A refusal: the number of the question that was answered no, and two places, zero unless named.
 pub struct Refusal {
@@ -94,4 +94,11 @@ pub fn refuse_at(number: u16, first: usize) -> Verdict
         first: first,
         second: 0,
     })
+}
+
+// The answer of a test that was not refused.
+pub fn whether(holds: bool) -> Tested
+    ensures { λ r. ⌜ testAnswer r ≡ finding holds ⌝ }
+{
+    if holds { Tested::Holds } else { Tested::Fails }
 }

@@ -154,14 +154,7 @@ pub fn goal_met(image: &[u16], state: &[u16]) -> answer::Tested
     let reading = read_state(image, state);
     match reading {
         answer::Verdict::Refused(f) => answer::Tested::Refused(f),
-        answer::Verdict::Fine => {
-            let met = truth::all_true(state, fdr_image::goal(image));
-            if met {
-                answer::Tested::Holds
-            } else {
-                answer::Tested::Fails
-            }
-        }
+        answer::Verdict::Fine => answer::whether(truth::all_true(state, fdr_image::goal(image))),
     }
 }
 

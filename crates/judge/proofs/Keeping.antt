@@ -96,17 +96,9 @@ module _ (w c f : List ℕ) (i marks : ℕ) where
           keeps-found j ej h = rw (ej, task .found, set′, row′, lt-ltb i (length (taskOf w .operators)) inside, le-leb (2 * taskOf w .atoms) marks (rw atoms at h), atoms)
 
 -- the answer of the test, by the clause's flag
-module _ (k b : Bool) (h : b ≡ not k) where
-  pub test-fails : b ≡ true → _≡_ {A = Answer Bool} (finding false) (finding k)
-  test-fails e = ap finding (go k (sym h ∙ e))
-    where
-      go : (k : Bool) → not k ≡ true → false ≡ k
-      go true e = e
-      go false e = refl
-
-  pub test-holds : b ≡ false → _≡_ {A = Answer Bool} (finding true) (finding k)
-  test-holds e = ap finding (go k (sym h ∙ e))
-    where
-      go : (k : Bool) → not k ≡ false → true ≡ k
-      go true e = refl
-      go false e = e
+pub test-told : (k b : Bool) → b ≡ not k → _≡_ {A = Answer Bool} (finding (not b)) (finding k)
+test-told k b h = ap finding (ap not h ∙ go k)
+  where
+    go : (k : Bool) → not (not k) ≡ k
+    go true = refl
+    go false = refl

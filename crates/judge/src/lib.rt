@@ -51,11 +51,7 @@ fn test(
     let block = task::operator_block(image, operator);
     let mut fails = one();
     bulk::judge(clauses, clause, block, marks, n, &mut fails[..1]);
-    if literal::flags::has(&fails[..1], 0) {
-        Tested::Fails
-    } else {
-        Tested::Holds
-    }
+    answer::whether(!literal::flags::has(&fails[..1], 0))
 }
 
 // Whether the clauses keep a clause under an operator: questions 1 to 9, then 8 and 9 for the clause alone, 19, 13.

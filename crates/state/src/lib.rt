@@ -134,14 +134,7 @@ pub fn goal_met(image: &[u16], state: &[u8]) -> answer::Tested
     let reading = read_state(image, state);
     match reading {
         answer::Verdict::Refused(f) => answer::Tested::Refused(f),
-        answer::Verdict::Fine => {
-            let met = literal::all_true(state, task::goal(image));
-            if met {
-                answer::Tested::Holds
-            } else {
-                answer::Tested::Fails
-            }
-        }
+        answer::Verdict::Fine => answer::whether(literal::all_true(state, task::goal(image))),
     }
 }
 

@@ -105,8 +105,8 @@ compare-images-requires c κs =
     let d = made-by w in
     record { task = ok d .reads; fdr = subst ReadsFdr (sym (is-image w)) (encoded-fdr (image d) (set d) (marks d) (ok d)) }
 
-tested-requires : tie.Need-tested-requires
-tested-requires c κs = search needs
+whether-requires : tie.Need-whether-requires
+whether-requires c κs = search needs
 
 same-length : tie.Need-same-length
 same-length c = search needs
@@ -134,7 +134,7 @@ returns-2 c =
     let w = i .before .before .before in
     let d = made-by w in
     let is = start d .args .list .now in
-    c .tested .ensures
+    c .whether .ensures
     ∙ ap finding (i .compare-images .ensures ∙ ap (λ (x : List ℕ). imagesSame (image d) x (set d) is) (is-image w))
     ∙ comparison-is (image d) (set d) (marks d) (ok d) is
 
@@ -148,7 +148,7 @@ compare-accepted-spec =
     slice-reshare-prefix-compare-images
     slice-aggregate-compare-images
     compare-images-requires
-    tested-requires
+    whether-requires
     same-length
     same-length-2
     returns

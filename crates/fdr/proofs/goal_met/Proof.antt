@@ -1,5 +1,4 @@
 use mathlib.Core.Path.{sym, ap, _∙_}
-use Rattle.definitions.specs.Answer.{finding}
 use Rattle.answer.specs.Answer.{placed, verdictAnswer}
 use Rattle.fdr.proofs.Calls.{standing, goal-rest, goal-refused}
 use borrow.Author.Needs.{needs}
@@ -21,14 +20,21 @@ goal-requires c κs = standing _ _ (ap verdictAnswer (sym (c .enum-told .given .
 all-true-requires : tie.Need-all-true-requires
 all-true-requires c κs = search needs
 
+whether-requires : tie.Need-whether-requires
+whether-requires c κs = search needs
+
 returns : tie.Need-returns
-returns c = goal-refused _ _ (placed (c .before .reading .given .0 .0)) (ap verdictAnswer (sym (c .before .reading .given .1)) ∙ c .before .before .before .read-state .ensures)
+returns c =
+    let f = c .before .reading .given in
+    goal-refused _ _ (placed (f .0 .0)) (ap verdictAnswer (sym (f .1)) ∙ c .before .before .before .read-state .ensures)
 
 returns-2 : tie.Need-returns-2
-returns-2 c = ap finding (sym (c .if1 .taken)) ∙ goal-rest _ _ (ap verdictAnswer (sym (c .before .before .before .enum-told .given .1)) ∙ c .before .before .before .before .before .read-state .ensures) _ _ (c .before .before .goal .ensures) (c .before .all-true .ensures)
-
-returns-3 : tie.Need-returns-3
-returns-3 c = ap finding (sym (c .if1 .left)) ∙ goal-rest _ _ (ap verdictAnswer (sym (c .before .before .before .enum-told .given .1)) ∙ c .before .before .before .before .before .read-state .ensures) _ _ (c .before .before .goal .ensures) (c .before .all-true .ensures)
+returns-2 c =
+    let t = c .before in
+    let g = t .before in
+    let m = g .before in
+    c .whether .ensures
+    ∙ goal-rest _ _ (ap verdictAnswer (sym (m .enum-told .given .1)) ∙ m .before .before .read-state .ensures) _ _ (g .goal .ensures) (t .all-true .ensures)
 
 pub goal-met-spec : {M : Type 1} → statement M
 goal-met-spec =
@@ -39,6 +45,6 @@ goal-met-spec =
     enum-told
     goal-requires
     all-true-requires
+    whether-requires
     returns
-    returns-2
-    returns-3)
+    returns-2)

@@ -7,8 +7,15 @@ use borrow.Author.Needs.{needs}
 use Rattle.state.proofs.goal_met.Statement.{statement}
 use Rattle.state.proofs.goal_met.Tie as tie
 
-fine : (c : tie.After-enum-told) → finding tt ≡ stateAnswer (c .before .before .before .before .before .args .image .now) (c .before .before .before .before .before .args .state .now)
-fine c = ap verdictAnswer (sym (c .enum-told .given .1)) ∙ c .before .before .read-state .ensures
+-- where the state is a state of the task: the call that read it, and the start
+abbrev read : tie.After-enum-told → tie.After-read-state
+read c = c .before .before
+
+abbrev start : tie.After-read-state → tie.Start
+start c = c .before .before .before
+
+fine : (c : tie.After-enum-told) → let s = start (read c) .args in finding tt ≡ stateAnswer (s .image .now) (s .state .now)
+fine c = ap verdictAnswer (sym (c .enum-told .given .1)) ∙ read c .read-state .ensures
 
 read-state-requires : tie.Need-read-state-requires
 read-state-requires c κs = search needs
@@ -25,16 +32,19 @@ goal-requires c κs = standing _ _ (fine c) .reads
 all-true-requires : tie.Need-all-true-requires
 all-true-requires c κs = search needs
 
+whether-requires : tie.Need-whether-requires
+whether-requires c κs = search needs
+
 returns : tie.Need-returns
 returns c =
     let f = c .before .reading .given in
     goal-refused _ _ (placed (f .0 .0)) (ap verdictAnswer (sym (f .1)) ∙ c .before .before .before .read-state .ensures)
 
 returns-2 : tie.Need-returns-2
-returns-2 c = ap finding (sym (c .if1 .taken)) ∙ goal-rest _ _ (fine (c .before .before .before)) _ _ (c .before .before .goal .ensures) (c .before .all-true .ensures)
-
-returns-3 : tie.Need-returns-3
-returns-3 c = ap finding (sym (c .if1 .left)) ∙ goal-rest _ _ (fine (c .before .before .before)) _ _ (c .before .before .goal .ensures) (c .before .all-true .ensures)
+returns-2 c =
+    let t = c .before in
+    let g = t .before in
+    c .whether .ensures ∙ goal-rest _ _ (fine (g .before)) _ _ (g .goal .ensures) (t .all-true .ensures)
 
 pub goal-met-spec : {M : Type 1} → statement M
 goal-met-spec =
@@ -45,6 +55,6 @@ goal-met-spec =
     enum-told
     goal-requires
     all-true-requires
+    whether-requires
     returns
-    returns-2
-    returns-3)
+    returns-2)
