@@ -15,6 +15,7 @@ use Rattle.definitions.specs.Lists.{all, firstFail}
 use Rattle.definitions.proofs.CheckSound.{not-finding, firstFail-none}
 use Rattle.definitions.proofs.Accepts.{none-false}
 use Rattle.checker.specs.Search.{falseAnswer}
+use Rattle.answer.proofs.Laws.{answer-of, lent-of, answered, left}
 use Rattle.agreement.specs.Same.{sameRefusal, sameAnswer, bothFound, sameUnit, sameBool, sameList, isFound, Both}
 
 -- ---- what a tested call says
@@ -132,35 +133,25 @@ module _ (a b : List ℕ) (i : ℕ) (far : SoFar a b i) where
       let k : length b ≤ i = omega (arith, far .lengths) in
       rw (far .rest, drop-of-length-le a {i = i} h, drop-of-length-le b {i = i} k)
 
--- ---- what a call answered, and what it left
-module _ {A : Type 0} (a : Answer A) (s : List ℕ) (x : Outcome A) (e : outcome a s ≡ x) where
-  pub answered : a ≡ x .answer
-  unfolding outcome
-  answered = ap (λ (x : Outcome A). x .answer) e
-
-  pub left : s ≡ x .lent
-  unfolding outcome
-  left = ap (λ (x : Outcome A). x .lent) e
-
--- two calls whose answers are compared
+-- ---- two calls whose answers are compared
 module _ {A : Type 0} (same : Answer A → Answer A → Bool) (a b : Answer A) (s v : List ℕ) (x y : Outcome A) (r : Bool) where
   pub both-made : outcome a s ≡ x → outcome b v ≡ y → r ≡ same a b → Both same x y s v r
-  both-made p q h = record { answers = h ∙ ap₂ same (answered a s x p) (answered b v y q); state = left a s x p; values = left b v y q }
+  both-made p q h = record { answers = h ∙ ap₂ same (answer-of a s x p) (answer-of b v y q); state = lent-of a s x p; values = lent-of b v y q }
 
 -- a coding that was refused, or found what it left in its target
 module _ (m n : Answer (List ℕ)) (x s s′ : List ℕ) (same : m ≡ n) where
   pub coding-refused : (r : Refusal) → outcome (refused r) s′ ≡ becomes s m → false ≡ isFound n x
-  unfolding isFound becomes outcome verdict
-  coding-refused r h = go m (answered (refused r) s′ (becomes s m) h) ∙ ap (λ (z : Answer (List ℕ)). isFound z x) same
+  unfolding isFound verdict
+  coding-refused r h = go m (answered (refused r) s s′ m h) ∙ ap (λ (z : Answer (List ℕ)). isFound z x) same
     where
       go : (m : Answer (List ℕ)) → refused r ≡ verdict m → false ≡ isFound m x
       go (finding y) e = absurd (not-finding e)
       go (refused q) e = refl
 
   pub coding-found : outcome (finding tt) s′ ≡ becomes s m → sameList s′ x ≡ isFound n x
-  unfolding isFound becomes outcome verdict stateAfter
+  unfolding isFound verdict stateAfter
   coding-found h =
-      go m (answered (finding tt) s′ (becomes s m) h) (left (finding tt) s′ (becomes s m) h)
+      go m (answered (finding tt) s s′ m h) (left (finding tt) s s′ m h)
       ∙ ap (λ (z : Answer (List ℕ)). isFound z x) same
     where
       go : (m : Answer (List ℕ)) → finding tt ≡ verdict m → s′ ≡ stateAfter s m → sameList s′ x ≡ isFound m x

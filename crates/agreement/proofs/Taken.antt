@@ -11,9 +11,10 @@ use Rattle.definitions.specs.Step.{stepTask, startTask}
 use Rattle.definitions.specs.FdrStep.{stepFdr, startFdr}
 use Rattle.definitions.proofs.Walks.{left-here}
 use Rattle.definitions.proofs.CheckSound.{not-finding}
+use Rattle.answer.proofs.Laws.{answered, left}
 use Rattle.agreement.specs.Same.{bothFound, sameUnit, sameList, Both}
 use Rattle.agreement.specs.Compared.{stepsTaken, leftBySteps, Walked, SameLengths}
-use Rattle.agreement.proofs.SameLaws.{answered, left, not-found, are-found}
+use Rattle.agreement.proofs.SameLaws.{not-found, are-found}
 use Rattle.agreement.proofs.Comparing.{start-task, start-fdr}
 
 module _ (w s : List ℕ) (i : ℕ) (list : List ℕ) where
@@ -35,17 +36,17 @@ module _ (w s : List ℕ) (i : ℕ) (list : List ℕ) where
 
 -- what a step did, by its outcome
 pub step-found : (a : Answer (List ℕ)) (s s′ : List ℕ) → outcome (finding tt) s′ ≡ becomes s a → a ≡ finding s′
-unfolding becomes outcome verdict stateAfter
-step-found (finding x) s s′ e = ap finding (sym (left (finding tt) s′ (becomes s (finding x)) e))
-step-found (refused q) s s′ e = absurd (not-finding (sym (answered (finding tt) s′ (becomes s (refused q)) e)))
+unfolding verdict stateAfter
+step-found (finding x) s s′ e = ap finding (sym (left (finding tt) s s′ (finding x) e))
+step-found (refused q) s s′ e = absurd (not-finding (sym (answered (finding tt) s s′ (refused q) e)))
 
 pub step-refused : (a : Answer (List ℕ)) (s s′ : List ℕ) (r : Refusal) → outcome (refused r) s′ ≡ becomes s a → (a ≡ refused r) × (s′ ≡ s)
-unfolding becomes outcome verdict stateAfter
-step-refused (finding x) s s′ r e = absurd (not-finding (answered (refused r) s′ (becomes s (finding x)) e))
+unfolding verdict stateAfter
+step-refused (finding x) s s′ r e = absurd (not-finding (answered (refused r) s s′ (finding x) e))
 step-refused (refused q) s s′ r e =
-    let told : _≡_ {A = Answer (Unit {0})} (refused r) (refused q) = answered (refused r) s′ (becomes s (refused q)) e in
+    let told : _≡_ {A = Answer (Unit {0})} (refused r) (refused q) = answered (refused r) s s′ (refused q) e in
     let same : r ≡ q = cc in
-    (ap refused (sym same), left (refused r) s′ (becomes s (refused q)) e)
+    (ap refused (sym same), left (refused r) s s′ (refused q) e)
 
 -- ---- both walks: of a list the numbers below i are done, from s₀ and v₀ to s and v; what the others lead to is what the list leads to
 pub record Walking (w e list s₀ v₀ s v : List ℕ) (i : ℕ) : Type 0 where
@@ -73,9 +74,9 @@ module _ (w e list s₀ v₀ : List ℕ) where
 
       -- it is found, and v becomes v′
       module _ (v′ : List ℕ) (h : outcome (finding tt) s′ ≡ becomes s (stepTask w s (getD list i 0)))
-          (ev : v′ ≡ becomes v (stepFdr e v (getD list i 0)) .lent) where
+          (ev : v′ ≡ stateAfter v (stepFdr e v (getD list i 0))) where
         walked-on : (s″ v″ : List ℕ) → Walked w e (drop (i + 1) list) s′ v′ s″ v″ → Walked w e (drop i list) s v s″ v″
-        unfolding walk becomes outcome stateAfter
+        unfolding walk stateAfter
         walked-on s″ v″ k =
             let f = step-found (stepTask w s (getD list i 0)) s s′ h in
             let m = taken-more w s i list s′ (getD list i 0) inside refl f in

@@ -15,7 +15,8 @@ use Rattle.definitions.specs.Image.{Row, Operator, Task, initialState, rowRight
 use Rattle.definitions.specs.Step.{noOperator, operatorAt}
 use Rattle.definitions.specs.Checker.{Accepted, check}
 use Rattle.definitions.specs.Groups.{groups, groupsBelow, Domain, domainOf, domainWords, Place, placeOf, placeWords, Written, written}
-use Rattle.definitions.specs.Fdr.{FdrLiteral, FdrRow, FdrOperator, FdrTask, fdrLiteralWords, countedWords, fdrRowWords, fdrOperatorWords, fdrParts, pairWords, fdrWords}
+use Rattle.definitions.specs.Fdr.{FdrLiteral, FdrRow, FdrOperator, FdrTask, fdrLiteralWords, countedWords, fdrRowWords, fdrOperatorWords, fdrParts}
+use Rattle.definitions.specs.Fdr.{pairWords, fdrWords}
 use Rattle.definitions.specs.Encoding.{valueIn, encodeLiteral, encodeRow, encodeOperator, encode, encodedImage, encodeCall}
 use Rattle.definitions.proofs.ListLaws.{and-left, and-right}
 use Rattle.definitions.proofs.ImageSize.{operatorSize}
@@ -88,7 +89,8 @@ module _ (N : ℕ) (C : List (List ℕ)) (ps : List ℕ) (placed : Placed C N ps
   unfolding fdrOperatorWords encodeOperator operatorBy operatorRight
   operator-is o h =
       ap₂ _++_ (counted-are (o .precondition) (list-below N (o .precondition) (and-left (literalList N (o .precondition)) (all (rowRight N) (o .rows)) h)))
-      (ap₂ (λ (n : ℕ) (l : List ℕ). n ∷ l) (length-map (o .rows) (encodeRow G)) (rows-are (o .rows) (and-right (literalList N (o .precondition)) (all (rowRight N) (o .rows)) h)))
+      (ap₂ (λ (n : ℕ) (l : List ℕ). n ∷ l) (length-map (o .rows) (encodeRow G))
+      (rows-are (o .rows) (and-right (literalList N (o .precondition)) (all (rowRight N) (o .rows)) h)))
 
   -- all operators
   module _ where
@@ -126,7 +128,9 @@ operators-length ps (o ∷ os) =
 cons-five : (a b c d a′ b′ c′ d′ : ℕ) (l l′ : List ℕ) → a ≡ a′ → b ≡ b′ → c ≡ c′ → d ≡ d′ → l ≡ l′ → (a ∷ b ∷ c ∷ d ∷ l) ≡ (a′ ∷ b′ ∷ c′ ∷ d′ ∷ l′)
 cons-five a b c d a′ b′ c′ d′ l l′ p q r s t = cc
 
-append-five : (a b c d e a′ b′ c′ d′ e′ : List ℕ) → a ≡ a′ → b ≡ b′ → c ≡ c′ → d ≡ d′ → e ≡ e′ → (a ++ (b ++ (c ++ (d ++ e)))) ≡ (a′ ++ (b′ ++ (c′ ++ (d′ ++ e′))))
+append-five :
+    (a b c d e a′ b′ c′ d′ e′ : List ℕ) → a ≡ a′ → b ≡ b′ → c ≡ c′ → d ≡ d′ → e ≡ e′
+    → (a ++ (b ++ (c ++ (d ++ e)))) ≡ (a′ ++ (b′ ++ (c′ ++ (d′ ++ e′))))
 append-five a b c d e a′ b′ c′ d′ e′ p q r s t = cc
 
 -- ---- the task's lists are below its number of atoms
@@ -185,15 +189,20 @@ module _ (w : List ℕ) (rd : Reads w) (C : List (List ℕ)) (ps ss ns : List �
       let b = length-map (taskOf w .operators) (encodeOperator groups-of) in
       omega arith
 
-  parts-words : each (λ p. p) (fdrParts (encode t C)) ≡ each (domainBy ss ns) (below n) ++ (ps ++ (lowered ps (taskOf w .initial) (take n ss) ++ (literalsBy ps (taskOf w .goal) ++ operatorsBy ps (taskOf w .operators))))
+  parts-words :
+      each (λ p. p) (fdrParts (encode t C))
+      ≡ each (domainBy ss ns) (below n) ++ (ps ++ (lowered ps (taskOf w .initial) (take n ss) ++ (literalsBy ps (taskOf w .goal) ++ operatorsBy ps (taskOf w .operators))))
   unfolding fdrParts encode each
   parts-words = append-five _ _ _ _ _ _ _ _ _ _ domains-part atoms-part initial-part goal-part operators-part
 
-  header-is : length (encode t C .domains) ∷ length (encode t C .operators) ∷ pairWords (2 + 2 * length (fdrParts (encode t C))) (fdrParts (encode t C)) ≡ headerBy n t
+  header-is :
+      length (encode t C .domains) ∷ length (encode t C .operators)
+      ∷ pairWords (2 + 2 * length (fdrParts (encode t C))) (fdrParts (encode t C)) ≡ headerBy n t
   unfolding encode headerBy
   header-is =
       let a : length (map (domainOf C) groups-of) ≡ n = length-map groups-of (domainOf C) ∙ variables in
-      let b : length (map (encodeOperator groups-of) (taskOf w .operators)) ≡ length (taskOf w .operators) = length-map (taskOf w .operators) (encodeOperator groups-of) in
+      let b : length (map (encodeOperator groups-of) (taskOf w .operators)) ≡ length (taskOf w .operators) =
+      length-map (taskOf w .operators) (encodeOperator groups-of) in
       let c : pairWords (2 + 2 * length (fdrParts (encode t C))) (fdrParts (encode t C)) ≡ pairsOf (partsStart t) (lengthsOf n t)
       = pairs-are (2 + 2 * length (fdrParts (encode t C))) (fdrParts (encode t C)) ∙ ap₂ pairsOf parts-start parts-lengths in
       cc
@@ -242,7 +251,9 @@ module _ (w : List ℕ) (rd : Reads w) (C : List (List ℕ)) (ps ss ns : List �
     unfolding encodeAnswer
     encode-not h = fits-not (length (encodedImage t C)) (encodedImage t C) old (let a = ap length image-is in let b = image-length in omega arith)
 
-    pub encode-done : size ≤ length old → (new : List ℕ) (end : ℕ) → Wrote old 0 (imageBy t ps ss ns n) new end → outcome (finding size) new ≡ written old (encodeAnswer t C (length old))
+    pub encode-done :
+        size ≤ length old → (new : List ℕ) (end : ℕ) → Wrote old 0 (imageBy t ps ss ns n) new end
+        → outcome (finding size) new ≡ written old (encodeAnswer t C (length old))
     unfolding encodeAnswer
     encode-done h new end wrote =
         let a = ap length image-is in
@@ -272,7 +283,9 @@ module _ (w : List ℕ) (rd : Reads w) (ps ss ns : List ℕ) (n : ℕ) (lay : La
     pub header : length (headerBy n (taskOf w)) ≡ 10 + 2 * length (taskOf w .operators)
     pub domains : length (each (domainBy ss ns) (below n)) ≡ 2 * n
     pub values : length (lowered ps (taskOf w .initial) (take n ss)) ≡ n
-    pub all : total ≡ length (headerBy n (taskOf w)) + length (each (domainBy ss ns) (below n)) + length ps + length (lowered ps (taskOf w .initial) (take n ss)) + length (literalsBy ps (taskOf w .goal)) + length (operatorsBy ps (taskOf w .operators))
+    pub all :
+        total
+        ≡ length (headerBy n (taskOf w)) + length (each (domainBy ss ns) (below n)) + length ps + length (lowered ps (taskOf w .initial) (take n ss)) + length (literalsBy ps (taskOf w .goal)) + length (operatorsBy ps (taskOf w .operators))
 
   pub ends : Ends (length (imageBy (taskOf w) ps ss ns n))
   unfolding imageBy partsStart below

@@ -8,8 +8,21 @@ use borrow.Author.Needs.{needs}
 use Rattle.groups.proofs.groups.Statement.{statement}
 use Rattle.groups.proofs.groups.Tie as tie
 
-accepts : (c : tie.After-enum-told) → Accepts (c .before .before .before .before .before .before .before .before .before .before .args .image .now) (c .before .before .before .before .before .before .before .before .before .before .args .clauses .now) (length (c .before .before .before .before .before .before .before .before .before .before .args .marks .now))
-accepts c = accepted _ _ _ (ap verdictAnswer (sym (c .enum-told .given .1)) ∙ c .before .before .before .before .accept .ensures)
+-- behind the checker: the start, with the task image, the clause words and the bytes of marks
+abbrev lent : tie.After-accept → tie.After-slice-known
+lent d = d .before .before .before
+
+abbrev start : tie.After-accept → tie.Start
+start d = lent d .before .before .before
+
+-- where its verdict is looked at
+abbrev answered : tie.After-slice-known3 → tie.After-accept
+answered c = c .before .before
+
+accepts :
+    (c : tie.After-enum-told) → let s = start (answered (c .before .before)) .args in
+    Accepts (s .image .now) (s .clauses .now) (length (s .marks .now))
+accepts c = accepted _ _ _ (ap verdictAnswer (sym (c .enum-told .given .1)) ∙ answered (c .before .before) .accept .ensures)
 
 accept-requires : tie.Need-accept-requires
 accept-requires c κs = search needs
@@ -31,7 +44,7 @@ same-length c = search needs
 returns : tie.Need-returns
 returns c =
     let f = c .before .checked .given in
-    groups-refused _ _ _ _ (placed (f .0 .0)) (ap verdictAnswer (sym (f .1)) ∙ c .before .before .before .before .before .accept .ensures)
+    groups-refused _ _ _ _ (placed (f .0 .0)) (ap verdictAnswer (sym (f .1)) ∙ answered (c .before .before .before) .accept .ensures)
 
 same-length-2 : tie.Need-same-length-2
 same-length-2 c = search needs
@@ -40,7 +53,9 @@ same-length-3 : tie.Need-same-length-3
 same-length-3 c = search needs
 
 returns-2 : tie.Need-returns-2
-returns-2 c = c .before .before .groups-read .ensures ∙ groups-accepted _ _ _ _ (accepts (c .before .before .before .before))
+returns-2 c =
+    let r = c .before .before in
+    r .groups-read .ensures ∙ groups-accepted _ _ _ _ (accepts (r .before .before))
 
 pub groups-spec : {M : Type 1} → statement M
 groups-spec =

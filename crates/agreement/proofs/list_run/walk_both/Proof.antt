@@ -3,8 +3,7 @@ use Prim.Native.Nat.{_-_}
 use mathlib.Core.Path.{sym, ap}
 use lib.ListN.{length}
 use Rattle.answer.specs.Answer.{placed, verdictAnswer}
-use Rattle.answer.proofs.Laws.{outcome-of}
-use Rattle.agreement.proofs.SameLaws.{left}
+use Rattle.answer.proofs.Laws.{outcome-of, left}
 use Rattle.agreement.proofs.Taken.{Walking, walking-start, walking-end, walking-stop, walking-on}
 use borrow.Author.Needs.{needs}
 use Rattle.agreement.proofs.list_run.walk_both.Statement.{statement}
@@ -85,7 +84,7 @@ loop-again c =
     let t = turn d in
     walking-on _ _ _ _ _ _ _ _ (t .before .loop .inv) _ (t .loop-test .taken) _
     (outcome-of _ _ _ _ (ap verdictAnswer (sym (m .enum-told .given .1))) (d .step .ensures))
-    (left _ _ _ (q .step2 .ensures))
+    (left _ _ _ _ (q .step2 .ensures))
     (record { atoms = d .step .kept .1 .0; values = q .step2 .kept .1 .0 })
 
 same-length-3 : tie.Need-same-length-3 Inv-loop μ-loop
