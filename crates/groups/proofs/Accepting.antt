@@ -24,10 +24,13 @@ module _ (w c : List ℕ) (marks : ℕ) where
     call-accepted a = rw (a .found)
 
   -- groups
-  pub groups-refused : (old : List ℕ) (r : Refusal) → refused r ≡ verdict (check w c marks) → outcome (refused r) old ≡ written old (groupsCall w c marks (length old))
+  pub groups-refused :
+      (old : List ℕ) (r : Refusal) → refused r ≡ verdict (check w c marks) → outcome (refused r) old ≡ written old (groupsCall w c marks (length old))
   unfolding groupsCall
   groups-refused old r e = call-refused _ old r e
 
-  pub groups-accepted : (old : List ℕ) → Accepts w c marks → written old (groupsAnswer (taskOf w .atoms) (clausesOf c) (length old)) ≡ written old (groupsCall w c marks (length old))
+  pub groups-accepted :
+      (old : List ℕ) → Accepts w c marks
+      → written old (groupsAnswer (taskOf w .atoms) (clausesOf c) (length old)) ≡ written old (groupsCall w c marks (length old))
   unfolding groupsCall groupsAnswer
   groups-accepted old a = call-accepted (λ x. groupsAnswer (x .task .atoms) (x .clauses) (length old)) old a

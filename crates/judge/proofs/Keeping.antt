@@ -28,9 +28,19 @@ use Rattle.answer.proofs.Laws.{verdict-refused}
 use Rattle.clause.specs.Rows.{ClauseRead}
 
 -- what judging asks, of an operator of a task
-pub given-operator : (w c b : List ℕ) (n i : ℕ) → Reads w → n ≡ taskOf w .atoms → n ≤ 1024 → i < length (taskOf w .operators) → ClausesRead n c → BlockGiven b (taskOf w) i → Given n c b
+pub given-operator :
+    (w c b : List ℕ) (n i : ℕ) → Reads w → n ≡ taskOf w .atoms → n ≤ 1024 → i < length (taskOf w .operators) → ClausesRead n c
+    → BlockGiven b (taskOf w) i → Given n c b
 given-operator w c b n i task atoms few inside rows block =
-    record { few = few; rows = rows; parses = block .parses; right = ap (operatorRight n) (block .operator) ∙ ap (λ N. operatorRight N (operatorAt (taskOf w) i)) atoms ∙ operator-right w task i inside }
+    record {
+      few = few;
+      rows = rows;
+      parses = block .parses;
+      right =
+          ap (operatorRight n) (block .operator)
+          ∙ ap (λ N. operatorRight N (operatorAt (taskOf w) i)) atoms
+          ∙ operator-right w task i inside;
+    }
 
 -- ---- one row
 module _ (n : ℕ) (f : List ℕ) (row : ClauseRead n f) where

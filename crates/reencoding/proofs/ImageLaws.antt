@@ -191,7 +191,8 @@ module _ (w : List ℕ) (rd : Reads w) (C : List (List ℕ)) (ps ss ns : List �
 
   parts-words :
       each (λ p. p) (fdrParts (encode t C))
-      ≡ each (domainBy ss ns) (below n) ++ (ps ++ (lowered ps (taskOf w .initial) (take n ss) ++ (literalsBy ps (taskOf w .goal) ++ operatorsBy ps (taskOf w .operators))))
+      ≡ each (domainBy ss ns) (below n)
+      ++ (ps ++ (lowered ps (taskOf w .initial) (take n ss) ++ (literalsBy ps (taskOf w .goal) ++ operatorsBy ps (taskOf w .operators))))
   unfolding fdrParts encode each
   parts-words = append-five _ _ _ _ _ _ _ _ _ _ domains-part atoms-part initial-part goal-part operators-part
 
@@ -285,7 +286,8 @@ module _ (w : List ℕ) (rd : Reads w) (ps ss ns : List ℕ) (n : ℕ) (lay : La
     pub values : length (lowered ps (taskOf w .initial) (take n ss)) ≡ n
     pub all :
         total
-        ≡ length (headerBy n (taskOf w)) + length (each (domainBy ss ns) (below n)) + length ps + length (lowered ps (taskOf w .initial) (take n ss)) + length (literalsBy ps (taskOf w .goal)) + length (operatorsBy ps (taskOf w .operators))
+        ≡ length (headerBy n (taskOf w)) + length (each (domainBy ss ns) (below n)) + length ps
+        + length (lowered ps (taskOf w .initial) (take n ss)) + length (literalsBy ps (taskOf w .goal)) + length (operatorsBy ps (taskOf w .operators))
 
   pub ends : Ends (length (imageBy (taskOf w) ps ss ns n))
   unfolding imageBy partsStart below

@@ -5,6 +5,13 @@ use borrow.Author.Needs.{needs}
 use Rattle.exports.proofs.kb_decode.Statement.{statement}
 use Rattle.exports.proofs.kb_decode.Tie as tie
 
+-- where the call is made
+abbrev back : tie.After-verdict → tie.After-slice-known2
+back c = c .before .before .before
+
+abbrev made : tie.After-verdict → tie.After-decode
+made c = back c .before .before
+
 decode-requires : tie.Need-decode-requires
 decode-requires c κs = search needs
 
@@ -15,7 +22,9 @@ same-length : tie.Need-same-length
 same-length c = search needs
 
 returns : tie.Need-returns
-returns c = (c .verdict .ensures ∙ ap toldVerdict (answered _ _ _ _ (c .before .before .before .before .before .decode .ensures)), left _ _ _ _ (c .before .before .before .before .before .decode .ensures))
+returns c =
+    let e = made c .decode .ensures in
+    (c .verdict .ensures ∙ ap toldVerdict (answered _ _ _ _ e), left _ _ _ _ e)
 
 pub kb-decode-spec : {M : Type 1} → statement M
 kb-decode-spec = tie.close (tie.spec decode-requires verdict-requires same-length returns)

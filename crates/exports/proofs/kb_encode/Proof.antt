@@ -5,6 +5,13 @@ use borrow.Author.Needs.{needs}
 use Rattle.exports.proofs.kb_encode.Statement.{statement}
 use Rattle.exports.proofs.kb_encode.Tie as tie
 
+-- where the call is made
+abbrev back : tie.After-verdict → tie.After-slice-known2
+back c = c .before .before .before
+
+abbrev made : tie.After-verdict → tie.After-encode
+made c = back c .before .before
+
 encode-requires : tie.Need-encode-requires
 encode-requires c κs = search needs
 
@@ -15,7 +22,9 @@ same-length : tie.Need-same-length
 same-length c = search needs
 
 returns : tie.Need-returns
-returns c = (c .verdict .ensures ∙ ap toldVerdict (answered _ _ _ _ (c .before .before .before .before .before .encode .ensures)), left _ _ _ _ (c .before .before .before .before .before .encode .ensures))
+returns c =
+    let e = made c .encode .ensures in
+    (c .verdict .ensures ∙ ap toldVerdict (answered _ _ _ _ e), left _ _ _ _ e)
 
 pub kb-encode-spec : {M : Type 1} → statement M
 kb-encode-spec = tie.close (tie.spec encode-requires verdict-requires same-length returns)

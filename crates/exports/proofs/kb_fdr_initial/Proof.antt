@@ -5,6 +5,13 @@ use borrow.Author.Needs.{needs}
 use Rattle.exports.proofs.kb_fdr_initial.Statement.{statement}
 use Rattle.exports.proofs.kb_fdr_initial.Tie as tie
 
+-- where the call is made
+abbrev back : tie.After-verdict → tie.After-slice-known2
+back c = c .before .before .before
+
+abbrev made : tie.After-verdict → tie.After-set-initial
+made c = back c .before .before
+
 set-initial-requires : tie.Need-set-initial-requires
 set-initial-requires c κs = search needs
 
@@ -15,7 +22,9 @@ same-length : tie.Need-same-length
 same-length c = search needs
 
 returns : tie.Need-returns
-returns c = (c .verdict .ensures ∙ ap toldVerdict (answered _ _ _ _ (c .before .before .before .before .before .set-initial .ensures)), left _ _ _ _ (c .before .before .before .before .before .set-initial .ensures))
+returns c =
+    let e = made c .set-initial .ensures in
+    (c .verdict .ensures ∙ ap toldVerdict (answered _ _ _ _ e), left _ _ _ _ e)
 
 pub kb-fdr-initial-spec : {M : Type 1} → statement M
 kb-fdr-initial-spec =
