@@ -98,9 +98,12 @@ literals-above n x (y ∷ ys) =
 pub literals-ascend : (n : ℕ) (xs : List ℕ) → literalList n xs ≡ ascends nextLiteral (2 * n) 0 xs
 unfolding literalList ascending allBelow all
 literals-ascend n [] = refl
-literals-ascend n (x ∷ xs) = rw (le-leb 0 x zero-le) (go (ltb x (2 * n)) (above x xs) (allBelow (2 * n) xs) (above (atom x) (map atom xs)) (literals-above (2 * n) x xs))
+literals-ascend n (x ∷ xs) =
+    rw (le-leb 0 x zero-le) (go (ltb x (2 * n)) (above x xs) (allBelow (2 * n) xs) (above (atom x) (map atom xs)) (literals-above (2 * n) x xs))
   where
-    go : (a b c d : Bool) → (b && c && d) ≡ ascends nextLiteral (2 * n) (nextLiteral x) xs → (b && (a && c) && d) ≡ (a && ascends nextLiteral (2 * n) (nextLiteral x) xs)
+    go :
+        (a b c d : Bool) → (b && c && d) ≡ ascends nextLiteral (2 * n) (nextLiteral x) xs
+        → (b && (a && c) && d) ≡ (a && ascends nextLiteral (2 * n) (nextLiteral x) xs)
     go true b c d h = h
     go false true c d h = refl
     go false false c d h = refl

@@ -18,11 +18,24 @@ enum-known-s-2 c = search needs
 refusal-requires : tie.Need-refusal-requires
 refusal-requires c κs = search needs
 
+-- the places of the function
+abbrev after-s : tie.After-findings-arg → tie.After-s
+after-s c = c .before .before
+
+abbrev after-s2 : tie.After-refusal-arg → tie.After-s2
+after-s2 c = c .before .before
+
+abbrev after-findings-arg : tie.After-findings → tie.After-findings-arg
+after-findings-arg c = c .before .before
+
+abbrev after-refusal-arg : tie.After-refusal → tie.After-refusal-arg
+after-refusal-arg c = c .before .before
+
 returns : tie.Need-returns
-returns c = c .findings .ensures ∙ ap (λ (x : Synthesis). toldMade (synthesisAnswer x)) (sym (c .before .before .before .before .s .given .1))
+returns c = c .findings .ensures ∙ ap (λ (x : Synthesis). toldMade (synthesisAnswer x)) (sym (after-s (after-findings-arg c) .s .given .1))
 
 returns-2 : tie.Need-returns-2
-returns-2 c = c .refusal .ensures ∙ ap (λ (x : Synthesis). toldMade (synthesisAnswer x)) (sym (c .before .before .before .before .s2 .given .1))
+returns-2 c = c .refusal .ensures ∙ ap (λ (x : Synthesis). toldMade (synthesisAnswer x)) (sym (after-s2 (after-refusal-arg c) .s2 .given .1))
 
 pub made-spec : {M : Type 1} → statement M
 made-spec =

@@ -30,8 +30,15 @@ returns c = c .finding .ensures ∙ ap (λ (t : Tested). toldTest (testAnswer t)
 returns-2 : tie.Need-returns-2
 returns-2 c = c .finding2 .ensures ∙ ap (λ (t : Tested). toldTest (testAnswer t)) (sym (c .before .before .before .enum-told2 .given .1))
 
+-- the places of the function
+abbrev after-t : tie.After-refusal-arg → tie.After-t
+after-t c = c .before .before
+
+abbrev after-refusal-arg : tie.After-refusal → tie.After-refusal-arg
+after-refusal-arg c = c .before .before
+
 returns-3 : tie.Need-returns-3
-returns-3 c = c .refusal .ensures ∙ ap (λ (t : Tested). toldTest (testAnswer t)) (sym (c .before .before .before .before .t .given .1))
+returns-3 c = c .refusal .ensures ∙ ap (λ (t : Tested). toldTest (testAnswer t)) (sym (after-t (after-refusal-arg c) .t .given .1))
 
 pub test-spec : {M : Type 1} → statement M
 test-spec =

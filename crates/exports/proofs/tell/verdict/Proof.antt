@@ -21,8 +21,15 @@ refusal-requires c κs = search needs
 returns : tie.Need-returns
 returns c = c .finding .ensures ∙ ap (λ (v : Verdict). toldVerdict (verdictAnswer v)) (sym (c .before .before .before .enum-told .given .1))
 
+-- the places of the function
+abbrev after-v : tie.After-refusal-arg → tie.After-v
+after-v c = c .before .before
+
+abbrev after-refusal-arg : tie.After-refusal → tie.After-refusal-arg
+after-refusal-arg c = c .before .before
+
 returns-2 : tie.Need-returns-2
-returns-2 c = c .refusal .ensures ∙ ap (λ (v : Verdict). toldVerdict (verdictAnswer v)) (sym (c .before .before .before .before .v .given .1))
+returns-2 c = c .refusal .ensures ∙ ap (λ (v : Verdict). toldVerdict (verdictAnswer v)) (sym (after-v (after-refusal-arg c) .v .given .1))
 
 pub verdict-spec : {M : Type 1} → statement M
 verdict-spec =
