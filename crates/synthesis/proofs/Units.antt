@@ -81,8 +81,8 @@ module _ (s : List ℕ) where
         let p = some-width in
         rw (inv, length-append, length-replicate, k) (omega arith)
 
-    pub units-turn : (l : ℕ) → a < n → l ≡ 2 * a + (1 - getD s a 0) → set w (width * a) l ≡ clauseWords (unitsFrom s 0 (a + 1)) ++ replicate (width * (n - (a + 1))) fill
-    units-turn l h e =
+    pub units-row : (l : ℕ) → a < n → l ≡ 2 * a + (1 - getD s a 0) → set w (width * a) l ≡ clauseWords (unitsFrom s 0 (a + 1)) ++ replicate (width * (n - (a + 1))) fill
+    units-row l h e =
         let k : width * (n - a) ≡ suc (width - 1 + width * (n - suc a)) = (let q : n - a ≡ suc (n - suc a) = omega arith in let p = some-width in rw q (omega (arith, mul-suc width (n - suc a)))) in
         let z : 0 + a ≡ a = omega arith in
         let rest : List ℕ = replicate (width - 1 + width * (n - suc a)) fill in
