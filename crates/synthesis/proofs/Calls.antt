@@ -1,4 +1,4 @@
--- The questions of a synthesis in turn. Assumes nothing.
+-- The questions of a synthesis one after the other. Assumes nothing.
 use mathlib.Core.Bool.{Bool, true, false, _&&_, cond}
 use mathlib.Core.Option.{Option, none, some}
 use mathlib.Core.Path.{_≡_, refl, sym, _∙_, ap, subst}
@@ -60,7 +60,9 @@ operator-low N i b = go (operatorOf b) refl
   where
     go : (x : Option Operator) → operatorOf b ≡ x → Low (readOperator N i b)
     go none e = rw (e, readOperator) (refused-low 6 i 0 (omega arith))
-    go (some o) e = rw (e, readOperator) (bind-low (askAt 7 i (operatorRight N o)) (λ _. finding o) (ask-low 7 i (operatorRight N o) (omega arith)) (λ _. finding-low o))
+    go (some o) e =
+        rw (e, readOperator)
+        (bind-low (askAt 7 i (operatorRight N o)) (λ _. finding o) (ask-low 7 i (operatorRight N o) (omega arith)) (λ _. finding-low o))
 
 operators-low : (N : ℕ) (w : List ℕ) (i k : ℕ) → Low (readOperators N w i k)
 unfolding readOperators
@@ -81,17 +83,24 @@ read-low w =
     (λ _. bind-low (askAt 5 0 (literalList N (part w 1))) _ (ask-low 5 0 _ (omega arith))
     (λ _. bind-low (readOperators N w 0 M) _ (operators-low N w 0 M) (λ os. finding-low _))))))
 
--- ---- the clause buffer behind the rounds is the same for buffers of one length
-rounds-buffer : (t : Task) (n rows : ℕ) (c c′ : List ℕ) → length c ≡ length c′ → (k r : ℕ) (C : List (List ℕ)) → bufferAfter c (rounds t n rows r k C) ≡ bufferAfter c′ (rounds t n rows r k C)
+-- ---- the clause buffer after the rounds is the same for buffers of one length
+rounds-buffer :
+    (t : Task) (n rows : ℕ) (c c′ : List ℕ) → length c ≡ length c′ → (k r : ℕ) (C : List (List ℕ))
+    → bufferAfter c (rounds t n rows r k C) ≡ bufferAfter c′ (rounds t n rows r k C)
 unfolding rounds refuse bufferAfter
 rounds-buffer t n rows c c′ e zero r C = go (all passes (tested t C)) refl
   where
     go : (b : Bool) → all passes (tested t C) ≡ b → bufferAfter c (rounds t n rows r 0 C) ≡ bufferAfter c′ (rounds t n rows r 0 C)
     go true h = rw (h, rounds, e)
     go false h = rw (h, rounds, e)
-rounds-buffer t n rows c c′ e (suc k) r C = go (all passes (tested t C)) refl (fits rows (nextOf t n C (tested t C))) refl (rounds-buffer t n rows c c′ e k (suc r) (nextOf t n C (tested t C)))
+rounds-buffer t n rows c c′ e (suc k) r C =
+    go (all passes (tested t C)) refl (fits rows (nextOf t n C (tested t C))) refl
+    (rounds-buffer t n rows c c′ e k (suc r) (nextOf t n C (tested t C)))
   where
-    go : (b : Bool) → all passes (tested t C) ≡ b → (d : Bool) → fits rows (nextOf t n C (tested t C)) ≡ d → bufferAfter c (rounds t n rows (suc r) k (nextOf t n C (tested t C))) ≡ bufferAfter c′ (rounds t n rows (suc r) k (nextOf t n C (tested t C))) → bufferAfter c (rounds t n rows r (suc k) C) ≡ bufferAfter c′ (rounds t n rows r (suc k) C)
+    go :
+        (b : Bool) → all passes (tested t C) ≡ b → (d : Bool) → fits rows (nextOf t n C (tested t C)) ≡ d
+        → bufferAfter c (rounds t n rows (suc r) k (nextOf t n C (tested t C))) ≡ bufferAfter c′ (rounds t n rows (suc r) k (nextOf t n C (tested t C)))
+        → bufferAfter c (rounds t n rows r (suc k) C) ≡ bufferAfter c′ (rounds t n rows r (suc k) C)
     go true h d q rec = rw (h, rounds, e)
     go false h true q rec = rw (h, rounds, q) rec
     go false h false q rec = rw (h, rounds, q, e)

@@ -1,4 +1,4 @@
--- What a round comes to, and the rounds in turn. Assumes nothing.
+-- What a round comes to, and the rounds one after the other. Assumes nothing.
 use mathlib.Core.Bool.{Bool, true, false, cond, false≢true}
 use mathlib.Core.Option.{Option, none, some}
 use mathlib.Core.Path.{_≡_, refl, sym, _∙_, ap, subst}
@@ -40,7 +40,9 @@ use Rattle.synthesis.specs.Rounds.{Advanced, Stepped, stepOf, ended, Beg
 use Rattle.synthesis.proofs.Units.{units-size}
 
 -- ---- the test
-module _ (t : Task) (C : List (List ℕ)) (flags : List ℕ) (e : flags ≡ map (λ f. bit (failsBelow t C (length (t .operators)) f)) C) (b : Bool) (found : b ≡ any (λ x. eqb x 1) flags) where
+module _
+    (t : Task) (C : List (List ℕ)) (flags : List ℕ) (e : flags ≡ map (λ f. bit (failsBelow t C (length (t .operators)) f)) C) (b : Bool)
+    (found : b ≡ any (λ x. eqb x 1) flags) where
   pub test-passes : b ≡ false → all passes (tested t C) ≡ true
   test-passes h = not-false (all passes (tested t C)) (sym (found ∙ none-flagged t C flags e) ∙ h)
 
@@ -306,7 +308,9 @@ module _ (w : List ℕ) (atoms n limit rows : ℕ) (c : List ℕ) (count made : 
       rw (f, same)
 
 -- ---- zeros
-pub cleared : {A : Type 0} (x a : Answer A) (y old : List ℕ) → x ≡ a → y ≡ take 0 old ++ replicate (length old - 0) 0 → outcome x y ≡ outcome a (replicate (length old) 0)
+pub cleared :
+    {A : Type 0} (x a : Answer A) (y old : List ℕ) → x ≡ a → y ≡ take 0 old ++ replicate (length old - 0) 0
+    → outcome x y ≡ outcome a (replicate (length old) 0)
 unfolding outcome
 cleared x a y old e q =
     let z : length old - 0 ≡ length old = omega arith in

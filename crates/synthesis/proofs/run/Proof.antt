@@ -24,7 +24,7 @@ use Rattle.synthesis.proofs.run.Tie as tie
 abbrev outcome-of : List ℕ → ℕ → ℕ → ℕ → Answer Found
 outcome-of image n limit rows = rounds (taskOf image) n rows 1 (limit - 1) (firstSet (taskOf image))
 
-pub record Turn (image : List ℕ) (atoms n limit rows clauses₀ work₀ marks₀ : ℕ) (clauses : List ℕ) (work marks count made : ℕ) : Type 0 where
+pub record Invariant (image : List ℕ) (atoms n limit rows clauses₀ work₀ marks₀ : ℕ) (clauses : List ℕ) (work marks count made : ℕ) : Type 0 where
   pub clauses-kept : length clauses ≡ clauses₀
   pub work-kept : work ≡ work₀
   pub marks-kept : marks ≡ marks₀
@@ -32,7 +32,7 @@ pub record Turn (image : List ℕ) (atoms n limit rows clauses₀ work₀ marks�
 
 abbrev Inv-loop : tie.InvT-loop
 Inv-loop image atoms n limit rows clauses₀ work₀ marks₀ count₀ made₀ clauses work marks count made =
-    Turn image atoms n limit rows (length clauses₀) (length work₀) (length marks₀) clauses (length work) (length marks) count made
+    Invariant image atoms n limit rows (length clauses₀) (length work₀) (length marks₀) clauses (length work) (length marks) count made
 
 abbrev μ-loop : tie.MeasureT-loop
 μ-loop image atoms n limit rows clauses₀ work₀ marks₀ count₀ made₀ clauses work marks count made = limit - made
