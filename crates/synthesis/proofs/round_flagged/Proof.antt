@@ -14,7 +14,9 @@ use Rattle.synthesis.proofs.round_flagged.Statement.{statement}
 use Rattle.synthesis.proofs.round_flagged.Tie as tie
 
 test-requires : tie.Need-test-requires
-test-requires c κs = (c .before .before .before .before .before .before .before .before .before .before .before .pre .0 .read, c .before .before .before .before .before .before .before .before .before .before .before .pre .1, c .before .before .before .before .before .before .before .before .before .before .before .pre .2, c .before .before .before .before .before .before .before .before .before .before .before .pre .3)
+test-requires c κs =
+    let p = c .before .before .before .before .before .before .before .before .before .before .before .pre in
+    (record { read = p .0 .read; room = p .1; flagged = p .2 }, p .3)
 
 some-flag-requires : tie.Need-some-flag-requires
 some-flag-requires c κs = search needs
@@ -56,7 +58,15 @@ returns-2 c =
 next-set-requires : tie.Need-next-set-requires
 next-set-requires c κs =
     let p = c .before .before .before .before .before .before .before .before .before .before .before .before .before .before .before .before .before .before .before .before .before .before .before .before .before .before .before .before .before .pre in
-    (p .0, c .before .before .before .before .before .before .before .before .before .before .before .before .before .before .before .before .before .test .ensures .0, c .before .before .before .before .before .before .before .before .before .before .before .before .before .before .before .before .before .test .ensures .1, omega (arith, p .1, c .before .before .before .before .before .before .before .before .before .before .before .before .before .before .before .before .before .test .kept .1 .1 .1 .0), c .before .before .before .before .before .before .before .before .before .before .before .before .before .before .before .before .before .test .kept .1 .1 .1 .1 .0 ∙ p .2, p .4)
+    let t = c .before .before .before .before .before .before .before .before .before .before .before .before .before .before .before .before .before .test in
+    record {
+      round = p .0;
+      flags = t .ensures .0;
+      noted = t .ensures .1;
+      room = omega (arith, p .1, t .kept .1 .1 .1 .0);
+      flagged = t .kept .1 .1 .1 .1 .0 ∙ p .2;
+      fits = p .4;
+    }
 
 enum-told : tie.Need-enum-told
 enum-told c = search needs
