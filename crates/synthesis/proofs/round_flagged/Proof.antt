@@ -126,14 +126,15 @@ next-set-requires : tie.Need-next-set-requires
 next-set-requires c κs =
     let d = test-before (not-last c .before) in
     let p = start d .pre in
-    let t = d .test in (
-      p .0 .round,
-      t .ensures .0,
-      t .ensures .1,
-      omega (arith, p .0 .marked, t .kept .1 .1 .1 .0),
-      t .kept .1 .1 .1 .1 .0 ∙ p .1,
-      p .0 .room,
-    )
+    let t = d .test in
+    record {
+      round = p .0 .round;
+      flags = t .ensures .0;
+      noted = t .ensures .1;
+      room = omega (arith, p .0 .marked, t .kept .1 .1 .1 .0);
+      flagged = t .kept .1 .1 .1 .1 .0 ∙ p .1;
+      fits = p .0 .room;
+    }
 
 step-to-requires : tie.Need-step-to-requires
 step-to-requires c κs = search needs
