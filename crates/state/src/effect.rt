@@ -6,9 +6,10 @@ ghost use Prim.Native.Nat.{_≤_};
 ghost use lib.ListN.{length};
 ghost use Rattle.task.specs.Walk.{blockParses, operatorIn};
 ghost use Rattle.state.specs.Marks.{markFired, bothMarked, conflictIn, makeTrue, changed, unmarked, Settled};
+ghost use Rattle.state.specs.Post.{Applies, Applied};
 
 // Marks the effects of the rows of a block that fire in a state. The state stays as it is, so each row fires by the state before the step.
-pub fn mark_fired(block: &[u16], state: &[u8], marks: &mut [u8])
+fn mark_fired(block: &[u16], state: &[u8], marks: &mut [u8])
     requires { ⌜ blockParses (now block) ≡ true ⌝ }
     ensures { λ _. ⌜ now (marks .exit) ≡ markFired (now (state .entry)) (operatorIn (now (block .entry)) .rows) (now (marks .entry)) ⌝ }
 {
@@ -86,7 +87,7 @@ fn change(block: &[u16], marks: &[u8], state: &mut [u8])
 }
 
 // Makes the marked effects of a block true, unless they are in conflict.
-pub fn settle(block: &[u16], marks: &[u8], state: &mut [u8]) -> bool
+fn settle(block: &[u16], marks: &[u8], state: &mut [u8]) -> bool
     requires { ⌜ (blockParses (now block) ≡ true) × (length (now marks) ≤ 2048) ⌝ }
     ensures { λ r. ⌜ Settled (now (marks .entry)) (operatorIn (now (block .entry)) .rows) (now (state .entry)) (now (state .exit)) r ⌝ }
 {
@@ -99,7 +100,7 @@ pub fn settle(block: &[u16], marks: &[u8], state: &mut [u8]) -> bool
 }
 
 // Clears the marks of the effects of a block.
-pub fn unmark(block: &[u16], marks: &mut [u8])
+fn unmark(block: &[u16], marks: &mut [u8])
     requires { ⌜ blockParses (now block) ≡ true ⌝ }
     ensures { λ _. ⌜ now (marks .exit) ≡ unmarked (operatorIn (now (block .entry)) .rows) (now (marks .entry)) ⌝ }
 {
@@ -112,4 +113,15 @@ pub fn unmark(block: &[u16], marks: &mut [u8])
         at = row.end;
         left -= 1;
     }
+}
+
+// Makes the effects of the rows of a block that fire true, unless they are in conflict. The marks are all zero before and after.
+pub fn apply(block: &[u16], state: &mut [u8], marks: &mut [u8]) -> bool
+    requires { ⌜ Applies (now block) (now state) (now marks) ⌝ }
+    ensures { λ r. ⌜ Applied (operatorIn (now (block .entry))) (now (state .entry)) (now (state .exit)) r × (now (marks .exit) ≡ now (marks .entry)) ⌝ }
+{
+    mark_fired(block, state, marks);
+    let done = settle(block, marks, state);
+    unmark(block, marks);
+    done
 }
