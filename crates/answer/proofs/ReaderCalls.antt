@@ -8,7 +8,7 @@ use lib.ListN.{length}
 use borrow.Author.Tests.{lt-ltb, le-ltb, eq-eqb, ne-eqb}
 use Rattle.definitions.specs.Answer.{Refusal, Answer, finding, refused, verdict, outcome, stateAfter, becomes, ask, askAt, _>>=_}
 use Rattle.definitions.specs.StepLists.{runFrom, notRun}
-use Rattle.definitions.proofs.CheckSound.{not-finding, same-finding, bind-of, ask-of}
+use Rattle.definitions.proofs.AnswerLaws.{not-finding, same-finding, bind-of, ask-of}
 use Rattle.answer.specs.Answer.{refusalAt}
 use Rattle.answer.specs.Reader.{Reader, asking, stateAnswer, stepCall, goalCall, startCall, runCall}
 use Rattle.answer.proofs.Laws.{refused-first}
