@@ -2,12 +2,14 @@
 use mathlib.Core.Path.{_≡_, refl, sym, ap, _∙_}
 use mathlib.Core.List.{List}
 use mathlib.Core.Bool.{Bool, true, false}
-use Prim.Native.Nat.{ℕ, _≤_, _<_}
+use Prim.Native.Nat.{ℕ, _+_, _≤_, _<_}
+use native.Mathlib.Omega.{arith}
 use lib.Dec.{eqb, ltb}
-use lib.ListN.{length}
+use lib.ListN.{length, getD, drop}
 use borrow.Author.Tests.{lt-ltb, le-ltb, eq-eqb, ne-eqb}
 use Rattle.definitions.specs.Answer.{Refusal, Answer, finding, refused, verdict, outcome, stateAfter, becomes, ask, askAt, _>>=_}
-use Rattle.definitions.specs.StepLists.{runFrom, notRun}
+use Rattle.definitions.specs.StepLists.{runFrom, refusedAfter, notRun}
+use Rattle.definitions.proofs.StepLists.{run-on, run-stop, run-end}
 use Rattle.definitions.proofs.AnswerLaws.{not-finding, same-finding, bind-of, ask-of}
 use Rattle.answer.specs.Answer.{refusalAt}
 use Rattle.answer.specs.Reader.{Reader, asking, stateAnswer, stepCall, goalCall, startCall, runCall}
@@ -142,3 +144,31 @@ module _ {T : Type 0} (R : Reader T) (w s : List ℕ) where
 
     pub goal-refused : refused r ≡ goalCall R w s
     goal-refused = either-refused (λ t. finding (R .isMet t s))
+
+-- ---- list runs, by the outcome of each step
+module _ (next : List ℕ → ℕ → Answer (List ℕ)) (list first : List ℕ) where
+  -- the run of the whole list is that of what is left of it after k steps, in state s
+  pub record Running (s : List ℕ) (k : ℕ) : Type 0 where
+    pub within : k ≤ length list
+    pub size : length s ≡ length first
+    pub rest : runFrom next first 0 list ≡ runFrom next s k (drop k list)
+
+  pub running-start : Running first 0
+  running-start = record { within = omega arith; size = refl; rest = refl }
+
+  module _ (s : List ℕ) (k : ℕ) (run : Running s k) where
+    pub running-end : length list ≤ k → outcome (finding k) s ≡ runFrom next first 0 list
+    running-end h = run-end next s k list k h ∙ sym (run .rest)
+
+    -- step k, by operator i, leaves state s′
+    module _ (i : ℕ) (s′ : List ℕ) (inside : k < length list) (ei : i ≡ getD list k 0) where
+      pub running-on : length s′ ≡ length s → outcome (finding tt) s′ ≡ becomes s (next s i) → Running s′ (k + 1)
+      running-on el e =
+          record {
+            within = omega arith;
+            size = el ∙ run .size;
+            rest = run .rest ∙ run-on next s s′ k k i list inside ei e;
+          }
+
+      pub running-stop : (r : Refusal) → outcome (refused r) s′ ≡ becomes s (next s i) → outcome (refused (refusedAfter k r)) s′ ≡ runFrom next first 0 list
+      running-stop r e = run-stop next s s′ k k i list inside ei r e ∙ sym (run .rest)

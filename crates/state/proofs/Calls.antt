@@ -8,7 +8,7 @@ use lib.ListN.{length, replicate}
 use lib.Dec.{eqb}
 use borrow.Author.Tests.{eqb-true, not-true, not-false}
 use Rattle.definitions.specs.Answer.{Refusal, finding, refused, outcome, becomes, ask, _>>=_}
-use Rattle.definitions.specs.Literal.{allTrue, allBelow, isState}
+use Rattle.definitions.specs.Literal.{mostLiterals, allTrue, allBelow, isState}
 use Rattle.definitions.specs.Image.{Operator, Task, operatorRight}
 use Rattle.definitions.specs.Step.{effects, conflict, result, operatorAt, step}
 use Rattle.definitions.proofs.ListLaws.{and-left}
@@ -84,7 +84,7 @@ module _ (b s m : List ℕ) (a : Applies b s m) (m′ : List ℕ) (em : m′ ≡
   marked : m′ ≡ markFired s (operatorIn b .rows) (replicate (2 * length s) 0)
   marked = em ∙ ap (markFired s (operatorIn b .rows)) (a .blank)
 
-  pub few-marks : length m′ ≤ 2048
+  pub few-marks : length m′ ≤ mostLiterals
   few-marks =
       let l = marks-length (length s) s (operatorIn b) m′ marked in
       let few = a .few in

@@ -5,7 +5,7 @@ use mathlib.Core.Bool.{Bool, true, cond, not}
 use mathlib.Core.Path.{_≡_}
 use lib.ListN.{length, replicate}
 use Rattle.definitions.specs.Answer.{Answer, finding, ask, _>>=_}
-use Rattle.definitions.specs.Literal.{allTrue, isState}
+use Rattle.definitions.specs.Literal.{mostAtoms, allTrue, isState}
 use Rattle.definitions.specs.Image.{Operator, Task, initialState, operatorRight, readTask}
 use Rattle.definitions.specs.Step.{effects, conflict, result, step}
 use Rattle.answer.specs.Reader.{Reader}
@@ -40,7 +40,7 @@ pub record Standing (w s : List ℕ) : Type 0 where
 pub record Applies (b s m : List ℕ) : Type 0 where
   pub parses : blockParses b ≡ true
   pub right : operatorRight (length s) (operatorIn b) ≡ true
-  pub few : length s ≤ 1024
+  pub few : length s ≤ mostAtoms
   pub blank : m ≡ replicate (2 * length s) 0
 
 -- the effects of the rows that fire were made true, unless they are in conflict

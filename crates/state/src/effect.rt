@@ -4,6 +4,7 @@ ghost use mathlib.Core.Path.{_≡_};
 ghost use mathlib.Core.Bool.{true};
 ghost use Prim.Native.Nat.{_≤_};
 ghost use lib.ListN.{length};
+ghost use Rattle.definitions.specs.Literal.{mostLiterals};
 ghost use Rattle.task.specs.Walk.{blockParses, operatorIn};
 ghost use Rattle.state.specs.Marks.{markFired, bothMarked, conflictIn, makeTrue, changed, unmarked, Settled};
 ghost use Rattle.state.specs.Post.{Applies, Applied};
@@ -27,7 +28,7 @@ fn mark_fired(block: &[u16], state: &[u8], marks: &mut [u8])
 
 // Whether a literal and its complement are both marked.
 fn both_marked(marks: &[u8], l: usize) -> bool
-    requires { ⌜ length (now marks) ≤ 2048 ⌝ }
+    requires { ⌜ length (now marks) ≤ mostLiterals ⌝ }
     ensures { λ r. ⌜ r ≡ bothMarked (now (marks .entry)) l ⌝ }
 {
     let marked = literal::flags::has(marks, l);
@@ -39,7 +40,7 @@ fn both_marked(marks: &[u8], l: usize) -> bool
 
 // Whether an effect of a block is marked with its complement: an atom is both added and deleted.
 fn conflict(block: &[u16], marks: &[u8]) -> bool
-    requires { ⌜ (blockParses (now block) ≡ true) × (length (now marks) ≤ 2048) ⌝ }
+    requires { ⌜ (blockParses (now block) ≡ true) × (length (now marks) ≤ mostLiterals) ⌝ }
     ensures { λ r. ⌜ r ≡ conflictIn (now (marks .entry)) (operatorIn (now (block .entry)) .rows) ⌝ }
 {
     let head = task::block::head(block);
@@ -88,7 +89,7 @@ fn change(block: &[u16], marks: &[u8], state: &mut [u8])
 
 // Makes the marked effects of a block true, unless they are in conflict.
 fn settle(block: &[u16], marks: &[u8], state: &mut [u8]) -> bool
-    requires { ⌜ (blockParses (now block) ≡ true) × (length (now marks) ≤ 2048) ⌝ }
+    requires { ⌜ (blockParses (now block) ≡ true) × (length (now marks) ≤ mostLiterals) ⌝ }
     ensures { λ r. ⌜ Settled (now (marks .entry)) (operatorIn (now (block .entry)) .rows) (now (state .entry)) (now (state .exit)) r ⌝ }
 {
     let both = conflict(block, marks);

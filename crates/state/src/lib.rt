@@ -80,7 +80,7 @@ fn step_read(image: &[u16], state: &mut [u8], operator: u16) -> Verdict
     requires { ⌜ Standing (now image) (now state) ⌝ }
     ensures { λ r. ⌜ outcome (verdictAnswer r) (now (state .exit)) ≡ becomes (now (state .entry)) (step (taskOf (now (image .entry))) (now (state .entry)) operator) ⌝ }
 {
-    let mut marks = [0u8; 2048];
+    let mut marks = [0u8; literal::MOST_LITERALS];
     let count = 2 * task::atoms(image);
     step_marked(image, state, literal::wide(operator), &mut marks[..count])
 }
@@ -124,7 +124,7 @@ fn run_read(image: &[u16], state: &mut [u8], list: &[u16]) -> Counted
     requires { ⌜ Standing (now image) (now state) ⌝ }
     ensures { λ r. ⌜ outcome (countAnswer r) (now (state .exit)) ≡ runFrom (step (taskOf (now (image .entry)))) (now (state .entry)) 0 (now (list .entry)) ⌝ }
 {
-    let mut marks = [0u8; 2048];
+    let mut marks = [0u8; literal::MOST_LITERALS];
     let count = 2 * task::atoms(image);
     run_marked(image, state, list, &mut marks[..count])
 }

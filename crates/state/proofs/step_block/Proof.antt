@@ -16,11 +16,13 @@ at-state c = c .before .before .before
 
 abbrev answered : tie.After-slice-known4 → tie.After-apply
 answered c = at-state c .before
+
 abbrev at-else1 : tie.After-apply → tie.Else1
 at-else1 c = c .before .before .before
 
 abbrev asked : tie.After-apply → tie.After-precondition-holds
 asked c = at-else1 c .before
+
 abbrev at-slice : tie.After-precondition-holds → tie.After-slice-known
 at-slice c = c .before .before .before
 

@@ -29,6 +29,7 @@ at-state c = c .before .before .before
 
 abbrev stepped : tie.After-slice-known4 → tie.After-step-block
 stepped c = at-state c .before
+
 abbrev given : tie.After-step-block → tie.After-operator-block
 given c = c .before .before .before
 

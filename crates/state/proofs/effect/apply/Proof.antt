@@ -10,13 +10,16 @@ at-marks c = c .before .before .before
 
 abbrev fired : tie.After-settle-arg2 → tie.After-mark-fired
 fired c = at-marks c .before
+
 abbrev at-state : tie.After-unmark → tie.After-state
 at-state c = c .before .before .before
 
 abbrev settled : tie.After-unmark → tie.After-settle
 settled c = at-state c .before
+
 abbrev before-settle : tie.After-settle → tie.After-settle-arg2
 before-settle c = c .before
+
 abbrev at-slice2 : tie.After-mark-fired → tie.After-slice-known2
 at-slice2 c = c .before .before .before
 
