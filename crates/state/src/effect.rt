@@ -1,13 +1,14 @@
 // The effects of one operator in a state: a mark for each literal, set where a row with that effect fires. Only marks of the
 // operator's effects are touched, so a step takes the time of its rows, however many atoms there are.
 ghost use mathlib.Core.Path.{_≡_};
-ghost use mathlib.Core.Bool.{true};
+ghost use mathlib.Core.Bool.{true, cond};
 ghost use Prim.Native.Nat.{_≤_};
 ghost use lib.ListN.{length};
-ghost use Rattle.definitions.specs.Literal.{mostLiterals};
+ghost use Rattle.definitions.specs.Literal.{mostLiterals, positive};
 ghost use Rattle.task.specs.Walk.{blockParses, operatorIn};
 ghost use Rattle.state.specs.Marks.{markFired, bothMarked, conflictIn, makeTrue, changed, unmarked, Settled};
 ghost use Rattle.state.specs.Post.{Applies, Applied};
+use literal::Literal;
 
 // Marks the effects of the rows of a block that fire in a state. The state stays as it is, so each row fires by the state before the step.
 fn mark_fired(block: &[u16], state: &[u8], marks: &mut [u8])
@@ -58,14 +59,21 @@ fn conflict(block: &[u16], marks: &[u8]) -> bool
     false
 }
 
-// Makes a literal true, if `marked`.
-fn make_true(marked: bool, state: &mut [u8], l: usize)
-    ensures { λ _. ⌜ now (state .exit) ≡ makeTrue marked (now (state .entry)) l ⌝ }
+// The byte of the literal's atom where the literal is true.
+fn truth(l: Literal) -> u8
+    ensures { λ r. ⌜ r ≡ cond (positive (l .code)) 1 0 ⌝ }
 {
-    let a = l / 2;
+    if l.is_positive() { 1 } else { 0 }
+}
+
+// Makes a literal true, if `marked`.
+fn make_true(marked: bool, state: &mut [u8], l: Literal)
+    ensures { λ _. ⌜ now (state .exit) ≡ makeTrue marked (now (state .entry)) (l .code) ⌝ }
+{
+    let a = l.atom();
     if marked {
         if a < state.len() {
-            state[a] = (1 - l % 2) as u8;
+            state[a] = truth(l);
         }
     }
 }
@@ -81,7 +89,14 @@ fn change(block: &[u16], marks: &[u8], state: &mut [u8])
     while 0 < left {
         let row = task::block::row(block, at, left);
         let effect = row.effect;
-        make_true(literal::flags::has(marks, effect), state, effect);
+        let marked = literal::flags::has(marks, effect);
+        make_true(
+            marked,
+            state,
+            Literal {
+                code: effect as u16,
+            },
+        );
         at = row.end;
         left -= 1;
     }
