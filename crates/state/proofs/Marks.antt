@@ -375,15 +375,6 @@ take-zeros zero n h = refl
 take-zeros (suc k) zero h = absurd (not-suc-le-zero h)
 take-zeros (suc k) (suc n) h = ap (λ (l : List ℕ). 0 ∷ l) (take-zeros k n (le-of-suc-le-suc h))
 
--- the value of a literal's atom where it is true
-pub value-is : (l : ℕ) → 1 - l % 2 ≡ cond (positive l) 1 0
-unfolding positive
-value-is l = go (eqb (l % 2) 0) refl
-  where
-    go : (b : Bool) → eqb (l % 2) 0 ≡ b → 1 - l % 2 ≡ cond (eqb (l % 2) 0) 1 0
-    go true e = let h : l % 2 ≡ 0 = eqb-true (l % 2) 0 e in rw e (omega arith)
-    go false e = let h = eqb-false (l % 2) 0 e in rw e (omega arith)
-
 -- what was settled, by the test for conflict
 module _ (m : List ℕ) (rows : List Row) (s s′ : List ℕ) (b : Bool) (eb : b ≡ conflictIn m rows) where
   pub settled-not : b ≡ true → Settled m rows s s false

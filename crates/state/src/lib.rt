@@ -4,87 +4,100 @@ ghost use mathlib.Core.Bool.{true};
 ghost use Prim.Native.Nat.{_*_, _≤_};
 ghost use lib.ListN.{length, replicate};
 ghost use Rattle.definitions.specs.Answer.{verdict, finding, outcome, becomes};
+ghost use Rattle.definitions.specs.Literal.{allTrue};
 ghost use Rattle.definitions.specs.Image.{initialState};
 ghost use Rattle.definitions.specs.StepLists.{runFrom};
 ghost use Rattle.definitions.specs.Step.{step, stepTask, goalTask, startTask, runTask};
 ghost use Rattle.answer.specs.Answer.{verdictAnswer, testAnswer, countAnswer};
+ghost use Rattle.answer.specs.Reader.{stateAnswer};
 ghost use Rattle.task.specs.Reads.{taskOf, Reads};
+ghost use Rattle.task.specs.Walk.{blockParses, operatorIn};
 ghost use Rattle.state.specs.Marks.{setTrue};
-ghost use Rattle.state.specs.Post.{stateAnswer, Standing};
+ghost use Rattle.state.specs.Post.{taskReader, Standing, Applies, applied};
+use answer::Counted;
+use answer::Refusal;
+use answer::Tested;
+use answer::Verdict;
 
 pub mod effect; // effect.rt: the effects of one operator in a state
 
 // Reads an image and a state: questions 1 to 7 and 18.
-pub fn read_state(image: &[u16], state: &[u8]) -> answer::Verdict
-    ensures { λ r. ⌜ verdictAnswer r ≡ stateAnswer (now (image .entry)) (now (state .entry)) ⌝ }
+pub fn read_state(image: &[u16], state: &[u8]) -> Verdict
+    ensures { λ r. ⌜ verdictAnswer r ≡ stateAnswer taskReader (now (image .entry)) (now (state .entry)) ⌝ }
 {
     let reading = task::read(image);
     match reading {
-        answer::Verdict::Refused(f) => answer::Verdict::Refused(f),
-        answer::Verdict::Fine => {
+        Verdict::Refused(f) => Verdict::Refused(f),
+        Verdict::Fine => {
             let right = literal::is_state(state, task::atoms(image));
-            if right {
-                answer::Verdict::Fine
-            } else {
-                answer::refuse(answer::Refusal::STATE)
+            if !right {
+                return answer::refuse(Refusal::STATE);
             }
+            Verdict::Fine
         }
     }
 }
 
-// A step in a task's state, with marks for its literals that are all zero before and behind it: questions 19 to 21.
-fn step_marked(
-    image: &[u16],
-    state: &mut [u8],
-    operator: usize,
-    marks: &mut [u8],
-) -> answer::Verdict
+// Whether the precondition of a block holds in a state.
+fn precondition_holds(block: &[u16], state: &[u8]) -> bool
+    requires { ⌜ blockParses (now block) ≡ true ⌝ }
+    ensures { λ r. ⌜ r ≡ allTrue (now (state .entry)) (operatorIn (now (block .entry)) .precondition) ⌝ }
+{
+    let head = task::block::head(block);
+    let end = head.end;
+    literal::all_true(state, &block[1..end])
+}
+
+// A step by the block of its operator, with marks that are all zero before and after: questions 20 and 21.
+fn step_block(block: &[u16], state: &mut [u8], marks: &mut [u8]) -> Verdict
+    requires { ⌜ Applies (now block) (now state) (now marks) ⌝ }
+    ensures { λ r. ⌜ (outcome (verdictAnswer r) (now (state .exit)) ≡ becomes (now (state .entry)) (applied (now (state .entry)) (operatorIn (now (block .entry))))) × (now (marks .exit) ≡ now (marks .entry)) ⌝ }
+{
+    let holds = precondition_holds(block, state);
+    if !holds {
+        return answer::refuse(Refusal::PRECONDITION);
+    }
+    let done = effect::apply(block, state, marks);
+    if !done {
+        return answer::refuse(Refusal::CONFLICT);
+    }
+    Verdict::Fine
+}
+
+// A step in a task's state, with marks for its literals that are all zero before and after: questions 19 to 21.
+fn step_marked(image: &[u16], state: &mut [u8], operator: usize, marks: &mut [u8]) -> Verdict
     requires { ⌜ Standing (now image) (now state) × (now marks ≡ replicate (2 * taskOf (now image) .atoms) 0) ⌝ }
     ensures { λ r. ⌜ (outcome (verdictAnswer r) (now (state .exit)) ≡ becomes (now (state .entry)) (step (taskOf (now (image .entry))) (now (state .entry)) operator)) × (now (marks .exit) ≡ now (marks .entry)) ⌝ }
 {
     if task::operators(image) <= operator {
-        return answer::refuse(answer::Refusal::OPERATOR_NUMBER);
+        return answer::refuse(Refusal::OPERATOR_NUMBER);
     }
-    let block = task::operator_block(image, operator);
-    let head = task::block::head(block);
-    let end = head.end;
-    let holds = literal::all_true(state, &block[1..end]);
-    if !holds {
-        return answer::refuse(answer::Refusal::PRECONDITION);
-    }
-    effect::mark_fired(block, state, marks);
-    let done = effect::settle(block, marks, state);
-    effect::unmark(block, marks);
-    if done {
-        answer::Verdict::Fine
-    } else {
-        answer::refuse(answer::Refusal::CONFLICT)
-    }
+    step_block(task::operator_block(image, operator), state, marks)
 }
 
 // A step in a task's state: questions 19 to 21.
-fn step_read(image: &[u16], state: &mut [u8], operator: u16) -> answer::Verdict
+fn step_read(image: &[u16], state: &mut [u8], operator: u16) -> Verdict
     requires { ⌜ Standing (now image) (now state) ⌝ }
     ensures { λ r. ⌜ outcome (verdictAnswer r) (now (state .exit)) ≡ becomes (now (state .entry)) (step (taskOf (now (image .entry))) (now (state .entry)) operator) ⌝ }
 {
-    let mut marks = [0u8; 2048];
+    let mut marks = [0u8; literal::MOST_LITERALS];
     let count = 2 * task::atoms(image);
     step_marked(image, state, literal::wide(operator), &mut marks[..count])
 }
 
 // A step, done in the lent state.
-pub fn step(image: &[u16], state: &mut [u8], operator: u16) -> answer::Verdict
+pub fn step(image: &[u16], state: &mut [u8], operator: u16) -> Verdict
     ensures { λ r. ⌜ outcome (verdictAnswer r) (now (state .exit)) ≡ becomes (now (state .entry)) (stepTask (now (image .entry)) (now (state .entry)) operator) ⌝ }
 {
     let reading = read_state(image, state);
     match reading {
-        answer::Verdict::Refused(f) => answer::Verdict::Refused(f),
-        answer::Verdict::Fine => step_read(image, state, operator),
+        Verdict::Refused(f) => Verdict::Refused(f),
+        Verdict::Fine => step_read(image, state, operator),
     }
 }
 
-// The steps of a list in a task's state, with marks for its literals that are all zero: questions 19 to 21 at each operator in turn.
-fn run_marked(image: &[u16], state: &mut [u8], list: &[u16], marks: &mut [u8]) -> answer::Counted
+// The steps of a list in a task's state, with marks for its literals that are all zero: questions 19 to 21 of each operator of the list.
+fn run_marked(image: &[u16], state: &mut [u8], list: &[u16], marks: &mut [u8]) -> Counted
     requires { ⌜ Standing (now image) (now state) × (now marks ≡ replicate (2 * taskOf (now image) .atoms) 0) ⌝ }
     ensures { λ r. ⌜ outcome (countAnswer r) (now (state .exit)) ≡ runFrom (step (taskOf (now (image .entry)))) (now (state .entry)) 0 (now (list .entry)) ⌝ }
 {
@@ -92,49 +105,49 @@ fn run_marked(image: &[u16], state: &mut [u8], list: &[u16], marks: &mut [u8]) -
     while steps < list.len() {
         let stepped = step_marked(image, state, literal::wide(list[steps]), marks);
         match stepped {
-            answer::Verdict::Refused(f) => {
-                return answer::Counted::Refused(answer::Refusal {
+            Verdict::Refused(f) => {
+                return Counted::Refused(Refusal {
                     number: f.number,
                     first: steps,
                     second: f.second,
                 });
             }
-            answer::Verdict::Fine => {}
+            Verdict::Fine => {}
         }
         steps += 1;
     }
-    answer::Counted::Count(steps)
+    Counted::Count(steps)
 }
 
-// The steps of a list in a task's state: questions 19 to 21 at each operator in turn.
-fn run_read(image: &[u16], state: &mut [u8], list: &[u16]) -> answer::Counted
+// The steps of a list in a task's state: questions 19 to 21 of each operator of the list.
+fn run_read(image: &[u16], state: &mut [u8], list: &[u16]) -> Counted
     requires { ⌜ Standing (now image) (now state) ⌝ }
     ensures { λ r. ⌜ outcome (countAnswer r) (now (state .exit)) ≡ runFrom (step (taskOf (now (image .entry)))) (now (state .entry)) 0 (now (list .entry)) ⌝ }
 {
-    let mut marks = [0u8; 2048];
+    let mut marks = [0u8; literal::MOST_LITERALS];
     let count = 2 * task::atoms(image);
     run_marked(image, state, list, &mut marks[..count])
 }
 
 // A list run, done in the lent state. A refused one keeps the steps that it took.
-pub fn run(image: &[u16], state: &mut [u8], list: &[u16]) -> answer::Counted
+pub fn run(image: &[u16], state: &mut [u8], list: &[u16]) -> Counted
     ensures { λ r. ⌜ outcome (countAnswer r) (now (state .exit)) ≡ runTask (now (image .entry)) (now (state .entry)) (now (list .entry)) ⌝ }
 {
     let reading = read_state(image, state);
     match reading {
-        answer::Verdict::Refused(f) => answer::Counted::Refused(f),
-        answer::Verdict::Fine => run_read(image, state, list),
+        Verdict::Refused(f) => Counted::Refused(f),
+        Verdict::Fine => run_read(image, state, list),
     }
 }
 
 // Whether the goal is met in a state.
-pub fn goal_met(image: &[u16], state: &[u8]) -> answer::Tested
+pub fn goal_met(image: &[u16], state: &[u8]) -> Tested
     ensures { λ r. ⌜ testAnswer r ≡ goalTask (now (image .entry)) (now (state .entry)) ⌝ }
 {
     let reading = read_state(image, state);
     match reading {
-        answer::Verdict::Refused(f) => answer::Tested::Refused(f),
-        answer::Verdict::Fine => answer::whether(literal::all_true(state, task::goal(image))),
+        Verdict::Refused(f) => Tested::Refused(f),
+        Verdict::Fine => answer::whether(literal::all_true(state, task::goal(image))),
     }
 }
 
@@ -158,18 +171,18 @@ pub fn write_initial(image: &[u16], state: &mut [u8])
 }
 
 // Sets a state to the initial one.
-pub fn set_initial(image: &[u16], state: &mut [u8]) -> answer::Verdict
+pub fn set_initial(image: &[u16], state: &mut [u8]) -> Verdict
     ensures { λ r. ⌜ outcome (verdictAnswer r) (now (state .exit)) ≡ becomes (now (state .entry)) (startTask (now (image .entry)) (now (state .entry))) ⌝ }
 {
     let reading = task::read(image);
     match reading {
-        answer::Verdict::Refused(f) => answer::Verdict::Refused(f),
-        answer::Verdict::Fine => {
+        Verdict::Refused(f) => Verdict::Refused(f),
+        Verdict::Fine => {
             if state.len() != task::atoms(image) {
-                return answer::refuse(answer::Refusal::STATE);
+                return answer::refuse(Refusal::STATE);
             }
             write_initial(image, state);
-            answer::Verdict::Fine
+            Verdict::Fine
         }
     }
 }

@@ -213,9 +213,9 @@ module _ (b : List ℕ) (p k : ℕ) (ok : parsesAt b p k ≡ true) (more : 0 < k
       go true e = leb-true _ _ e
       go false e = absurd (not-none (rows-over b p k (k - 1) more′ (getD b p 0) (getD b (p + 1) 0) refl refl row-room (leb-false (getD b (p + 1) 0) (length b - (p + 2)) e)))
 
-  pub row-read : (e c : ℕ) → e ≡ getD b p 0 → c ≡ getD b (p + 1) 0 → RowRead b p k e (p + 2) (p + 2 + c)
+  pub row-read : (e c : ℕ) → e ≡ getD b p 0 → c ≡ getD b (p + 1) 0 → e < 65536 → RowRead b p k e (p + 2) (p + 2 + c)
   unfolding parsesAt rowsAt
-  row-read e c ee ec =
+  row-read e c ee ec word =
       let room = row-room in
       let fit : c ≤ length b - (p + 2) = rw ec row-fits in
       let step = rows-on b p k (k - 1) more′ e c ee ec row-room fit in
@@ -226,6 +226,7 @@ module _ (b : List ℕ) (p k : ℕ) (ok : parsesAt b p k ≡ true) (more : 0 < k
         low = omega arith;
         high = omega arith;
         on = omega arith;
+        word = word;
         next = left;
         row = rw (add-sub-cancel-left (p + 2) c) (ap rowsOr step ∙ or-row r q left);
       }

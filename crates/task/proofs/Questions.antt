@@ -1,4 +1,4 @@
--- Laws of reading: the questions 1 to 7 in turn, and what an image that reads as a task tells. Assumes nothing.
+-- Laws of reading: questions 1 to 7 in order, and what is known of an image that reads as a task. Assumes nothing.
 use mathlib.Core.Path.{_≡_, refl, sym, ap, _∙_, subst}
 use mathlib.Core.List.{List, [], _∷_}
 use mathlib.Core.Bool.{Bool, true, false, _&&_}
@@ -11,8 +11,8 @@ use lib.Dec.{leb}
 use borrow.Author.Tests.{lt-leb, le-leb, leb-true}
 use Rattle.definitions.specs.Lists.{ascending}
 use Rattle.definitions.specs.Answer.{Refusal, Answer, finding, refused, refuse, verdict, ask, askAt, _>>=_}
-use Rattle.definitions.specs.Literal.{allBelow, literalList}
-use Rattle.definitions.specs.Image.{Operator, Task, part, directory, operatorOf, operatorRight, readOperator, readOperators, readTask}
+use Rattle.definitions.specs.Literal.{mostAtoms, allBelow, literalList}
+use Rattle.definitions.specs.Image.{mostImage, mostOperators, Operator, Task, part, directory, operatorOf, operatorRight, readOperator, readOperators, readTask}
 use Rattle.definitions.specs.Step.{noOperator, operatorAt}
 use Rattle.definitions.proofs.ListLaws.{and-left, and-right}
 use Rattle.definitions.proofs.AnswerLaws.{not-finding, same-finding, bind-of, ask-of}
@@ -20,8 +20,9 @@ use Rattle.definitions.proofs.ReadLaws.{ReadRight, read-right}
 use Rattle.definitions.proofs.ListLaws.{getD-mem}
 use Rattle.answer.specs.Answer.{refusalAt}
 use Rattle.answer.proofs.Laws.{verdict-bind}
+use Rattle.answer.proofs.ReaderCalls.{question-no, question-yes}
 use Rattle.task.specs.Reads.{taskIn, taskOf, Reads}
-use Rattle.task.specs.Walk.{someOperator, operatorOr, blockParses, operatorIn, sizeRight, countsRight}
+use Rattle.task.specs.Walk.{someOperator, operatorOr, blockParses, operatorIn, sizeRight, countsRight, listsAnswer, partsAnswer}
 use Rattle.task.specs.Post.{BlockGiven}
 use Rattle.task.proofs.Blocks.{operator-found}
 
@@ -30,13 +31,13 @@ pub size-small : (w : List ℕ) → length w < 6 → false ≡ sizeRight w
 unfolding sizeRight
 size-small w h = rw (lt-leb 6 (length w) h)
 
-pub size-rest : (w : List ℕ) → 6 ≤ length w → leb (length w) 8192 ≡ sizeRight w
+pub size-rest : (w : List ℕ) → 6 ≤ length w → leb (length w) mostImage ≡ sizeRight w
 unfolding sizeRight
 size-rest w h = rw (le-leb 6 (length w) h)
 
 pub size-room : (w : List ℕ) → sizeRight w ≡ true → 6 ≤ length w
 unfolding sizeRight
-size-room w h = leb-true 6 (length w) (and-left (leb 6 (length w)) (leb (length w) 8192) h)
+size-room w h = leb-true 6 (length w) (and-left (leb 6 (length w)) (leb (length w) mostImage) h)
 
 module _ (w : List ℕ) where
   N : ℕ
@@ -49,22 +50,22 @@ module _ (w : List ℕ) where
   unfolding countsRight
   counts-none h = rw (lt-leb 1 (getD w 0 0) h)
 
-  pub counts-many : 1 ≤ getD w 0 0 → 1024 < getD w 0 0 → false ≡ countsRight w
+  pub counts-many : 1 ≤ getD w 0 0 → mostAtoms < getD w 0 0 → false ≡ countsRight w
   unfolding countsRight
-  counts-many l h = rw (le-leb 1 (getD w 0 0) l, lt-leb (getD w 0 0) 1024 h)
+  counts-many l h = rw (le-leb 1 (getD w 0 0) l, lt-leb (getD w 0 0) mostAtoms h)
 
-  pub counts-rest : 1 ≤ getD w 0 0 → getD w 0 0 ≤ 1024 → leb (getD w 1 0) 1024 ≡ countsRight w
+  pub counts-rest : 1 ≤ getD w 0 0 → getD w 0 0 ≤ mostAtoms → leb (getD w 1 0) mostOperators ≡ countsRight w
   unfolding countsRight
-  counts-rest l h = rw (le-leb 1 (getD w 0 0) l, le-leb (getD w 0 0) 1024 h)
+  counts-rest l h = rw (le-leb 1 (getD w 0 0) l, le-leb (getD w 0 0) mostAtoms h)
 
   module _ (h : countsRight w ≡ true) where
-    pub counts-atoms : getD w 0 0 ≤ 1024
+    pub counts-atoms : getD w 0 0 ≤ mostAtoms
     unfolding countsRight N M
-    counts-atoms = leb-true N 1024 (and-right (leb 1 N) (leb N 1024) (and-left (leb 1 N && leb N 1024) (leb M 1024) h))
+    counts-atoms = leb-true N mostAtoms (and-right (leb 1 N) (leb N mostAtoms) (and-left (leb 1 N && leb N mostAtoms) (leb M mostOperators) h))
 
-    pub counts-operators : getD w 1 0 ≤ 1024
+    pub counts-operators : getD w 1 0 ≤ mostOperators
     unfolding countsRight N M
-    counts-operators = leb-true M 1024 (and-right (leb 1 N && leb N 1024) (leb M 1024) h)
+    counts-operators = leb-true M mostOperators (and-right (leb 1 N && leb N mostAtoms) (leb M mostOperators) h)
 
 -- ---- the operators, one before the next
 verdict-then : {A B D : Type 0} (m : Answer A) (k : Answer B) (f : A → B → D) → verdict m ≡ finding tt → verdict (m >>= λ a. k >>= λ b. finding (f a b)) ≡ verdict k
@@ -90,8 +91,38 @@ pub operators-end : (n : ℕ) (w : List ℕ) (i k : ℕ) → k ≡ 0 → finding
 unfolding readOperators verdict
 operators-end n w i k e = rw e
 
--- ---- the questions in turn
+-- ---- the questions in order
+verdict-asked : {A : Type 0} (q : ℕ) (b : Bool) (k : Answer A) → verdict (ask q b >>= λ _. k) ≡ (ask q b >>= λ _. verdict k)
+unfolding ask askAt verdict _>>=_
+verdict-asked q true k = refl
+verdict-asked q false k = refl
+
+module _ (w : List ℕ) (N M : ℕ) where
+  abbrev start-right : Bool
+  start-right = ascending (part w 0) && allBelow N (part w 0)
+
+  pub lists-4 : start-right ≡ false → refused (refusalAt 4 0 0) ≡ listsAnswer w N M
+  unfolding listsAnswer
+  lists-4 h = question-no 4 start-right _ h
+
+  module _ (q4 : start-right ≡ true) where
+    pub lists-5 : literalList N (part w 1) ≡ false → refused (refusalAt 5 0 0) ≡ listsAnswer w N M
+    unfolding listsAnswer
+    lists-5 h = question-no 5 (literalList N (part w 1)) _ h ∙ question-yes 4 start-right _ q4
+
+    pub lists-rest : literalList N (part w 1) ≡ true → verdict (readOperators N w 0 M) ≡ listsAnswer w N M
+    unfolding listsAnswer
+    lists-rest h = question-yes 5 (literalList N (part w 1)) _ h ∙ question-yes 4 start-right _ q4
+
 module _ (w : List ℕ) where
+  pub parts-3 : directory w (getD w 1 0 + 2) ≡ false → refused (refusalAt 3 0 0) ≡ partsAnswer w
+  unfolding partsAnswer
+  parts-3 h = question-no 3 (directory w (getD w 1 0 + 2)) _ h
+
+  pub parts-rest : directory w (getD w 1 0 + 2) ≡ true → listsAnswer w (getD w 0 0) (getD w 1 0) ≡ partsAnswer w
+  unfolding partsAnswer
+  parts-rest h = question-yes 3 (directory w (getD w 1 0 + 2)) _ h
+
   pub read-1 : sizeRight w ≡ false → refused (refusalAt 1 0 0) ≡ verdict (readTask w)
   unfolding readTask sizeRight verdict ask askAt _>>=_
   read-1 h = rw h
@@ -101,24 +132,22 @@ module _ (w : List ℕ) where
     unfolding readTask sizeRight countsRight verdict ask askAt _>>=_
     read-2 h = rw (q1, h)
 
-    module _ (q2 : countsRight w ≡ true) where
-      pub read-3 : directory w (getD w 1 0 + 2) ≡ false → refused (refusalAt 3 0 0) ≡ verdict (readTask w)
-      unfolding readTask sizeRight countsRight verdict ask askAt _>>=_
-      read-3 h = rw (q1, q2, h)
-
-      module _ (q3 : directory w (getD w 1 0 + 2) ≡ true) where
-        pub read-4 : (ascending (part w 0) && allBelow (getD w 0 0) (part w 0)) ≡ false → refused (refusalAt 4 0 0) ≡ verdict (readTask w)
-        unfolding readTask sizeRight countsRight verdict ask askAt _>>=_
-        read-4 h = rw (q1, q2, q3, h)
-
-        module _ (q4 : (ascending (part w 0) && allBelow (getD w 0 0) (part w 0)) ≡ true) where
-          pub read-5 : literalList (getD w 0 0) (part w 1) ≡ false → refused (refusalAt 5 0 0) ≡ verdict (readTask w)
-          unfolding readTask sizeRight countsRight verdict ask askAt _>>=_
-          read-5 h = rw (q1, q2, q3, q4, h)
-
-          pub read-6 : literalList (getD w 0 0) (part w 1) ≡ true → verdict (readOperators (getD w 0 0) w 0 (getD w 1 0)) ≡ verdict (readTask w)
-          unfolding readTask sizeRight countsRight ask askAt _>>=_
-          read-6 h = rw (q1, q2, q3, q4, h) (sym (verdict-bind (readOperators (getD w 0 0) w 0 (getD w 1 0)) (λ os. record { atoms = getD w 0 0; initial = part w 0; goal = part w 1; operators = os })))
+    pub read-rest : countsRight w ≡ true → partsAnswer w ≡ verdict (readTask w)
+    unfolding readTask sizeRight countsRight partsAnswer listsAnswer
+    read-rest h =
+        sym
+        (verdict-asked 1 (sizeRight w) _
+        ∙ sym (question-yes 1 (sizeRight w) _ q1)
+        ∙ verdict-asked 2 (countsRight w) _
+        ∙ sym (question-yes 2 (countsRight w) _ h)
+        ∙ verdict-asked 3 (directory w (getD w 1 0 + 2)) _
+        ∙ ap (λ (a : Answer (Unit {0})). ask 3 (directory w (getD w 1 0 + 2)) >>= λ _. a)
+        (verdict-asked 4 (ascending (part w 0) && allBelow (getD w 0 0) (part w 0)) _
+        ∙ ap (λ (a : Answer (Unit {0})). ask 4 (ascending (part w 0) && allBelow (getD w 0 0) (part w 0)) >>= λ _. a)
+        (verdict-asked 5 (literalList (getD w 0 0) (part w 1)) _
+        ∙ ap (λ (a : Answer (Unit {0})). ask 5 (literalList (getD w 0 0) (part w 1)) >>= λ _. a)
+        (verdict-bind (readOperators (getD w 0 0) w 0 (getD w 1 0))
+        (λ os. record { atoms = getD w 0 0; initial = part w 0; goal = part w 1; operators = os })))))
 
 -- ---- an image that reads as a task
 found-is : (a : Answer Task) → verdict a ≡ finding tt → a ≡ finding (taskIn a)
@@ -150,9 +179,9 @@ operators-read n w (suc k) i os e =
 pub record TaskRead (w : List ℕ) (t : Task) : Type 0 where
   pub room : 6 ≤ length w
   pub atoms : t .atoms ≡ getD w 0 0
-  pub few : t .atoms ≤ 1024
+  pub few : t .atoms ≤ mostAtoms
   pub count : length (t .operators) ≡ getD w 1 0
-  pub few-operators : length (t .operators) ≤ 1024
+  pub few-operators : length (t .operators) ≤ mostOperators
   pub directory : directory w (getD w 1 0 + 2) ≡ true
   pub initial : t .initial ≡ part w 0
   pub initial-right : (ascending (t .initial) && allBelow (t .atoms) (t .initial)) ≡ true
@@ -205,11 +234,3 @@ module _ (w : List ℕ) (r : Reads w) (i : ℕ) (below : i < length (taskOf w .o
   pub operator-right : operatorRight (taskOf w .atoms) (operatorAt (taskOf w) i) ≡ true
   unfolding operatorAt
   operator-right = read-right w (taskOf w) (r .found) .operators (operatorAt (taskOf w) i) (getD-mem (taskOf w .operators) i noOperator below)
-
--- the tests of the parts, by the code's own values
-module _ (w xs : List ℕ) (n : ℕ) (r : Bool) (en : n ≡ getD w 0 0) where
-  pub initial-test : xs ≡ part w 0 → r ≡ (ascending xs && allBelow n xs) → r ≡ (ascending (part w 0) && allBelow (getD w 0 0) (part w 0))
-  initial-test ex er = rw (← en, ← ex) er
-
-  pub goal-test : xs ≡ part w 1 → r ≡ literalList n xs → r ≡ literalList (getD w 0 0) (part w 1)
-  goal-test ex er = rw (← en, ← ex) er

@@ -1,12 +1,19 @@
 -- What the accessors of an image and of a block ensure. Assumes nothing.
-use Prim.Native.Nat.{ℕ, _+_, _-_, _≤_}
+use Prim.Native.Nat.{ℕ, _+_, _-_, _≤_, _<_}
 use mathlib.Core.Path.{_≡_}
 use mathlib.Core.Bool.{true}
 use mathlib.Core.List.{List, _∷_}
 use lib.ListN.{length, take, drop}
-use Rattle.definitions.specs.Image.{Operator, Task}
+use Rattle.definitions.specs.Literal.{mostAtoms}
+use Rattle.definitions.specs.Image.{mostOperators, Operator, Task, directory}
 use Rattle.definitions.specs.Step.{operatorAt}
 use Rattle.task.specs.Walk.{row, blockParses, operatorIn, parsesAt, rowsAt}
+
+-- an image of so many atoms and operators, with a right directory
+pub record Laid (w : List ℕ) (atoms operators : ℕ) : Type 0 where
+  pub few : atoms ≤ mostAtoms
+  pub few-operators : operators ≤ mostOperators
+  pub directory : directory w (operators + 2) ≡ true
 
 -- b is the block of operator i of t
 pub record BlockGiven (b : List ℕ) (t : Task) (i : ℕ) : Type 0 where
@@ -26,5 +33,6 @@ pub record RowRead (b : List ℕ) (p k effect from end : ℕ) : Type 0 where
   pub low : from ≤ end
   pub high : end ≤ length b
   pub on : p ≤ end
+  pub word : effect < 65536
   pub next : parsesAt b end (k - 1) ≡ true
   pub row : rowsAt b p k ≡ row effect (take (end - from) (drop from b)) ∷ rowsAt b end (k - 1)

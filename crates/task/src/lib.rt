@@ -1,91 +1,118 @@
 // Reading of a task image (questions 1 to 7), and access to the parts of an image that reads as a task.
 ghost use mathlib.Core.Path.{_≡_};
 ghost use mathlib.Core.Bool.{true};
-ghost use Prim.Native.Nat.{_+_, _≤_, _<_};
-ghost use lib.ListN.{length, getD};
+ghost use Prim.Native.Nat.{_≤_, _<_};
+ghost use lib.ListN.{length};
 ghost use Rattle.definitions.specs.Answer.{verdict};
-ghost use Rattle.definitions.specs.Image.{directory, readOperators, readTask};
+ghost use Rattle.definitions.specs.Literal.{mostAtoms};
+ghost use Rattle.definitions.specs.Image.{mostOperators, readOperators, readTask};
 ghost use Rattle.answer.specs.Answer.{verdictAnswer};
 ghost use Rattle.task.specs.Reads.{taskOf, Reads};
-ghost use Rattle.task.specs.Walk.{sizeRight, countsRight};
-ghost use Rattle.task.specs.Post.{BlockGiven};
+ghost use Rattle.task.specs.Walk.{sizeRight, countsRight, listsAnswer, partsAnswer};
+ghost use Rattle.task.specs.Post.{Laid, BlockGiven};
+use answer::Refusal;
+use answer::Verdict;
 
 pub mod block; // block.rt: the block of one operator
 
+// The most words of a task image.
+pub const MOST_WORDS: usize = 8192;
+
+// The most operators of a task.
+pub const MOST_OPERATORS: usize = 1024;
+
+// Question 1.
 fn is_size(image: &[u16]) -> bool
     ensures { λ r. ⌜ r ≡ sizeRight (now (image .entry)) ⌝ }
 {
     if image.len() < 6 {
         return false;
     }
-    image.len() <= 8192
+    image.len() <= MOST_WORDS
 }
 
+// Question 2.
 fn are_counts(image: &[u16]) -> bool
     requires { ⌜ 6 ≤ length (now image) ⌝ }
     ensures { λ r. ⌜ r ≡ countsRight (now (image .entry)) ⌝ }
 {
-    if image[0] < 1 {
+    let atoms = literal::wide(image[0]);
+    if atoms < 1 {
         return false;
     }
-    if 1024 < image[0] {
+    if literal::MOST_ATOMS < atoms {
         return false;
     }
-    image[1] <= 1024
+    literal::wide(image[1]) <= MOST_OPERATORS
 }
 
-// Questions 6 and 7 of the `m` operators of an image with `n` atoms, one operator before the next.
-fn check_operators(image: &[u16], n: usize, m: usize) -> answer::Verdict
-    requires { ⌜ (n ≤ 1024) × (m ≤ 1024) × (directory (now image) (m + 2) ≡ true) ⌝ }
-    ensures { λ r. ⌜ verdictAnswer r ≡ verdict (readOperators n (now (image .entry)) 0 m) ⌝ }
+// Questions 6 and 7 of the operators of an image, one operator before the next.
+fn check_operators(image: &[u16], atoms: usize, operators: usize) -> Verdict
+    requires { ⌜ Laid (now image) atoms operators ⌝ }
+    ensures { λ r. ⌜ verdictAnswer r ≡ verdict (readOperators atoms (now (image .entry)) 0 operators) ⌝ }
 {
     let mut i: usize = 0;
-    while i < m {
-        let checked = block::check(directory::part(image, i + 2), n, i);
+    while i < operators {
+        let checked = block::check(directory::part(image, i + 2), atoms, i);
         match checked {
-            answer::Verdict::Refused(f) => {
-                return answer::Verdict::Refused(f);
+            Verdict::Refused(f) => {
+                return Verdict::Refused(f);
             }
-            answer::Verdict::Fine => {}
+            Verdict::Fine => {}
         }
         i += 1;
     }
-    answer::Verdict::Fine
+    Verdict::Fine
+}
+
+// Questions 4 to 7: the lists of an image, and its operators.
+fn read_lists(image: &[u16], atoms: usize, operators: usize) -> Verdict
+    requires { ⌜ Laid (now image) atoms operators ⌝ }
+    ensures { λ r. ⌜ verdictAnswer r ≡ listsAnswer (now (image .entry)) atoms operators ⌝ }
+{
+    let initial = literal::is_atom_list(directory::part(image, 0), atoms);
+    if !initial {
+        return answer::refuse(Refusal::INITIAL);
+    }
+    let goal = literal::is_literal_list(directory::part(image, 1), atoms);
+    if !goal {
+        return answer::refuse(Refusal::GOAL);
+    }
+    check_operators(image, atoms, operators)
+}
+
+// Questions 3 to 7: the directory of an image, and its parts.
+fn read_parts(image: &[u16]) -> Verdict
+    requires { ⌜ (6 ≤ length (now image)) × (countsRight (now image) ≡ true) ⌝ }
+    ensures { λ r. ⌜ verdictAnswer r ≡ partsAnswer (now (image .entry)) ⌝ }
+{
+    let operators = literal::wide(image[1]);
+    let laid = directory::is_directory(image, operators + 2);
+    if !laid {
+        return answer::refuse(Refusal::DIRECTORY);
+    }
+    read_lists(image, literal::wide(image[0]), operators)
 }
 
 // Reads an image: questions 1 to 7.
-pub fn read(image: &[u16]) -> answer::Verdict
+pub fn read(image: &[u16]) -> Verdict
     ensures { λ r. ⌜ verdictAnswer r ≡ verdict (readTask (now (image .entry))) ⌝ }
 {
     let size = is_size(image);
     if !size {
-        return answer::refuse(answer::Refusal::IMAGE_SIZE);
+        return answer::refuse(Refusal::IMAGE_SIZE);
     }
     let counts = are_counts(image);
     if !counts {
-        return answer::refuse(answer::Refusal::COUNTS);
+        return answer::refuse(Refusal::COUNTS);
     }
-    let n = literal::wide(image[0]);
-    let m = literal::wide(image[1]);
-    let right = directory::is_directory(image, m + 2);
-    if !right {
-        return answer::refuse(answer::Refusal::DIRECTORY);
-    }
-    let initial = literal::is_atom_list(directory::part(image, 0), n);
-    if !initial {
-        return answer::refuse(answer::Refusal::INITIAL);
-    }
-    let goal = literal::is_literal_list(directory::part(image, 1), n);
-    if !goal {
-        return answer::refuse(answer::Refusal::GOAL);
-    }
-    check_operators(image, n, m)
+    read_parts(image)
 }
 
 // The number of atoms of an image that reads as a task.
 pub fn atoms(image: &[u16]) -> usize
     requires { ⌜ Reads (now image) ⌝ }
-    ensures { λ r. ⌜ (r ≡ taskOf (now (image .entry)) .atoms) × (r ≤ 1024) ⌝ }
+    ensures { λ r. ⌜ (r ≡ taskOf (now (image .entry)) .atoms) × (r ≤ mostAtoms) ⌝ }
 {
     literal::wide(image[0])
 }
@@ -93,7 +120,7 @@ pub fn atoms(image: &[u16]) -> usize
 // The number of operators of an image that reads as a task.
 pub fn operators(image: &[u16]) -> usize
     requires { ⌜ Reads (now image) ⌝ }
-    ensures { λ r. ⌜ (r ≡ length (taskOf (now (image .entry)) .operators)) × (r ≤ 1024) ⌝ }
+    ensures { λ r. ⌜ (r ≡ length (taskOf (now (image .entry)) .operators)) × (r ≤ mostOperators) ⌝ }
 {
     literal::wide(image[1])
 }

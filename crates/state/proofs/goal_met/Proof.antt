@@ -1,20 +1,25 @@
+-- `state::goal_met`: the questions up to 18, then the test of the goal.
 use mathlib.Core.Path.{_≡_, sym, ap, _∙_}
 use Rattle.definitions.specs.Answer.{finding}
+use Rattle.definitions.specs.Literal.{allTrue}
+use Rattle.definitions.specs.Step.{goalTask}
 use Rattle.answer.specs.Answer.{placed, verdictAnswer}
-use Rattle.state.specs.Post.{stateAnswer}
-use Rattle.state.proofs.Calls.{standing, goal-rest, goal-refused}
+use Rattle.answer.specs.Reader.{stateAnswer}
+use Rattle.answer.proofs.ReaderCalls.{goal-rest, goal-refused}
+use Rattle.state.specs.Post.{taskReader}
+use Rattle.state.proofs.Calls.{standing}
 use borrow.Author.Needs.{needs}
 use Rattle.state.proofs.goal_met.Statement.{statement}
 use Rattle.state.proofs.goal_met.Tie as tie
 
--- where the state is a state of the task: the call that read it, and the start
+-- where the image and the state were read, and the start
 abbrev read : tie.After-enum-told → tie.After-read-state
 read c = c .before .before
 
 abbrev start : tie.After-read-state → tie.Start
 start c = c .before .before .before
 
-fine : (c : tie.After-enum-told) → let s = start (read c) .args in finding tt ≡ stateAnswer (s .image .now) (s .state .now)
+fine : (c : tie.After-enum-told) → let s = start (read c) .args in finding tt ≡ stateAnswer taskReader (s .image .now) (s .state .now)
 fine c = ap verdictAnswer (sym (c .enum-told .given .1)) ∙ read c .read-state .ensures
 
 read-state-requires : tie.Need-read-state-requires
@@ -36,15 +41,19 @@ whether-requires : tie.Need-whether-requires
 whether-requires c κs = search needs
 
 returns : tie.Need-returns
+unfolding goalTask
 returns c =
     let f = c .before .reading .given in
-    goal-refused _ _ (placed (f .0 .0)) (ap verdictAnswer (sym (f .1)) ∙ c .before .before .before .read-state .ensures)
+    goal-refused taskReader _ _ (placed (f .0 .0)) (ap verdictAnswer (sym (f .1)) ∙ c .before .before .before .read-state .ensures)
 
 returns-2 : tie.Need-returns-2
+unfolding goalTask
 returns-2 c =
     let t = c .before in
     let g = t .before in
-    c .whether .ensures ∙ goal-rest _ _ (fine (g .before)) _ _ (g .goal .ensures) (t .all-true .ensures)
+    let y = fine (g .before) in
+    c .whether .ensures
+    ∙ goal-rest taskReader _ _ y _ (standing _ _ y .reads .found) _ (t .all-true .ensures ∙ ap (allTrue _) (g .goal .ensures))
 
 pub goal-met-spec : {M : Type 1} → statement M
 goal-met-spec =

@@ -1,14 +1,31 @@
+-- `state::read_state`: the questions of the image, then 18.
+use Prim.Native.Nat.{ℕ}
 use mathlib.Core.Path.{_≡_, sym, ap, _∙_}
+use borrow.Author.Tests.{not-true, not-false}
+use Rattle.definitions.specs.Literal.{isState}
 use Rattle.answer.specs.Answer.{placed, verdictAnswer}
-use Rattle.task.specs.Reads.{Reads}
+use Rattle.answer.proofs.ReaderCalls.{first-refused, first-fine, first-not}
+use Rattle.task.specs.Reads.{taskOf, Reads}
 use Rattle.task.proofs.Questions.{reads}
-use Rattle.state.proofs.Calls.{first-refused, first-fine, first-not}
+use Rattle.state.specs.Post.{taskReader}
 use borrow.Author.Needs.{needs}
 use Rattle.state.proofs.read_state.Statement.{statement}
 use Rattle.state.proofs.read_state.Tie as tie
 
-read-fine : (c : tie.After-enum-told) → Reads (c .before .before .before .before .before .args .image .now)
+-- where the image was read, and the start
+abbrev start : tie.After-read → tie.Start
+start c = c .before .before .before
+
+read-fine : (c : tie.After-enum-told) → Reads (start (c .before .before) .args .image .now)
 read-fine c = reads _ (ap verdictAnswer (sym (c .enum-told .given .1)) ∙ c .before .before .read .ensures)
+
+-- the test of the state, by the task
+right-is :
+    (c : tie.After-is-state) → let s = start (c .before .before .before .before) .args in
+    c .is-state .result ≡ isState (taskOf (s .image .now) .atoms) (s .state .now)
+right-is c =
+    let s = start (c .before .before .before .before) .args .state .now in
+    c .is-state .ensures ∙ ap (λ (n : ℕ). isState n s) (c .before .atoms .ensures .0)
 
 read-requires : tie.Need-read-requires
 read-requires c κs = search needs
@@ -30,14 +47,18 @@ refuse-requires c κs = search needs
 
 returns : tie.Need-returns
 returns c =
-    let f = c .before .reading .given in
-    first-refused _ _ (placed (f .0 .0)) (ap verdictAnswer (sym (f .1)) ∙ c .before .before .before .read .ensures)
+    let t = c .before .before in
+    c .refuse .ensures ∙ first-not taskReader _ _ _ (read-fine (t .before .before) .found) _ (right-is t) (not-true _ (c .before .if1 .taken))
 
 returns-2 : tie.Need-returns-2
-returns-2 c = first-fine _ _ _ _ (read-fine (c .before .before .before)) (c .before .before .atoms .ensures .0) (c .before .is-state .ensures) (c .if1 .taken)
+returns-2 c =
+    let f = c .before .reading .given in
+    first-refused taskReader _ _ (placed (f .0 .0)) (ap verdictAnswer (sym (f .1)) ∙ c .before .before .before .read .ensures)
 
 returns-3 : tie.Need-returns-3
-returns-3 c = c .refuse .ensures ∙ first-not _ _ _ _ (read-fine (c .before .before .before .before)) (c .before .before .before .atoms .ensures .0) (c .before .before .is-state .ensures) (c .before .if1 .left)
+returns-3 c =
+    let t = c .before in
+    first-fine taskReader _ _ _ (read-fine (t .before .before) .found) _ (right-is t) (not-false _ (c .if1 .left))
 
 pub read-state-spec : {M : Type 1} → statement M
 read-state-spec =

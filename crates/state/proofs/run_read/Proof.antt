@@ -1,16 +1,24 @@
+-- `state::run_read`: the marks that are lent are zeros.
 use mathlib.Core.Path.{_≡_, sym, ap, _∙_}
-use mathlib.Core.List.{List}
 use Prim.Native.Nat.{ℕ, _*_}
 use native.Mathlib.Omega.{arith}
 use lib.ListN.{replicate}
 use lib.Seq.{length-take-le}
+use Rattle.definitions.specs.Literal.{mostLiterals}
 use Rattle.state.proofs.Marks.{take-zeros}
 use borrow.Author.Needs.{needs}
 use Rattle.state.proofs.run_read.Statement.{statement}
 use Rattle.state.proofs.run_read.Tie as tie
 
-zeros : List ℕ
-zeros = replicate 2048 0
+-- where the atoms were counted, and the start
+abbrev counted : tie.After-marks → tie.After-atoms
+counted c = c .before .before
+
+abbrev at-shared-slice : tie.After-atoms → tie.After-shared-slice-known
+at-shared-slice c = c .before .before .before
+
+abbrev start : tie.After-atoms → tie.Start
+start c = at-shared-slice c .before
 
 atoms-requires : tie.Need-atoms-requires
 atoms-requires c κs = search needs
@@ -22,11 +30,12 @@ array-borrow-prefix-marks : tie.Need-array-borrow-prefix-marks
 array-borrow-prefix-marks c = search needs
 
 slice-aggregate-run-marked : tie.Need-slice-aggregate-run-marked
-unfolding zeros
-slice-aggregate-run-marked c = sym (length-take-le (2 * c .before .before .atoms .result) zeros (omega arith))
+slice-aggregate-run-marked c = sym (length-take-le (2 * counted c .atoms .result) (replicate {A = ℕ} mostLiterals 0) (omega arith))
 
 run-marked-requires : tie.Need-run-marked-requires
-run-marked-requires c κs = (c .before .before .before .before .before .before .pre, take-zeros (2 * c .before .before .atoms .result) 2048 (omega arith) ∙ ap (λ (k : ℕ). replicate (2 * k) 0) (c .before .before .atoms .ensures .0))
+run-marked-requires c κs =
+    let n = counted c in
+    (start n .pre, take-zeros (2 * n .atoms .result) mostLiterals (omega arith) ∙ ap (λ (k : ℕ). replicate (2 * k) 0) (n .atoms .ensures .0))
 
 same-length : tie.Need-same-length
 same-length c = search needs

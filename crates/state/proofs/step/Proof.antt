@@ -1,14 +1,28 @@
+-- `state::step`: the questions up to 18, then the step.
 use mathlib.Core.Path.{_≡_, sym, ap, _∙_}
 use Rattle.definitions.specs.Answer.{finding}
+use Rattle.definitions.specs.Step.{stepTask}
 use Rattle.answer.specs.Answer.{placed, verdictAnswer}
-use Rattle.state.specs.Post.{stateAnswer}
-use Rattle.state.proofs.Calls.{standing, step-rest, step-refused}
+use Rattle.answer.specs.Reader.{stateAnswer}
+use Rattle.answer.proofs.ReaderCalls.{step-rest, step-refused}
+use Rattle.state.specs.Post.{taskReader}
+use Rattle.state.proofs.Calls.{standing}
 use borrow.Author.Needs.{needs}
 use Rattle.state.proofs.step.Statement.{statement}
 use Rattle.state.proofs.step.Tie as tie
 
-fine : (c : tie.After-enum-told) → finding tt ≡ stateAnswer (c .before .before .before .before .before .before .args .image .now) (c .before .before .before .before .before .before .args .state .now)
-fine c = ap verdictAnswer (sym (c .enum-told .given .1)) ∙ c .before .before .read-state .ensures
+-- where the image and the state were read, and the start
+abbrev read : tie.After-enum-told → tie.After-read-state
+read c = c .before .before
+
+abbrev at-shared-slice : tie.After-read-state → tie.After-shared-slice-known
+at-shared-slice c = c .before .before .before
+
+abbrev start : tie.After-read-state → tie.Start
+start c = at-shared-slice c .before
+
+fine : (c : tie.After-enum-told) → let s = start (read c) .args in finding tt ≡ stateAnswer taskReader (s .image .now) (s .state .now)
+fine c = ap verdictAnswer (sym (c .enum-told .given .1)) ∙ read c .read-state .ensures
 
 read-state-requires : tie.Need-read-state-requires
 read-state-requires c κs = search needs
@@ -26,15 +40,20 @@ same-length : tie.Need-same-length
 same-length c = search needs
 
 returns : tie.Need-returns
+unfolding stepTask
 returns c =
     let f = c .before .reading .given in
-    step-refused _ _ (placed (f .0 .0)) (ap verdictAnswer (sym (f .1)) ∙ c .before .before .before .read-state .ensures) _
+    step-refused taskReader _ _ (placed (f .0 .0)) (ap verdictAnswer (sym (f .1)) ∙ c .before .before .before .read-state .ensures) _
 
 same-length-2 : tie.Need-same-length-2
 same-length-2 c = search needs
 
 returns-2 : tie.Need-returns-2
-returns-2 c = c .before .before .step-read .ensures ∙ step-rest _ _ (fine (c .before .before .before .before)) _
+unfolding stepTask
+returns-2 c =
+    let d = c .before .before in
+    let y = fine (d .before .before) in
+    d .step-read .ensures ∙ step-rest taskReader _ _ y _ (standing _ _ y .reads .found) _
 
 pub step-spec : {M : Type 1} → statement M
 step-spec =

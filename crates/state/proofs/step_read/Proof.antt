@@ -1,10 +1,11 @@
+-- `state::step_read`: the marks that are lent are zeros.
 use mathlib.Core.Path.{_≡_, sym, ap, _∙_}
-use mathlib.Core.List.{List}
 use Prim.Native.Nat.{ℕ, _*_}
 use native.Mathlib.Omega.{arith}
 use lib.ListN.{replicate}
 use lib.Seq.{length-take-le}
 use Rattle.definitions.specs.Answer.{becomes}
+use Rattle.definitions.specs.Literal.{mostLiterals}
 use Rattle.definitions.specs.Step.{step}
 use Rattle.task.specs.Reads.{taskOf}
 use Rattle.state.proofs.Marks.{take-zeros}
@@ -12,8 +13,19 @@ use borrow.Author.Needs.{needs}
 use Rattle.state.proofs.step_read.Statement.{statement}
 use Rattle.state.proofs.step_read.Tie as tie
 
-zeros : List ℕ
-zeros = replicate 2048 0
+-- where the atoms were counted, and the start
+abbrev counted : tie.After-marks → tie.After-atoms
+counted c = c .before .before .before
+
+abbrev start : tie.After-atoms → tie.Start
+start c = c .before .before .before
+
+-- where the step was made
+abbrev stepped : tie.After-marks2 → tie.After-step-marked
+stepped c = c .before .before .before
+
+abbrev lent : tie.After-step-marked → tie.After-marks
+lent c = c .before
 
 atoms-requires : tie.Need-atoms-requires
 atoms-requires c κs = search needs
@@ -28,19 +40,23 @@ array-borrow-prefix-marks : tie.Need-array-borrow-prefix-marks
 array-borrow-prefix-marks c = search needs
 
 slice-aggregate-step-marked : tie.Need-slice-aggregate-step-marked
-unfolding zeros
-slice-aggregate-step-marked c = sym (length-take-le (2 * c .before .before .before .atoms .result) zeros (omega arith))
+slice-aggregate-step-marked c = sym (length-take-le (2 * counted c .atoms .result) (replicate {A = ℕ} mostLiterals 0) (omega arith))
 
 step-marked-requires : tie.Need-step-marked-requires
-step-marked-requires c κs = (c .before .before .before .before .before .before .pre, take-zeros (2 * c .before .before .before .atoms .result) 2048 (omega arith) ∙ ap (λ (k : ℕ). replicate (2 * k) 0) (c .before .before .before .atoms .ensures .0))
+step-marked-requires c κs =
+    let n = counted c in
+    (start n .pre, take-zeros (2 * n .atoms .result) mostLiterals (omega arith) ∙ ap (λ (k : ℕ). replicate (2 * k) 0) (n .atoms .ensures .0))
 
 same-length : tie.Need-same-length
 same-length c = search needs
 
 returns : tie.Need-returns
 returns c =
-    let a = c .before .before .before .before .before .before .before .before .before .before .args in
-    c .before .before .before .step-marked .ensures .0 ∙ ap (λ (i : ℕ). becomes (a .state .now) (step (taskOf (a .image .now)) (a .state .now) i)) (c .before .before .before .before .before .wide .ensures .0)
+    let d = stepped c in
+    let l = lent d in
+    let a = start (counted l) .args in
+    let s = a .state .now in
+    d .step-marked .ensures .0 ∙ ap (λ (i : ℕ). becomes s (step (taskOf (a .image .now)) s i)) (l .before .wide .ensures .0)
 
 pub step-read-spec : {M : Type 1} → statement M
 step-read-spec =

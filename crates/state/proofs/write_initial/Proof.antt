@@ -1,3 +1,4 @@
+-- `state::write_initial`: zeros, with the atoms of the initial list set.
 use mathlib.Core.Path.{_≡_, ap, _∙_}
 use mathlib.Core.List.{List}
 use Prim.Native.Nat.{ℕ}
@@ -7,6 +8,19 @@ use Rattle.state.proofs.Marks.{initial-made}
 use borrow.Author.Needs.{needs}
 use Rattle.state.proofs.write_initial.Statement.{statement}
 use Rattle.state.proofs.write_initial.Tie as tie
+
+-- the calls in order, and the start
+abbrev at-state : tie.After-initial → tie.After-state
+at-state c = c .before .before .before
+
+abbrev cleared : tie.After-initial → tie.After-clear
+cleared c = at-state c .before
+
+abbrev at-shared-slice : tie.After-clear → tie.After-shared-slice-known
+at-shared-slice c = c .before .before .before
+
+abbrev start : tie.After-clear → tie.Start
+start c = at-shared-slice c .before
 
 clear-requires : tie.Need-clear-requires
 clear-requires c κs = search needs
@@ -22,12 +36,21 @@ same-length c = search needs
 
 returns : tie.Need-returns
 returns c =
-    let s = c .before .before .before .before .before .before .before .before .before .before .before in
-    c .before .before .set-true .ensures
-    ∙ ap (λ (z : List ℕ). setTrue z (c .before .before .before .initial .result .now)) (c .before .before .before .before .before .before .before .clear .ensures)
-    ∙ ap (setTrue _) (c .before .before .before .initial .ensures)
+    let d = c .before .before in
+    let i = d .before in
+    let e = cleared i in
+    let s = start e in
+    d .set-true .ensures
+    ∙ ap (λ (z : List ℕ). setTrue z (i .initial .result .now)) (e .clear .ensures)
+    ∙ ap (setTrue _) (i .initial .ensures)
     ∙ initial-made (taskOf (s .args .image .now)) (s .args .state .now) (s .pre .1)
 
 pub write-initial-spec : {M : Type 1} → statement M
 write-initial-spec =
-    tie.close (tie.spec clear-requires initial-requires set-true-requires same-length returns)
+    tie.close
+    (tie.spec
+    clear-requires
+    initial-requires
+    set-true-requires
+    same-length
+    returns)

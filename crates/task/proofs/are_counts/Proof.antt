@@ -1,33 +1,48 @@
+use mathlib.Core.Path.{ap, _∙_}
+use Prim.Native.Nat.{ℕ}
+use native.Mathlib.Omega.{arith}
+use lib.Dec.{leb}
+use Rattle.definitions.specs.Image.{mostOperators}
 use Rattle.task.proofs.Questions.{counts-none, counts-many, counts-rest}
 use borrow.Author.Needs.{needs}
 use Rattle.task.proofs.are_counts.Statement.{statement}
 use Rattle.task.proofs.are_counts.Tie as tie
 
-shared-slice-read-if1 : tie.Need-shared-slice-read-if1
-shared-slice-read-if1 c = search needs
+shared-slice-read-wide : tie.Need-shared-slice-read-wide
+shared-slice-read-wide c = search needs
+
+wide-requires : tie.Need-wide-requires
+wide-requires c κs = search needs
 
 returns : tie.Need-returns
-returns c = counts-none _ (c .if1 .taken)
-
-shared-slice-read-if2 : tie.Need-shared-slice-read-if2
-shared-slice-read-if2 c = search needs
+returns c = counts-none _ (omega (arith, c .before .wide .ensures .0))
 
 returns-2 : tie.Need-returns-2
-returns-2 c = counts-many _ (c .before .before .if1 .left) (c .if2 .taken)
+returns-2 c =
+    let n = c .before .before in
+    counts-many _ (omega (arith, n .wide .ensures .0)) (omega (arith, n .wide .ensures .0))
 
-shared-slice-read-result : tie.Need-shared-slice-read-result
-shared-slice-read-result c = search needs
+shared-slice-read-wide-2 : tie.Need-shared-slice-read-wide-2
+shared-slice-read-wide-2 c = search needs
+
+wide-requires-2 : tie.Need-wide-requires-2
+wide-requires-2 c κs = search needs
 
 returns-3 : tie.Need-returns-3
-returns-3 c = counts-rest _ (c .before .before .before .if1 .left) (c .before .if2 .left)
+returns-3 c =
+    let e = c .before .before in
+    let n = e .before .before in
+    ap (λ (k : ℕ). leb k mostOperators) (c .wide2 .ensures .0)
+    ∙ counts-rest _ (omega (arith, n .wide .ensures .0)) (omega (arith, n .wide .ensures .0))
 
 pub are-counts-spec : {M : Type 1} → statement M
 are-counts-spec =
     tie.close
     (tie.spec
-    shared-slice-read-if1
+    shared-slice-read-wide
+    wide-requires
     returns
-    shared-slice-read-if2
     returns-2
-    shared-slice-read-result
+    shared-slice-read-wide-2
+    wide-requires-2
     returns-3)

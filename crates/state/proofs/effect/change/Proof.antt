@@ -1,5 +1,4 @@
 -- `state::effect::change`: the change by all rows is that by the rows that are left, of the state so far.
-use Prim.Native.Nat.{ℕ}
 use mathlib.Core.Path.{_≡_, refl, sym, ap, _∙_}
 use mathlib.Core.Bool.{true}
 use mathlib.Core.List.{List}
@@ -15,10 +14,26 @@ use Rattle.state.proofs.effect.change.Statement.{statement}
 use Rattle.state.proofs.effect.change.Tie as tie
 
 abbrev Inv-loop : tie.InvT-loop
-Inv-loop block marks state₀ at₀ left₀ state at left = (length state ≡ length state₀) × ((parsesAt block at left ≡ true) × (changed marks (operatorIn block .rows) state₀ ≡ changed marks (rowsAt block at left) state))
+Inv-loop block marks state₀ at₀ left₀ state at left =
+    (length state ≡ length state₀)
+    × (parsesAt block at left ≡ true)
+    × (changed marks (operatorIn block .rows) state₀ ≡ changed marks (rowsAt block at left) state)
 
 abbrev μ-loop : tie.MeasureT-loop
 μ-loop block marks state₀ at₀ left₀ state at left = left
+
+-- where the effect of a row was made true: the row, and the loop
+abbrev row-of : tie.After-make-true Inv-loop μ-loop → tie.After-row Inv-loop μ-loop
+row-of c = c .before .before .before
+
+abbrev loop-of : tie.After-row Inv-loop μ-loop → tie.At-loop Inv-loop μ-loop
+loop-of c = c .before .before
+
+abbrev at-shared-slice : tie.After-head Inv-loop μ-loop → tie.After-shared-slice-known Inv-loop μ-loop
+at-shared-slice c = c .before .before .before
+
+abbrev start : tie.After-head Inv-loop μ-loop → tie.Start Inv-loop μ-loop
+start c = at-shared-slice c .before
 
 head-requires : tie.Need-head-requires Inv-loop μ-loop
 head-requires c κs = search needs
@@ -28,15 +43,18 @@ add-at c = search needs
 
 loop-holds : tie.Need-loop-holds Inv-loop μ-loop
 loop-holds c =
-    let h = c .before .head .ensures in
-    let a = c .before .before .before .before .before .args in
-    (refl, (h .parses, ap (λ (rs : List Row). changed (a .marks .now) rs (a .state .now)) (sym (h .rows))))
+    let h = c .before in
+    let a = start h .args in
+    (refl, h .head .ensures .parses, ap (λ (rs : List Row). changed (a .marks .now) rs (a .state .now)) (sym (h .head .ensures .rows)))
 
 row-requires : tie.Need-row-requires Inv-loop μ-loop
-row-requires c κs = (c .before .loop .inv .1 .0, omega arith)
+row-requires c κs = (c .before .loop .inv .1, omega arith)
 
 has-requires : tie.Need-has-requires Inv-loop μ-loop
 has-requires c κs = search needs
+
+cast-t14 : tie.Need-cast-t14 Inv-loop μ-loop
+cast-t14 c = search needs
 
 make-true-requires : tie.Need-make-true-requires Inv-loop μ-loop
 make-true-requires c κs = search needs
@@ -49,9 +67,13 @@ loop-less c = search needs
 
 loop-again : tie.Need-loop-again Inv-loop μ-loop
 loop-again c =
-    let l = c .before .before .before .before .before .before .before .loop in
-    let r = c .before .before .before .before .before .row .ensures in
-    (omega (arith, c .before .before .make-true .kept .1 .0), (r .next, l .inv .1 .1 ∙ changed-turn _ _ _ _ (r .row) _ _ _ (c .before .before .before .before .has .ensures) (c .before .before .make-true .ensures)))
+    let m = c .before .before in
+    let r = row-of m in
+    let l = loop-of r in (
+      m .make-true .kept .1 .0 ∙ l .loop .inv .0,
+      r .row .ensures .next,
+      l .loop .inv .2 ∙ changed-turn _ _ _ _ (r .row .ensures .row) _ _ _ (m .before .before .has .ensures) (m .make-true .ensures),
+    )
 
 same-length : tie.Need-same-length Inv-loop μ-loop
 same-length c = c .before .loop .inv .0
@@ -59,7 +81,7 @@ same-length c = c .before .loop .inv .0
 returns : tie.Need-returns Inv-loop μ-loop
 returns c =
     let l = c .before .loop in
-    sym (l .inv .1 .1 ∙ changed-end _ _ (rows-none _ (l .at) (l .left) (omega arith)) _)
+    sym (l .inv .2 ∙ changed-end _ _ (rows-none _ (l .at) (l .left) (omega arith)) _)
 
 pub change-spec : {M : Type 1} → statement M
 change-spec =
@@ -72,6 +94,7 @@ change-spec =
     loop-holds
     row-requires
     has-requires
+    cast-t14
     make-true-requires
     sub-left
     loop-less

@@ -5,6 +5,13 @@ use borrow.Author.Needs.{needs}
 use Rattle.task.proofs.block.check.Statement.{statement}
 use Rattle.task.proofs.block.check.Tie as tie
 
+-- where the precondition was tested, and where its end is in the block
+abbrev tested : tie.After-check-rows → tie.After-is-literal-list
+tested c = c .before .before .before
+
+abbrev fits : tie.After-is-literal-list → tie.Else2
+fits c = c .before .before
+
 refuse-at-requires : tie.Need-refuse-at-requires
 refuse-at-requires c κs = search needs
 
@@ -54,7 +61,10 @@ check-rows-requires : tie.Need-check-rows-requires
 check-rows-requires c κs = search needs
 
 returns-3 : tie.Need-returns-3
-returns-3 c = block-rest _ _ _ _ _ _ _ (c .before .before .before .before .before .before .wide .ensures .0) (c .before .before .before .before .before .if2 .left) (c .before .before .before .is-literal-list .ensures) (c .before .wide2 .ensures .0) (c .check-rows .ensures)
+returns-3 c =
+    let t = tested c in
+    let e = fits t in
+    block-rest _ _ _ _ _ _ _ (e .before .wide .ensures .0) (e .if2 .left) (t .is-literal-list .ensures) (c .before .wide2 .ensures .0) (c .check-rows .ensures)
 
 pub check-spec : {M : Type 1} → statement M
 check-spec =

@@ -2,6 +2,7 @@
 use Prim.Native.Nat.{_≤_, _-_}
 use mathlib.Core.Path.{_≡_, refl, sym, _∙_}
 use native.Mathlib.Omega.{arith}
+use borrow.Author.Tests.{not-true, not-false}
 use lib.ListN.{length, drop}
 use Rattle.definitions.specs.Image.{rowsOf}
 use Rattle.task.specs.Walk.{rowsVerdict}
@@ -11,13 +12,32 @@ use Rattle.task.proofs.block.check_rows.Statement.{statement}
 use Rattle.task.proofs.block.check_rows.Tie as tie
 
 abbrev Inv-loop : tie.InvT-loop
-Inv-loop block from rows precondition n i at₀ left₀ right₀ at left right = (at ≤ length block) × (rowsVerdict n i precondition (rowsOf rows (drop from block)) ≡ rowsVerdict n i right (rowsOf left (drop at block)))
+Inv-loop block from rows precondition atoms i at₀ left₀ right₀ at left right =
+    (at ≤ length block)
+    × (rowsVerdict atoms i precondition (rowsOf rows (drop from block)) ≡ rowsVerdict atoms i right (rowsOf left (drop at block)))
 
 abbrev μ-loop : tie.MeasureT-loop
-μ-loop block from rows precondition n i at₀ left₀ right₀ at left right = left
+μ-loop block from rows precondition atoms i at₀ left₀ right₀ at left right = left
+
+-- where the words of a row were read: its effect, the loop, and the start
+abbrev effect-of : tie.After-wide2 Inv-loop μ-loop → tie.After-wide Inv-loop μ-loop
+effect-of c = c .before .before
+
+abbrev at-in-loop : tie.After-wide Inv-loop μ-loop → tie.In-loop Inv-loop μ-loop
+at-in-loop c = c .before .before .before
+
+abbrev loop-of : tie.After-wide Inv-loop μ-loop → tie.At-loop Inv-loop μ-loop
+loop-of c = at-in-loop c .before
+
+abbrev start : tie.At-loop Inv-loop μ-loop → tie.Start Inv-loop μ-loop
+start c = c .before .before
+
+-- where its conditions fit
+abbrev counted : tie.Else2 Inv-loop μ-loop → tie.After-wide2 Inv-loop μ-loop
+counted c = c .before
 
 loop-holds : tie.Need-loop-holds Inv-loop μ-loop
-loop-holds c = (omega arith, refl)
+loop-holds c = search needs
 
 sub-if1 : tie.Need-sub-if1 Inv-loop μ-loop
 sub-if1 c = search needs
@@ -27,8 +47,10 @@ refuse-at-requires c κs = search needs
 
 returns : tie.Need-returns Inv-loop μ-loop
 returns c =
-    let l = c .before .before .before .loop in
-    c .refuse-at .ensures ∙ verdict-short _ _ (l .right) (c .before .before .before .before .before .args .block .now) (l .at) (l .left) (l .left - 1) (omega arith) (c .before .if1 .taken) ∙ sym (l .inv .1)
+    let l = c .before .before .before in
+    c .refuse-at .ensures
+    ∙ verdict-short _ _ (l .loop .right) (start l .args .block .now) (l .loop .at) (l .loop .left) (l .loop .left - 1) (omega arith) (c .before .if1 .taken)
+    ∙ sym (l .loop .inv .1)
 
 mul-wide : tie.Need-mul-wide Inv-loop μ-loop
 mul-wide c = search needs
@@ -62,8 +84,12 @@ refuse-at-requires-2 c κs = search needs
 
 returns-2 : tie.Need-returns-2 Inv-loop μ-loop
 returns-2 c =
-    let l = c .before .before .before .before .before .before .before .before .loop in
-    c .refuse-at2 .ensures ∙ verdict-over _ _ (l .right) (c .before .before .before .before .before .before .before .before .before .before .args .block .now) (l .at) (l .left) (l .left - 1) (omega arith) _ (c .before .before .wide2 .ensures .0) (omega arith) (c .before .if2 .taken) ∙ sym (l .inv .1)
+    let w = c .before .before in
+    let l = loop-of (effect-of w) in
+    c .refuse-at2 .ensures
+    ∙ verdict-over _ _ (l .loop .right) (start l .args .block .now) (l .loop .at) (l .loop .left) (l .loop .left - 1) (omega arith)
+    _ (w .wide2 .ensures .0) (omega arith) (c .before .if2 .taken)
+    ∙ sym (l .loop .inv .1)
 
 add-end : tie.Need-add-end Inv-loop μ-loop
 add-end c = search needs
@@ -94,9 +120,14 @@ loop-less c = search needs
 
 loop-again : tie.Need-loop-again Inv-loop μ-loop
 loop-again c =
-    let l = c .before .before .before .before .before .before .before .before .before .before .loop in (
+    let e = c .before .before .before in
+    let w = counted e in
+    let f = effect-of w in
+    let l = loop-of f in (
       omega arith,
-      l .inv .1 ∙ verdict-turn _ _ (c .before .before .before .before .before .before .before .before .before .before .before .before .args .block .now) (l .at) (l .left) (l .right) _ _ _ _ (c .before .before .before .before .before .before .wide .ensures .0) (c .before .before .before .before .wide2 .ensures .0) (omega arith) (omega arith) (c .before .before .before .if2 .left) (c .before .is-row .ensures) (c .both .ensures),
+      l .loop .inv .1
+          ∙ verdict-turn _ _ (start l .args .block .now) (l .loop .at) (l .loop .left) (l .loop .right) _ _ _ _
+          (f .wide .ensures .0) (w .wide2 .ensures .0) (omega arith) (omega arith) (e .if2 .left) (c .before .is-row .ensures) (c .both .ensures),
     )
 
 refuse-at-requires-3 : tie.Need-refuse-at-requires-3 Inv-loop μ-loop
@@ -112,13 +143,16 @@ refuse-at-requires-4 c κs = search needs
 
 returns-4 : tie.Need-returns-4 Inv-loop μ-loop
 returns-4 c =
-    let l = c .before .before .before .loop in
-    verdict-right _ _ (l .right) _ (l .at) (l .left) (omega arith) (c .before .if3 .left) (c .if4 .taken) ∙ sym (l .inv .1)
+    let e = c .before .before in
+    let l = e .before .before .loop in
+    c .refuse-at4 .ensures
+    ∙ verdict-wrong _ _ (l .right) _ (l .at) (l .left) (omega arith) (e .if3 .left) (not-true _ (c .before .if4 .taken))
+    ∙ sym (l .inv .1)
 
 returns-5 : tie.Need-returns-5 Inv-loop μ-loop
 returns-5 c =
-    let l = c .before .before .before .before .loop in
-    c .refuse-at4 .ensures ∙ verdict-wrong _ _ (l .right) _ (l .at) (l .left) (omega arith) (c .before .before .if3 .left) (c .before .if4 .left) ∙ sym (l .inv .1)
+    let l = c .before .before .before .loop in
+    verdict-right _ _ (l .right) _ (l .at) (l .left) (omega arith) (c .before .if3 .left) (not-false _ (c .if4 .left)) ∙ sym (l .inv .1)
 
 pub check-rows-spec : {M : Type 1} → statement M
 check-rows-spec =
