@@ -16,7 +16,7 @@ use Rattle.definitions.proofs.AnswerLaws.{not-finding}
 use Rattle.definitions.proofs.ListLaws.{firstFail-none}
 use Rattle.definitions.proofs.Accepts.{none-false}
 use Rattle.checker.specs.Search.{falseAnswer}
-use Rattle.answer.proofs.Laws.{answer-of, lent-of, answered, left}
+use Rattle.definitions.proofs.AnswerLaws.{answer-of, lent-of, answered, left}
 use Rattle.agreement.specs.Same.{sameRefusal, sameAnswer, bothFound, sameUnit, sameBool, sameList, isFound, Both}
 
 -- ---- what a tested call says

@@ -1,6 +1,6 @@
 use mathlib.Core.Path.{ap, _∙_}
 use Rattle.exports.specs.Told.{toldVerdict}
-use Rattle.answer.proofs.Laws.{answered, left}
+use Rattle.definitions.proofs.AnswerLaws.{answered, left}
 use borrow.Author.Needs.{needs}
 use Rattle.exports.proofs.kb_decode.Statement.{statement}
 use Rattle.exports.proofs.kb_decode.Tie as tie

@@ -24,11 +24,10 @@ after-count-arg c = c .before .before
 
 returns : tie.Need-returns
 unfolding outcome
-returns c =
-    (
-      c .count .ensures ∙ ap toldCount (ap (λ (x : Outcome ℕ). x .answer) (after-run (after-count-arg c) .run .ensures)),
-      ap (λ (x : Outcome ℕ). x .lent) (after-run (after-count-arg c) .run .ensures),
-    )
+returns c = (
+  c .count .ensures ∙ ap toldCount (ap (λ (x : Outcome ℕ). x .answer) (after-run (after-count-arg c) .run .ensures)),
+  ap (λ (x : Outcome ℕ). x .lent) (after-run (after-count-arg c) .run .ensures),
+)
 
 pub kb-fdr-run-spec : {M : Type 1} → statement M
 kb-fdr-run-spec = tie.close (tie.spec run-requires count-requires same-length returns)

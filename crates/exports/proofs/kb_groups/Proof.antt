@@ -33,11 +33,10 @@ after-groups-from-count c = after-groups (after-target ((after-count-arg c)))
 
 returns : tie.Need-returns
 unfolding outcome
-returns c =
-    (
-      c .count .ensures ∙ ap toldCount (ap (λ (x : Outcome ℕ). x .answer) (after-groups-from-count c .groups .ensures)),
-      ap (λ (x : Outcome ℕ). x .lent) (after-groups-from-count c .groups .ensures),
-    )
+returns c = (
+  c .count .ensures ∙ ap toldCount (ap (λ (x : Outcome ℕ). x .answer) (after-groups-from-count c .groups .ensures)),
+  ap (λ (x : Outcome ℕ). x .lent) (after-groups-from-count c .groups .ensures),
+)
 
 pub kb-groups-spec : {M : Type 1} → statement M
 kb-groups-spec =

@@ -33,11 +33,10 @@ after-reencode-from-count c = after-reencode (after-target ((after-count-arg c))
 
 returns : tie.Need-returns
 unfolding outcome
-returns c =
-    (
-      c .count .ensures ∙ ap toldCount (ap (λ (x : Outcome ℕ). x .answer) (after-reencode-from-count c .reencode .ensures)),
-      ap (λ (x : Outcome ℕ). x .lent) (after-reencode-from-count c .reencode .ensures),
-    )
+returns c = (
+  c .count .ensures ∙ ap toldCount (ap (λ (x : Outcome ℕ). x .answer) (after-reencode-from-count c .reencode .ensures)),
+  ap (λ (x : Outcome ℕ). x .lent) (after-reencode-from-count c .reencode .ensures),
+)
 
 pub kb-reencode-spec : {M : Type 1} → statement M
 kb-reencode-spec =

@@ -42,11 +42,10 @@ after-synthesize-from-made c = after-synthesize-from-made-arg (after-made-arg c)
 
 returns : tie.Need-returns
 unfolding outcome
-returns c =
-    (
-      c .made .ensures ∙ ap toldMade (ap (λ (x : Outcome Made). x .answer) (after-synthesize-from-made c .synthesize .ensures)),
-      ap (λ (x : Outcome Made). x .lent) (after-synthesize-from-made c .synthesize .ensures),
-    )
+returns c = (
+  c .made .ensures ∙ ap toldMade (ap (λ (x : Outcome Made). x .answer) (after-synthesize-from-made c .synthesize .ensures)),
+  ap (λ (x : Outcome Made). x .lent) (after-synthesize-from-made c .synthesize .ensures),
+)
 
 pub kb-synthesize-spec : {M : Type 1} → statement M
 kb-synthesize-spec =

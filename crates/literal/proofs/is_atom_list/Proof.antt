@@ -62,11 +62,10 @@ loop-less c = search needs
 
 loop-again : tie.Need-loop-again Inv-loop μ-loop
 loop-again c =
-    let at-test = in-loop (after-wide-of-else2 c) in
-    (
+    let at-test = in-loop (after-wide-of-else2 c) in (
       search needs,
       at-test .before .loop .inv .1
-      ∙ ascends-on _ _ _ _ _ _ (c .before .before .wide .ensures .0) (at-test .loop-test .taken) (c .before .if1 .left) (c .if2 .left),
+          ∙ ascends-on _ _ _ _ _ _ (c .before .before .wide .ensures .0) (at-test .loop-test .taken) (c .before .if1 .left) (c .if2 .left),
     )
 
 returns-3 : tie.Need-returns-3 Inv-loop μ-loop

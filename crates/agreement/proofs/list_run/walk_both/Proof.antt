@@ -3,7 +3,8 @@ use Prim.Native.Nat.{_-_}
 use mathlib.Core.Path.{sym, ap}
 use lib.ListN.{length}
 use Rattle.answer.specs.Answer.{placed, verdictAnswer}
-use Rattle.answer.proofs.Laws.{outcome-of, left}
+use Rattle.definitions.proofs.AnswerLaws.{left}
+use Rattle.answer.proofs.Laws.{outcome-of}
 use Rattle.agreement.proofs.Taken.{Walking, walking-start, walking-end, walking-stop, walking-on}
 use borrow.Author.Needs.{needs}
 use Rattle.agreement.proofs.list_run.walk_both.Statement.{statement}
