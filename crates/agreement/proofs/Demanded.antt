@@ -23,7 +23,8 @@ use Rattle.definitions.specs.Encoding.{encode, encodedImage, encodeCall}
 use Rattle.definitions.specs.Agreement.{initialValues, by-run, taskEnd, fdrEnd, SameState, InStep, Agreement}
 use Rattle.definitions.specs.Demand3.{Reencoded}
 use Rattle.definitions.proofs.ListLaws.{and-both, and-left}
-use Rattle.definitions.proofs.CheckSound.{bind-of, ask-of, not-finding, same-finding, check-right}
+use Rattle.definitions.proofs.AnswerLaws.{bind-of, ask-of, not-finding, same-finding}
+use Rattle.definitions.proofs.CheckSound.{check-right}
 use Rattle.definitions.proofs.Agreement.{ends-same, image-there}
 use Rattle.definitions.proofs.Demand3.{demand-3}
 use Rattle.task.specs.Reads.{taskOf}

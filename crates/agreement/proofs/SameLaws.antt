@@ -12,7 +12,8 @@ use Rattle.definitions.specs.Answer.{Refusal, Answer, finding, refused, refuse,
 use Rattle.definitions.proofs.ListLaws.{and-both, and-right}
 use Rattle.definitions.proofs.Walks.{left-here}
 use Rattle.definitions.specs.Lists.{all, firstFail}
-use Rattle.definitions.proofs.CheckSound.{not-finding, firstFail-none}
+use Rattle.definitions.proofs.AnswerLaws.{not-finding}
+use Rattle.definitions.proofs.ListLaws.{firstFail-none}
 use Rattle.definitions.proofs.Accepts.{none-false}
 use Rattle.checker.specs.Search.{falseAnswer}
 use Rattle.answer.proofs.Laws.{answer-of, lent-of, answered, left}

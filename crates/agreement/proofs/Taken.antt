@@ -10,7 +10,7 @@ use Rattle.definitions.specs.StepLists.{walk, stepsBefore}
 use Rattle.definitions.specs.Step.{stepTask, startTask}
 use Rattle.definitions.specs.FdrStep.{stepFdr, startFdr}
 use Rattle.definitions.proofs.Walks.{left-here}
-use Rattle.definitions.proofs.CheckSound.{not-finding}
+use Rattle.definitions.proofs.AnswerLaws.{not-finding}
 use Rattle.answer.proofs.Laws.{answered, left}
 use Rattle.agreement.specs.Same.{bothFound, sameUnit, sameList, Both}
 use Rattle.agreement.specs.Compared.{stepsTaken, leftBySteps, Walked, SameLengths}

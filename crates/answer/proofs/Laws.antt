@@ -3,7 +3,7 @@ use mathlib.Core.Path.{_≡_, refl, sym, ap, _∙_}
 use mathlib.Core.List.{List}
 use Prim.Native.Nat.{ℕ}
 use Rattle.definitions.specs.Answer.{Refusal, Answer, finding, refused, verdict, Outcome, outcome, stateAfter, becomes, _>>=_}
-use Rattle.definitions.proofs.CheckSound.{not-finding}
+use Rattle.definitions.proofs.AnswerLaws.{not-finding}
 
 -- ---- a verdict tells the answer
 pub verdict-refused : {A : Type 0} (m : Answer A) (r : Refusal) → verdict m ≡ refused r → m ≡ refused r

@@ -17,7 +17,8 @@ use Rattle.definitions.specs.Clauses.{width, mostRows, clauseWords, readClauses
 use Rattle.definitions.specs.Checker.{check, accept, Accepted}
 use Rattle.definitions.specs.Synthesis.{Found, Made, synthesis, synthesisCall, madeOf, bufferAfter}
 use Rattle.definitions.specs.Card.{wordsOf, cardAnswer, card, foundText, refusedText}
-use Rattle.definitions.proofs.CheckSound.{bind-of, same-finding, not-finding, read-right}
+use Rattle.definitions.proofs.AnswerLaws.{bind-of, same-finding, not-finding}
+use Rattle.definitions.proofs.ReadLaws.{read-right}
 use Rattle.definitions.proofs.Accepts.{Finish, synthesis-accepted}
 use Rattle.answer.specs.Answer.{refusalAt}
 use Rattle.clause.specs.Rows.{clausesOf, rowCount, ClausesRead}

@@ -7,7 +7,7 @@ use Rattle.definitions.specs.Answer.{finding, verdict, ask}
 use Rattle.definitions.specs.Image.{Task, readTask}
 use Rattle.definitions.specs.Clauses.{readClauses}
 use Rattle.definitions.specs.Checker.{accept, check}
-use Rattle.definitions.proofs.CheckSound.{same-finding, bind-of}
+use Rattle.definitions.proofs.AnswerLaws.{same-finding, bind-of}
 use Rattle.task.specs.Reads.{taskIn, taskOf}
 use Rattle.clause.specs.Rows.{clausesOf, ClausesRead}
 use Rattle.answer.proofs.Laws.{verdict-finding}

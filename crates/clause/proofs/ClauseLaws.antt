@@ -15,9 +15,9 @@ use Rattle.definitions.specs.Clauses.{width, rowOf, clauseOf, clauseRight, rowL
 use Rattle.definitions.specs.Groups.{hasClause}
 use Rattle.definitions.proofs.ListLaws.{decide, and-left, and-right, and-both, all-at, any-in, any-of}
 use Rattle.definitions.proofs.PlaceLaws.{same-words}
-use Rattle.definitions.proofs.Simulation.{getD-mem}
+use Rattle.definitions.proofs.ListLaws.{getD-mem}
 use Rattle.definitions.proofs.OrderLaws.{up, upFrom, same-self}
-use Rattle.definitions.proofs.SetRight.{GoodClause}
+use Rattle.definitions.specs.Clauses.{GoodClause}
 use Rattle.definitions.proofs.Accepts as accepts
 use Rattle.definitions.proofs.Accepts.{clause-back}
 use Rattle.clause.specs.Rows.{rowCount, clausesIn, clausesOf, RightRows}

@@ -12,7 +12,7 @@ use Rattle.definitions.specs.Lists.{all, ascending}
 use Rattle.definitions.specs.Answer.{finding, verdict, ask, askAt, _>>=_}
 use Rattle.definitions.specs.Clauses.{width, mostRows, clauseOf, clauseRight, rowLess, rowAt, aboveLast, readRows, readClauses}
 use Rattle.definitions.proofs.ListLaws.{and-left, and-right, and-both}
-use Rattle.definitions.proofs.CheckSound.{same-finding, bind-of, ask-of}
+use Rattle.definitions.proofs.AnswerLaws.{same-finding, bind-of, ask-of}
 use Rattle.answer.proofs.Laws.{verdict-finding}
 use Rattle.clause.specs.Rows.{rowCount, clausesIn, clausesOf, ClausesRead, RightRows}
 use Rattle.clause.proofs.RowLaws.{in-none, in-step}

@@ -12,9 +12,9 @@ use borrow.Author.Tests.{eqb-true}
 use Rattle.definitions.specs.Lists.{each}
 use Rattle.definitions.specs.Answer.{finding, verdict, ask, askAt, _>>=_}
 use Rattle.definitions.specs.Clauses.{width, mostRows, rowOf, clauseOf, clauseWords, clauseRight, rowAt, readClauses, readClause}
-use Rattle.definitions.proofs.CheckSound.{bind-of, ask-of}
+use Rattle.definitions.proofs.AnswerLaws.{bind-of, ask-of}
 use Rattle.definitions.proofs.OrderLaws.{up}
-use Rattle.definitions.proofs.SetRight.{GoodClause}
+use Rattle.definitions.specs.Clauses.{GoodClause}
 use Rattle.definitions.proofs.Accepts.{read-back}
 use Rattle.answer.proofs.Laws.{verdict-finding}
 use Rattle.clause.specs.Rows.{rowCount, clausesIn, clausesOf, ClausesRead, ClauseRead, RightRows}

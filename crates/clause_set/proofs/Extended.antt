@@ -13,7 +13,8 @@ use Rattle.definitions.specs.Literal.{atom}
 use Rattle.definitions.specs.Clauses.{width, rowOf, clauseOf}
 use Rattle.definitions.specs.Synthesis.{insertLiteral}
 use Rattle.definitions.proofs.Walks.{left-here}
-use Rattle.definitions.proofs.SetRight.{GoodClause, good-insert}
+use Rattle.definitions.specs.Clauses.{GoodClause}
+use Rattle.definitions.proofs.SetRight.{good-insert}
 use Rattle.definitions.proofs.Accepts.{row-length}
 use Rattle.clause.proofs.ClauseLaws.{row-back, good-right, list-below}
 use Rattle.clause_set.specs.Put.{put, putAll, extended}

@@ -10,7 +10,7 @@ use Rattle.definitions.specs.Lists.{all, compareWords}
 use Rattle.definitions.specs.Clauses.{width, rowOf, clauseOf}
 use Rattle.definitions.specs.Synthesis.{insertClause, insertAll}
 use Rattle.definitions.proofs.ListLaws.{member-of}
-use Rattle.definitions.proofs.SetRight.{GoodClause}
+use Rattle.definitions.specs.Clauses.{GoodClause}
 use Rattle.clause.proofs.RowOrder.{same-row}
 use Rattle.clause.proofs.ClauseLaws.{list-below, row-back}
 

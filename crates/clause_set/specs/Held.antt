@@ -6,7 +6,7 @@ use mathlib.Core.Path.{_≡_}
 use Prim.Native.Nat.{ℕ, _*_, _≤_, _<_}
 use lib.ListN.{length, take}
 use Rattle.definitions.specs.Clauses.{width, mostRows, clauseRight}
-use Rattle.definitions.proofs.SetRight.{GoodClause}
+use Rattle.definitions.specs.Clauses.{GoodClause}
 use Rattle.clause.specs.Rows.{clausesOf, RightRows}
 use Rattle.clause_set.specs.declared.Built as builts
 

@@ -14,7 +14,7 @@ use Rattle.definitions.specs.Groups.{Place}
 use Rattle.definitions.specs.Fdr.{FdrTask, domainAt}
 use Rattle.definitions.specs.Coding.{toAtoms, trueValues, codable, valueFrom}
 use Rattle.definitions.proofs.ListLaws.{never, all-at, table-at, table-length}
-use Rattle.definitions.proofs.Simulation.{getD-map-low}
+use Rattle.definitions.proofs.ListLaws.{getD-map-low}
 use Rattle.definitions.proofs.Walks.{left-here, below-left, below-in, zero-at}
 use Rattle.fdr_image.specs.Walk.{place}
 use Rattle.coding.specs.Found.{noneFound, valuesOf, withAtom, codableAt, valueAt, byteOf}

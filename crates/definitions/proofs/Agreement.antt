@@ -23,9 +23,13 @@ use Rattle.definitions.specs.Agreement.{initialValues, Way, by-steps, by
 use Rattle.definitions.proofs.ListLaws.{and-both}
 use Rattle.definitions.proofs.StepLists.{Alike, both-found, both-refused, along-map, run-answer, run-left}
 use Rattle.definitions.proofs.StepLists.{walk-alike, verdicts-alike, visited-alike, before-alike, run-alike}
-use Rattle.definitions.proofs.Simulation.{Right, Coded, coded-state, list-low, getD-map-low}
+use Rattle.definitions.proofs.ReadLaws.{Right}
+use Rattle.definitions.proofs.Simulation.{Coded, coded-state}
+use Rattle.definitions.proofs.LiteralLaws.{list-low}
+use Rattle.definitions.proofs.ListLaws.{getD-map-low}
 use Rattle.definitions.proofs.StepsAlike.{domains-count, steps-alike, starts-coded, goals-alike, to-atoms}
-use Rattle.definitions.proofs.CheckSound.{same-finding, ReadRight, read-right}
+use Rattle.definitions.proofs.AnswerLaws.{same-finding}
+use Rattle.definitions.proofs.ReadLaws.{ReadRight, read-right}
 use Rattle.definitions.proofs.ImageSize.{read-sizes}
 use Rattle.definitions.proofs.FdrValid.{values-right, image-read, below-count}
 use Rattle.definitions.proofs.FromAtoms.{from-atoms}

@@ -18,7 +18,7 @@ use Rattle.definitions.specs.Fdr.{FdrLiteral, FdrRow, FdrOperator, FdrTask, noD
 use Rattle.definitions.specs.FdrImage.{isAtomValue, fdrLiteralRight, fdrRowRight, fdrOperatorRight, readFdr}
 use Rattle.definitions.specs.FdrStep.{isFdrState, fdrFired, fdrConflict, noneThere, fdrAfter, noFdrOperator, fdrStep, stepFdr, goalFdr, startFdr, runFdr}
 use Rattle.definitions.proofs.ListLaws.{and-left, and-right, all-at, all-of, keep-of}
-use Rattle.definitions.proofs.CheckSound.{not-finding, bind-of, ask-of}
+use Rattle.definitions.proofs.AnswerLaws.{not-finding, bind-of, ask-of}
 use Rattle.answer.specs.Answer.{refusalAt}
 use Rattle.answer.proofs.Laws.{refused-first}
 use Rattle.fdr_image.specs.Reads.{fdrOf, ReadsFdr}

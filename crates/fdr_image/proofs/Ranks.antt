@@ -15,7 +15,7 @@ use Rattle.definitions.specs.Fdr.{noDomain, atomValues}
 use Rattle.definitions.specs.FdrImage.{placesIn, isAtomValue, placeRight, givenTo, eachGivenOnce}
 use Rattle.definitions.proofs.EncodeLaws.{same-bool}
 use Rattle.definitions.proofs.ListLaws.{and-left, and-right, and-both, all-at}
-use Rattle.definitions.proofs.Simulation.{getD-mem, getD-map-low}
+use Rattle.definitions.proofs.ListLaws.{getD-mem, getD-map-low}
 use Rattle.fdr_image.proofs.Below.{below-at, below-all}
 use Rattle.definitions.proofs.Walks.{left-here}
 use Rattle.fdr_image.specs.Walk.{place, valuesBefore, ranksIn, noMarks, allNew}

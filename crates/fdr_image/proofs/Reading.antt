@@ -16,12 +16,12 @@ use Rattle.definitions.specs.Fdr.{FdrOperator, FdrTask, noDomain, atomValues}
 use Rattle.definitions.specs.FdrImage.{domainsIn, placesIn, literalsIn, fdrOperatorOf, isAtomValue, placeRight, fdrLiteralRight, fdrOperatorRight, eachGivenOnce, readFdrOperators, valuesRight, readFdr}
 use Rattle.definitions.specs.FdrStep.{noFdrOperator}
 use Rattle.definitions.proofs.ListLaws.{never, and-left, and-right, all-at}
-use Rattle.definitions.proofs.Simulation.{getD-mem, getD-map-low}
+use Rattle.definitions.proofs.ListLaws.{getD-mem, getD-map-low}
 use Rattle.definitions.proofs.Walks.{range-all-off, range-all-on}
 use Rattle.definitions.proofs.FdrValid.{below-count}
 use Rattle.directory.specs.Directory.{Lies}
 use Rattle.directory.proofs.Laws.{directory-lies, directory-short}
-use Rattle.definitions.proofs.CheckSound.{not-finding}
+use Rattle.definitions.proofs.AnswerLaws.{not-finding}
 use Rattle.fdr_image.specs.Reads.{fdrIn, fdrOf, ReadsFdr}
 use Rattle.fdr_image.specs.Walk.{place, blockRight, someOperator, operatorOr, blockParses, operatorIn, countsRight, domainsRight, atomsRight, goalRight, operatorsRight, partsRight, fdrRight}
 use Rattle.fdr_image.specs.Post.{Laid, BlockGiven}

@@ -10,7 +10,7 @@ use Rattle.definitions.specs.Lists.{all}
 use Rattle.definitions.specs.Literal.{allBelow, literalList}
 use Rattle.definitions.specs.Image.{rowRight, operatorRight}
 use Rattle.definitions.proofs.ListLaws.{and-left, and-right}
-use Rattle.definitions.proofs.Simulation.{list-low}
+use Rattle.definitions.proofs.LiteralLaws.{list-low}
 use Rattle.task.specs.Walk.{row, operatorIn, parsesAt, rowsAt}
 use Rattle.task.specs.Post.{BlockRead, RowRead}
 

@@ -11,7 +11,7 @@ use Rattle.definitions.specs.Clauses.{clauseOf, rowAt}
 use Rattle.definitions.specs.Image.{Row, Operator}
 use Rattle.definitions.specs.Closure.{closure, contradictory}
 use Rattle.definitions.proofs.ListLaws.{decide, never, any-in}
-use Rattle.definitions.proofs.Simulation.{list-low}
+use Rattle.definitions.proofs.LiteralLaws.{list-low}
 use Rattle.clause.specs.Rows.{rowCount, clausesOf}
 use Rattle.clause.proofs.RowLaws.{clause-of, clauses-length}
 use Rattle.clause.proofs.ClauseLaws.{right-list}

@@ -4,10 +4,17 @@ ghost use mathlib.Core.Bool.{_&&_};
 ghost use Prim.Native.Nat.{_<_, _≤_};
 ghost use lib.ListN.{getD};
 ghost use Rattle.definitions.specs.Lists.{ascending};
-ghost use Rattle.definitions.specs.Literal.{complement, allBelow, literalList, isState, trueIn, allTrue};
+ghost use Rattle.definitions.specs.Literal.{mostAtoms, atom, positive, complement, allBelow, literalList, isState, trueIn, allTrue};
 ghost use Rattle.literal.specs.Literal.{literalOf};
 
 pub mod flags; // flags.rt: flags, a byte each
+pub mod room; // room.rt: local arrays for the largest task
+
+// The most atoms of a task.
+pub const MOST_ATOMS: usize = 1024;
+
+// The most literals: two of each atom.
+pub const MOST_LITERALS: usize = 2048;
 
 // A literal: twice its atom if the atom is true, one more if it is false.
 pub struct Literal {
@@ -15,7 +22,7 @@ pub struct Literal {
 }
 
 impl Literal {
-    // The word that fills a clause row behind its literals.
+    // The word that fills a clause row after its literals.
     pub const FILL: u16 = 65535;
 
     pub fn new(atom: u16, truth: bool) -> Literal
@@ -37,6 +44,25 @@ impl Literal {
             code: self.code ^ 1,
         }
     }
+
+    pub fn atom(self) -> usize
+        ensures { λ r. ⌜ r ≡ atom (self .code) ⌝ }
+    {
+        wide(self.code / 2)
+    }
+
+    pub fn is_positive(self) -> bool
+        ensures { λ r. ⌜ r ≡ positive (self .code) ⌝ }
+    {
+        self.code % 2 == 0
+    }
+
+    // The literal's place in a list with one place for each literal.
+    pub fn index(self) -> usize
+        ensures { λ r. ⌜ r ≡ self .code ⌝ }
+    {
+        wide(self.code)
+    }
 }
 
 // A word as an index.
@@ -52,7 +78,7 @@ pub fn complement(l: usize) -> usize
     ensures { λ r. ⌜ r ≡ complement l ⌝ }
 {
     let c = (Literal { code: l as u16 }).complement();
-    wide(c.code)
+    c.index()
 }
 
 // Whether the words are strictly ascending atoms below `atoms`.
@@ -77,7 +103,7 @@ pub fn is_atom_list(words: &[u16], atoms: usize) -> bool
 
 // Whether the words are a literal list over `atoms` atoms.
 pub fn is_literal_list(words: &[u16], atoms: usize) -> bool
-    requires { ⌜ atoms ≤ 1024 ⌝ }
+    requires { ⌜ atoms ≤ mostAtoms ⌝ }
     ensures { λ r. ⌜ r ≡ literalList atoms (now (words .entry)) ⌝ }
 {
     let mut from: usize = 0;
@@ -121,11 +147,11 @@ fn value(state: &[u8], atom: usize) -> u8
 }
 
 // Whether a literal is true in a state.
-pub fn is_true(state: &[u8], l: usize) -> bool
-    ensures { λ r. ⌜ r ≡ trueIn (now (state .entry)) l ⌝ }
+pub fn is_true(state: &[u8], l: Literal) -> bool
+    ensures { λ r. ⌜ r ≡ trueIn (now (state .entry)) (l .code) ⌝ }
 {
-    let x = value(state, l / 2);
-    if l % 2 == 0 { x == 1 } else { x == 0 }
+    let x = value(state, l.atom());
+    if l.is_positive() { x == 1 } else { x == 0 }
 }
 
 // Whether all literals of a list are true in a state.
@@ -134,7 +160,8 @@ pub fn all_true(state: &[u8], literals: &[u16]) -> bool
 {
     let mut i: usize = 0;
     while i < literals.len() {
-        let holds = is_true(state, wide(literals[i]));
+        let l = literals[i];
+        let holds = is_true(state, Literal { code: l });
         if !holds {
             return false;
         }

@@ -13,7 +13,7 @@ use Rattle.definitions.specs.Lists.{any, each, range}
 use Rattle.definitions.specs.Closure.{has}
 use Rattle.definitions.specs.Clauses.{width, clauseOf, rowAt}
 use Rattle.definitions.proofs.ListLaws.{and-left}
-use Rattle.definitions.proofs.SetRight.{GoodClause}
+use Rattle.definitions.specs.Clauses.{GoodClause}
 use Rattle.clause.specs.Rows.{rowCount, clausesOf, RightRows}
 use Rattle.clause.proofs.RowLaws.{clauses-at, clause-in}
 use Rattle.clause.proofs.ClauseLaws.{clause-good}

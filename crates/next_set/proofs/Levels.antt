@@ -17,7 +17,7 @@ use Rattle.definitions.specs.Synthesis.{undominated, insertClause}
 use Rattle.definitions.proofs.ListLaws.{decide, and-left}
 use Rattle.definitions.proofs.OrderLaws.{up, insert-up}
 use Rattle.definitions.proofs.SetLaws.{insertClause-of}
-use Rattle.definitions.proofs.SetRight.{GoodClause}
+use Rattle.definitions.specs.Clauses.{GoodClause}
 use Rattle.clause_set.specs.Put.{blocked, put, putAll}
 use Rattle.clause_set.proofs.Counting.{Part, another, part-length}
 use Rattle.clause_set.proofs.Parts.{Blocking, blocked-of, blocked-not}

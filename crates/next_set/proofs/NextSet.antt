@@ -19,7 +19,8 @@ use Rattle.definitions.specs.Synthesis.{insertLiteral, insertClause, insertAll,
 use Rattle.definitions.proofs.ListLaws.{decide, never, and-left, and-right, and-both, map-in, map-of, keep-in, keep-of}
 use Rattle.definitions.proofs.OrderLaws.{up, insertAll-up, keep-up}
 use Rattle.definitions.proofs.SetLaws.{each-of, below-of, insertClause-of, insertAll-of, insertLiteral-keeps}
-use Rattle.definitions.proofs.SetRight.{GoodClause, insert-length, good-insert}
+use Rattle.definitions.specs.Clauses.{GoodClause}
+use Rattle.definitions.proofs.SetRight.{insert-length, good-insert}
 use Rattle.clause.proofs.ClauseLaws.{same-set}
 use Rattle.clause_set.specs.Put.{putAll}
 use Rattle.next_set.specs.Build.{fitted, survivors, addedFor, addedBy, addedAt, addedFrom}

@@ -16,7 +16,8 @@ use Rattle.definitions.specs.Synthesis.{next, setAt}
 use Rattle.definitions.proofs.ListLaws.{keep-of}
 use Rattle.definitions.proofs.SetLaws.{range-of}
 use Rattle.definitions.proofs.OrderLaws.{up}
-use Rattle.definitions.proofs.SetRight.{GoodClause, good-sets, up-sets}
+use Rattle.definitions.specs.Clauses.{GoodClause}
+use Rattle.definitions.proofs.SetRight.{good-sets, up-sets}
 use Rattle.definitions.proofs.Accepts.{words-length}
 use Rattle.clause.specs.Rows.{rowCount, clausesOf, ClausesRead, RightRows}
 use Rattle.clause.proofs.RowLaws.{clauses-length}

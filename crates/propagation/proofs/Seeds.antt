@@ -13,7 +13,7 @@ use Rattle.definitions.specs.Literal.{complement}
 use Rattle.definitions.specs.Closure.{has}
 use Rattle.definitions.proofs.ListLaws.{or-cases, member-in}
 use Rattle.definitions.proofs.Walks.{left-here, any-end}
-use Rattle.definitions.proofs.Simulation.{getD-mem}
+use Rattle.definitions.proofs.ListLaws.{getD-mem}
 use Rattle.propagation.specs.declared.Closing.the-variants as closing
 use Rattle.propagation.specs.Walk.{In, Part, Lists, Clash, Bits, Sound, Added, Seeded}
 use Rattle.propagation.proofs.Sets.{set-same, set-in, set-least, set-bits, set-consistent}

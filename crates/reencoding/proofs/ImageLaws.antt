@@ -19,7 +19,7 @@ use Rattle.definitions.specs.Fdr.{FdrLiteral, FdrRow, FdrOperator, FdrTask, fdr
 use Rattle.definitions.specs.Fdr.{pairWords, fdrWords}
 use Rattle.definitions.specs.Encoding.{valueIn, encodeLiteral, encodeRow, encodeOperator, encode, encodedImage, encodeCall}
 use Rattle.definitions.proofs.ListLaws.{and-left, and-right}
-use Rattle.definitions.proofs.ImageSize.{operatorSize}
+use Rattle.definitions.specs.Image.{operatorSize}
 use Rattle.answer.specs.Answer.{refusalAt}
 use Rattle.task.specs.Reads.{taskOf, Reads}
 use Rattle.task.specs.Walk.{row}

@@ -19,7 +19,7 @@ use Rattle.definitions.proofs.ListLaws.{or-left, or-right, and-left, and-right,
 use Rattle.definitions.proofs.Walks.{left-here}
 use Rattle.definitions.proofs.GroupLaws.{in-mem, mem-in, all-below}
 use Rattle.definitions.proofs.PlaceLaws as places
-use Rattle.definitions.proofs.Simulation.{getD-map-low}
+use Rattle.definitions.proofs.ListLaws.{getD-map-low}
 use Rattle.groups.specs.Join.{Placed}
 use Rattle.groups.specs.Cover.{Covered}
 use Rattle.groups.proofs.Joining.{at-variable, variable-at, variable-low}

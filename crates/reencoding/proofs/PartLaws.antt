@@ -10,7 +10,8 @@ use lib.Seq.{drop-cons}
 use Rattle.definitions.specs.Lists.{each}
 use Rattle.definitions.specs.Image.{Operator, Task, operatorRight}
 use Rattle.definitions.specs.Step.{noOperator, operatorAt}
-use Rattle.definitions.proofs.ImageSize.{rowsSize, operatorSize, operatorsSize, Sizes, read-sizes}
+use Rattle.definitions.specs.Image.{rowsSize, operatorSize, operatorsSize}
+use Rattle.definitions.proofs.ImageSize.{Sizes, read-sizes}
 use Rattle.definitions.proofs.Walks.{left-here}
 use Rattle.task.specs.Reads.{taskOf, Reads}
 use Rattle.task.specs.Walk.{operatorIn}

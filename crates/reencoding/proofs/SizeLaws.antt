@@ -13,7 +13,8 @@ use Rattle.definitions.specs.Lists.{all, each}
 use Rattle.definitions.specs.Literal.{allBelow, literalList}
 use Rattle.definitions.specs.Image.{Row, Operator, rowsOf, rowRight, operatorRight}
 use Rattle.definitions.proofs.ListLaws.{and-left, and-right}
-use Rattle.definitions.proofs.ImageSize.{rowsSize, operatorSize, operatorsSize, not-some}
+use Rattle.definitions.specs.Image.{rowsSize, operatorSize, operatorsSize}
+use Rattle.definitions.proofs.ImageSize.{not-some}
 use Rattle.task.specs.Walk.{row, someRows, rowsOr, parsesAt, rowsAt, blockParses, operatorIn}
 use Rattle.task.specs.Post.{BlockRead}
 use Rattle.task.proofs.Blocks.{block-read}

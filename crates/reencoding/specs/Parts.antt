@@ -4,7 +4,7 @@ use Prim.Native.Nat.{ℕ, _+_, _-_, _*_, min}
 use lib.ListN.{length, getD, set, take}
 use Rattle.definitions.specs.Lists.{each, below}
 use Rattle.definitions.specs.Image.{Operator, Task}
-use Rattle.definitions.proofs.ImageSize.{operatorSize}
+use Rattle.definitions.specs.Image.{operatorSize}
 use Rattle.groups.specs.Writing.{domainBy}
 use Rattle.reencoding.specs.Words.{literalsBy, operatorBy}
 

@@ -12,7 +12,7 @@ use Rattle.definitions.specs.Literal.{allTrue, allBelow, isState}
 use Rattle.definitions.specs.Image.{Operator, Task, initialState, readTask, operatorRight}
 use Rattle.definitions.specs.Step.{effects, conflict, result, operatorAt, step, stepTask, goalTask, startTask, runTask}
 use Rattle.definitions.proofs.ListLaws.{and-left, and-right}
-use Rattle.definitions.proofs.CheckSound.{not-finding, bind-of, ask-of}
+use Rattle.definitions.proofs.AnswerLaws.{not-finding, bind-of, ask-of}
 use Rattle.answer.specs.Answer.{refusalAt}
 use Rattle.answer.proofs.Laws.{refused-first}
 use Rattle.task.specs.Reads.{taskOf, Reads}

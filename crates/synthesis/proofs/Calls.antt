@@ -17,7 +17,7 @@ use Rattle.definitions.specs.Image.{Operator, Task, part, directory, operatorOf
 use Rattle.definitions.specs.Clauses.{width, mostRows, clauseWords}
 use Rattle.definitions.specs.Synthesis.{firstSet, tested, passes, nextOf, Found, Made, fits, rounds, rowsIn, synthesis, bufferAfter, madeOf, synthesisCall}
 use Rattle.definitions.proofs.ListLaws.{and-left, and-right}
-use Rattle.definitions.proofs.CheckSound.{not-finding}
+use Rattle.definitions.proofs.AnswerLaws.{not-finding}
 use Rattle.answer.specs.Answer.{refusalAt}
 use Rattle.answer.proofs.Laws.{verdict-refused}
 use Rattle.task.specs.Reads.{taskOf, Reads}

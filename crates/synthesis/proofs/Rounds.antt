@@ -17,7 +17,8 @@ use Rattle.definitions.specs.Image.{Task, initialState}
 use Rattle.definitions.specs.Closure.{bit}
 use Rattle.definitions.specs.Clauses.{width, mostRows, clauseWords}
 use Rattle.definitions.specs.Synthesis.{firstSet, tested, passes, nextOf, next, setAt, Found, Made, fits, rounds, bufferAfter, madeOf}
-use Rattle.definitions.proofs.SetRight.{GoodClause, good-sets, up-sets}
+use Rattle.definitions.specs.Clauses.{GoodClause}
+use Rattle.definitions.proofs.SetRight.{good-sets, up-sets}
 use Rattle.answer.specs.Answer.{refusalAt}
 use Rattle.clause.specs.Rows.{rowCount, clausesOf}
 use Rattle.clause.proofs.RowLaws.{clauses-length}

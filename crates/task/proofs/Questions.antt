@@ -15,8 +15,9 @@ use Rattle.definitions.specs.Literal.{allBelow, literalList}
 use Rattle.definitions.specs.Image.{Operator, Task, part, directory, operatorOf, operatorRight, readOperator, readOperators, readTask}
 use Rattle.definitions.specs.Step.{noOperator, operatorAt}
 use Rattle.definitions.proofs.ListLaws.{and-left, and-right}
-use Rattle.definitions.proofs.CheckSound.{not-finding, same-finding, bind-of, ask-of, ReadRight, read-right}
-use Rattle.definitions.proofs.Simulation.{getD-mem}
+use Rattle.definitions.proofs.AnswerLaws.{not-finding, same-finding, bind-of, ask-of}
+use Rattle.definitions.proofs.ReadLaws.{ReadRight, read-right}
+use Rattle.definitions.proofs.ListLaws.{getD-mem}
 use Rattle.answer.specs.Answer.{refusalAt}
 use Rattle.answer.proofs.Laws.{verdict-bind}
 use Rattle.task.specs.Reads.{taskIn, taskOf, Reads}

@@ -21,20 +21,24 @@ loop-holds : tie.Need-loop-holds Inv-loop μ-loop
 unfolding allTrue
 loop-holds c = (omega arith, refl)
 
-mul-wide : tie.Need-mul-wide Inv-loop μ-loop
-mul-wide c = search needs
+-- in the loop, after the test of its literal
+abbrev at : tie.After-is-true Inv-loop μ-loop → tie.In-loop Inv-loop μ-loop
+at c = c .before .before
 
-shared-slice-read-wide : tie.Need-shared-slice-read-wide Inv-loop μ-loop
-shared-slice-read-wide c = search needs
+mul-l : tie.Need-mul-l Inv-loop μ-loop
+mul-l c = search needs
 
-wide-requires : tie.Need-wide-requires Inv-loop μ-loop
-wide-requires c κs = search needs
+shared-slice-read-l : tie.Need-shared-slice-read-l Inv-loop μ-loop
+shared-slice-read-l c = search needs
 
 is-true-requires : tie.Need-is-true-requires Inv-loop μ-loop
 is-true-requires c κs = search needs
 
 returns : tie.Need-returns Inv-loop μ-loop
-returns c = sym (c .before .before .before .before .before .loop .inv .1 ∙ all-off _ _ 0 _ (c .before .before .wide .ensures .0) (c .before .before .before .before .loop-test .taken) (trueIn _) (sym (c .before .is-true .ensures) ∙ not-true _ (c .if1 .taken)))
+returns c =
+    let w = at (c .before) in
+    let false = sym (c .before .is-true .ensures) ∙ not-true _ (c .if1 .taken) in
+    sym (w .before .loop .inv .1 ∙ all-off _ _ 0 _ refl (w .loop-test .taken) (trueIn _) false)
 
 add-i : tie.Need-add-i Inv-loop μ-loop
 add-i c = search needs
@@ -43,7 +47,10 @@ loop-less : tie.Need-loop-less Inv-loop μ-loop
 loop-less c = search needs
 
 loop-again : tie.Need-loop-again Inv-loop μ-loop
-loop-again c = (omega arith, c .before .before .before .before .before .loop .inv .1 ∙ all-on _ _ 0 _ (c .before .before .wide .ensures .0) (c .before .before .before .before .loop-test .taken) (trueIn _) (sym (c .before .is-true .ensures) ∙ not-false _ (c .if1 .left)))
+loop-again c =
+    let w = at (c .before) in
+    let true = sym (c .before .is-true .ensures) ∙ not-false _ (c .if1 .left) in
+    (omega arith, w .before .loop .inv .1 ∙ all-on _ _ 0 _ refl (w .loop-test .taken) (trueIn _) true)
 
 returns-2 : tie.Need-returns-2 Inv-loop μ-loop
 returns-2 c = sym (c .before .loop .inv .1 ∙ all-end (trueIn _) _ _ (c .loop-test .left))
@@ -55,9 +62,8 @@ all-true-spec =
     Inv-loop
     μ-loop
     loop-holds
-    mul-wide
-    shared-slice-read-wide
-    wide-requires
+    mul-l
+    shared-slice-read-l
     is-true-requires
     returns
     add-i
