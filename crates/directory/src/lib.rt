@@ -1,12 +1,15 @@
 // The directory of an image: pairs (offset, length) that name its parts.
 ghost use mathlib.Core.Path.{_≡_};
-ghost use Prim.Native.Nat.{_≤_};
-ghost use Rattle.definitions.specs.Image.{directory, part};
+ghost use Prim.Native.Nat.{_+_, _≤_};
+ghost use Rattle.definitions.specs.Image.{mostOperators, directory, part};
 ghost use Rattle.directory.specs.Directory.{Lies};
+
+// The most operators of a task or a re-encoded task. An image has a part for each, and at most four others.
+pub const MOST_OPERATORS: usize = 1024;
 
 // Whether the image has a right directory of `pairs` pairs.
 pub fn is_directory(image: &[u16], pairs: usize) -> bool
-    requires { ⌜ pairs ≤ 1028 ⌝ }
+    requires { ⌜ pairs ≤ mostOperators + 4 ⌝ }
     ensures { λ r. ⌜ r ≡ directory (now (image .entry)) pairs ⌝ }
 {
     let mut at = 2 + 2 * pairs;

@@ -7,6 +7,7 @@ use native.Mathlib.Omega.{arith}
 use lib.ListN.{length}
 use borrow.Author.Tests.{eq-eqb, ne-eqb, lt-leb, le-leb}
 use Rattle.definitions.specs.Lists.{all}
+use Rattle.definitions.specs.Literal.{mostAtoms}
 use Rattle.definitions.specs.Groups.{Domain}
 use Rattle.definitions.specs.FdrImage.{placesIn, placeRight, eachGivenOnce}
 use Rattle.fdr_image.specs.Walk.{atomsRight}
@@ -23,16 +24,16 @@ module _ (D : List Domain) (a : List ℕ) where
     atoms-none h = rw (eq-eqb (length a % 2) 0 even, lt-leb 1 (length (placesIn a)) (omega (arith, places-length a)))
 
     module _ (some : 1 ≤ length a / 2) where
-      pub atoms-many : 1024 < length a / 2 → false ≡ atomsRight D a
+      pub atoms-many : mostAtoms < length a / 2 → false ≡ atomsRight D a
       unfolding atomsRight
       atoms-many h =
-          rw (eq-eqb (length a % 2) 0 even, le-leb 1 (length (placesIn a)) (omega (arith, places-length a)), lt-leb (length (placesIn a)) 1024 (omega (arith, places-length a)))
+          rw (eq-eqb (length a % 2) 0 even, le-leb 1 (length (placesIn a)) (omega (arith, places-length a)), lt-leb (length (placesIn a)) mostAtoms (omega (arith, places-length a)))
 
-      module _ (few : length a / 2 ≤ 1024) where
+      module _ (few : length a / 2 ≤ mostAtoms) where
         counted : atomsRight D a ≡ (all (placeRight D) (placesIn a) && eachGivenOnce D (placesIn a))
         unfolding atomsRight
         counted =
-            rw (eq-eqb (length a % 2) 0 even, le-leb 1 (length (placesIn a)) (omega (arith, places-length a)), le-leb (length (placesIn a)) 1024 (omega (arith, places-length a)))
+            rw (eq-eqb (length a % 2) 0 even, le-leb 1 (length (placesIn a)) (omega (arith, places-length a)), le-leb (length (placesIn a)) mostAtoms (omega (arith, places-length a)))
 
         pub atoms-off : all (placeRight D) (placesIn a) ≡ false → false ≡ atomsRight D a
         atoms-off h = sym (counted ∙ rw h)

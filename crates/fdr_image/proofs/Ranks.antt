@@ -9,6 +9,7 @@ use lib.Dec.{eqb, ltb}
 use lib.ListN.{length, getD, drop, set, length-map, drop-of-length-le}
 use lib.Seq.{getD-set-same, getD-set-other}
 use borrow.Author.Tests.{eqb-true, eqb-false, eq-eqb, ne-eqb, ltb-true, ltb-false}
+use Rattle.definitions.specs.Literal.{mostAtoms}
 use Rattle.definitions.specs.Lists.{all, keep, below}
 use Rattle.definitions.specs.Groups.{Domain, Place}
 use Rattle.definitions.specs.Fdr.{noDomain, atomValues}
@@ -161,8 +162,8 @@ module _ (D : List Domain) where
     given-new h =
         let few = placed .atoms in
         same-bool (allNew noMarks (map rank P)) (eachGivenOnce D P)
-        (λ e. of-each (new-once total 1024 (map rank P) low (omega arith) (length-map P rank ∙ sym h) e))
-        (λ e. once-new total 1024 (map rank P) low (omega arith) (each-of e))
+        (λ e. of-each (new-once total mostAtoms (map rank P) low (omega arith) (length-map P rank ∙ sym h) e))
+        (λ e. once-new total mostAtoms (map rank P) low (omega arith) (each-of e))
 
 -- ---- by the starts of the variables
 module _ (D : List Domain) (s : List ℕ) (begin : (v : ℕ) → v < length D → getD s v 0 ≡ valuesBefore D v) where
@@ -176,16 +177,16 @@ module _ (D : List Domain) (s : List ℕ) (begin : (v : ℕ) → v < length D �
     pub starts-given : allNew noMarks (ranksIn s w) ≡ eachGivenOnce D (placesIn w)
     starts-given = ap (allNew noMarks) (starts-rank (placesIn w) (placed .right)) ∙ given-new D (placesIn w) placed full
 
-    pub starts-ranked : Ranked w s
-    starts-ranked = record { variable = variable; rank = ranked }
+    pub starts-ranked : length s ≡ mostAtoms → Ranked w s
+    starts-ranked size = record { starts = size; variable = variable; rank = ranked }
       where
         here : (i : ℕ) → i < length w / 2 → placeRight D (place (getD w (2 * i) 0) (getD w (2 * i + 1) 0)) ≡ true
         here i h = subst (λ (p : Place). placeRight D p ≡ true) (places-at w i (place 0 0) h) (all-at (placeRight D) (placed .right) (getD-mem (placesIn w) i (place 0 0) (omega (arith, places-length w))))
 
-        variable : (i : ℕ) → i < length w / 2 → getD w (2 * i) 0 < 1024
+        variable : (i : ℕ) → i < length w / 2 → getD w (2 * i) 0 < mostAtoms
         variable i h = let z = right-in D (place (getD w (2 * i) 0) (getD w (2 * i + 1) 0)) (here i h) .0 in let y = placed .variables in omega arith
 
-        ranked : (i : ℕ) → i < length w / 2 → getD s (getD w (2 * i) 0) 0 + getD w (2 * i + 1) 0 < 1024
+        ranked : (i : ℕ) → i < length w / 2 → getD s (getD w (2 * i) 0) 0 + getD w (2 * i + 1) 0 < mostAtoms
         ranked i h =
             let z = right-in D (place (getD w (2 * i) 0) (getD w (2 * i + 1) 0)) (here i h) in
             let y = before-later D (getD w (2 * i) 0) (length D) (z .0) in
@@ -226,5 +227,5 @@ before-over D v a n h ea l =
 pub before-end : (D : List Domain) (v a n : ℕ) → v ≡ length D → a ≡ valuesBefore D v → eqb a n ≡ eqb (valuesBefore D (length D)) n
 before-end D v a n h ea = rw (← h, ea)
 
-pub rank-low : (s w : List ℕ) → Ranked w s → (i v x b : ℕ) → i < length w / 2 → v ≡ getD w (2 * i) 0 → x ≡ getD w (2 * i + 1) 0 → b ≡ getD s v 0 → b + x < 1024
+pub rank-low : (s w : List ℕ) → Ranked w s → (i v x b : ℕ) → i < length w / 2 → v ≡ getD w (2 * i) 0 → x ≡ getD w (2 * i + 1) 0 → b ≡ getD s v 0 → b + x < mostAtoms
 rank-low s w r i v x b h ev ex eb = rw (eb, ev, ex) (r .rank i h)

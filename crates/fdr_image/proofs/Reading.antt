@@ -1,4 +1,4 @@
--- Question 17 by its tests, and what an image that reads as a re-encoded task tells. Assumes nothing.
+-- Question 17 by its tests, and what is known of an image that reads as a re-encoded task. Assumes nothing.
 use mathlib.Core.Path.{_≡_, refl, sym, ap, _∙_, subst}
 use mathlib.Core.List.{List, _∷_, map}
 use mathlib.Core.Bool.{Bool, true, false, _&&_}
@@ -10,10 +10,11 @@ use lib.ListN.{length, getD, length-map}
 use borrow.Author.Tests.{lt-leb, le-leb, leb-true, ltb-true, eq-eqb, ne-eqb, eqb-true}
 use Rattle.definitions.specs.Lists.{all, range, below}
 use Rattle.definitions.specs.Answer.{Answer, finding, refused, refuse, verdict, ask, askAt, _>>=_}
-use Rattle.definitions.specs.Image.{part, directory}
+use Rattle.definitions.specs.Literal.{mostAtoms}
+use Rattle.definitions.specs.Image.{mostOperators, part, directory}
 use Rattle.definitions.specs.Groups.{Domain, Place}
 use Rattle.definitions.specs.Fdr.{FdrOperator, FdrTask, noDomain, atomValues}
-use Rattle.definitions.specs.FdrImage.{domainsIn, placesIn, literalsIn, fdrOperatorOf, isAtomValue, placeRight, fdrLiteralRight, fdrOperatorRight, eachGivenOnce, readFdrOperators, valuesRight, readFdr}
+use Rattle.definitions.specs.FdrImage.{mostFdrImage, domainsIn, placesIn, literalsIn, fdrOperatorOf, isAtomValue, placeRight, fdrLiteralRight, fdrOperatorRight, eachGivenOnce, readFdrOperators, valuesRight, readFdr}
 use Rattle.definitions.specs.FdrStep.{noFdrOperator}
 use Rattle.definitions.proofs.ListLaws.{never, and-left, and-right, all-at}
 use Rattle.definitions.proofs.ListLaws.{getD-mem, getD-map-low}
@@ -23,18 +24,18 @@ use Rattle.directory.specs.Directory.{Lies}
 use Rattle.directory.proofs.Laws.{directory-lies, directory-short}
 use Rattle.definitions.proofs.AnswerLaws.{not-finding}
 use Rattle.fdr_image.specs.Reads.{fdrIn, fdrOf, ReadsFdr}
-use Rattle.fdr_image.specs.Walk.{place, blockRight, someOperator, operatorOr, blockParses, operatorIn, countsRight, domainsRight, atomsRight, goalRight, operatorsRight, partsRight, fdrRight}
+use Rattle.fdr_image.specs.Walk.{place, blockRight, someOperator, operatorOr, blockParses, operatorIn, countsRight, domainsRight, atomsRight, goalRight, operatorsRight, rulesRight, restRight, partsRight, fdrRight}
 use Rattle.fdr_image.specs.Post.{Laid, BlockGiven}
 use Rattle.fdr_image.proofs.Pairs.{domains-length}
 use Rattle.fdr_image.proofs.Below.{below-at, below-getD}
 
--- ---- the questions in turn, all of them 17
+-- ---- the questions in order, all of them 17
 orRefuse : {A : Type 0} → Bool → Answer A → Answer A
 orRefuse true a = a
 orRefuse false a = refuse 17 0 0
 
 module _ {A : Type 0} where
-  -- a question, and what is asked behind it
+  -- a question, and what is asked after it
   ask-and : (b c : Bool) (k t : Answer A) → k ≡ orRefuse c t → (ask 17 b >>= λ _. k) ≡ orRefuse (b && c) t
   unfolding ask askAt _>>=_ orRefuse refuse
   ask-and true c k t e = e
@@ -88,13 +89,13 @@ fdrThere w =
     }
 
 read-right : (w : List ℕ) → readFdr w ≡ orRefuse (fdrRight w) (finding (fdrThere w))
-unfolding readFdr fdrRight partsRight countsRight domainsRight atomsRight goalRight operatorsRight below
+unfolding readFdr fdrRight partsRight restRight rulesRight countsRight domainsRight atomsRight goalRight operatorsRight below
 read-right w =
     ask-and _ _ _ t
     (ask-and _ _ _ t
     (ask-and _ _ _ t
     (ask-and (valuesRight D (part w 2)) _ _ t
-    (ask-three (eqb (length (part w 1) % 2) 0 && leb 1 (length P) && leb (length P) 1024) (all (placeRight D) P) (eachGivenOnce D P) _ _ t
+    (ask-three (eqb (length (part w 1) % 2) 0 && leb 1 (length P) && leb (length P) mostAtoms) (all (placeRight D) P) (eachGivenOnce D P) _ _ t
     (ask-and (eqb (length (part w 3) % 2) 0 && all (fdrLiteralRight D) (literalsIn (part w 3))) (operatorsRight D w (getD w 1 0)) _ t
     (found-and (operatorsRight D w (getD w 1 0)) (readFdrOperators D w 0 (getD w 1 0)) (map (operatorThere w) (range 0 (getD w 1 0))) (λ os. record { domains = D; atoms = P; initial = part w 2; goal = literalsIn (part w 3); operators = os })
     (read-operators D w 0 (getD w 1 0))))))))
@@ -137,7 +138,7 @@ unfolding orRefuse refuse
 right-of true a x y e h = (refl, cc)
 right-of false a x y e h = absurd (not-finding (sym e ∙ h))
 
--- what it tells, by the words of the image
+-- what is known of it, by the words of the image
 pub record FdrRead (w : List ℕ) : Type 0 where
   pub task : fdrOf w ≡ fdrThere w
   pub counts : countsRight w ≡ true
@@ -149,7 +150,7 @@ pub record FdrRead (w : List ℕ) : Type 0 where
   pub operators : operatorsRight (domainsIn (part w 0)) w (getD w 1 0) ≡ true
 
 pub fdr-read : (w : List ℕ) → ReadsFdr w → FdrRead w
-unfolding fdrRight partsRight
+unfolding fdrRight partsRight restRight rulesRight
 fdr-read w r =
     let D = domainsIn (part w 0) in
     let c = countsRight w in
@@ -194,13 +195,13 @@ module _ (w : List ℕ) (h : countsRight w ≡ true) where
   m : ℕ
   m = getD w 1 0
 
-  pub few-variables : getD w 0 0 ≤ 1024
+  pub few-variables : getD w 0 0 ≤ mostAtoms
   unfolding countsRight n m
-  few-variables = leb-true n 1024 (and-right (leb (length w) 32768 && leb 1 n) (leb n 1024) (and-left (leb (length w) 32768 && leb 1 n && leb n 1024) (leb m 1024) h))
+  few-variables = leb-true n mostAtoms (and-right (leb (length w) mostFdrImage && leb 1 n) (leb n mostAtoms) (and-left (leb (length w) mostFdrImage && leb 1 n && leb n mostAtoms) (leb m mostOperators) h))
 
-  pub few-operators : getD w 1 0 ≤ 1024
+  pub few-operators : getD w 1 0 ≤ mostOperators
   unfolding countsRight n m
-  few-operators = leb-true m 1024 (and-right (leb (length w) 32768 && leb 1 n && leb n 1024) (leb m 1024) h)
+  few-operators = leb-true m mostOperators (and-right (leb (length w) mostFdrImage && leb 1 n && leb n mostAtoms) (leb m mostOperators) h)
 
 pub domains-count : (n : ℕ) (d : List ℕ) → domainsRight n d ≡ true → length (domainsIn d) ≡ n
 unfolding domainsRight
@@ -208,13 +209,13 @@ domains-count n d h =
     let z = eqb-true (length d) (2 * n) (and-left (eqb (length d) (2 * n)) (all (λ d. leb (d .none) 1) (domainsIn d)) h) in
     omega (arith, domains-length d)
 
-atoms-tests : (D : List Domain) (a : List ℕ) → atomsRight D a ≡ true → (length (placesIn a) ≤ 1024) × (all (placeRight D) (placesIn a) ≡ true)
+atoms-tests : (D : List Domain) (a : List ℕ) → atomsRight D a ≡ true → (length (placesIn a) ≤ mostAtoms) × (all (placeRight D) (placesIn a) ≡ true)
 unfolding atomsRight
 atoms-tests D a h =
     let P = placesIn a in
     let c = eqb (length a % 2) 0 && leb 1 (length P) in
-    let counted = and-left (c && leb (length P) 1024) (all (placeRight D) P && eachGivenOnce D P) h in
-    (leb-true (length P) 1024 (and-right c (leb (length P) 1024) counted), and-left (all (placeRight D) P) (eachGivenOnce D P) (and-right (c && leb (length P) 1024) (all (placeRight D) P && eachGivenOnce D P) h))
+    let counted = and-left (c && leb (length P) mostAtoms) (all (placeRight D) P && eachGivenOnce D P) h in
+    (leb-true (length P) mostAtoms (and-right c (leb (length P) mostAtoms) counted), and-left (all (placeRight D) P) (eachGivenOnce D P) (and-right (c && leb (length P) mostAtoms) (all (placeRight D) P && eachGivenOnce D P) h))
 
 module _ (w : List ℕ) (r : ReadsFdr w) where
   read : FdrRead w
@@ -226,16 +227,16 @@ module _ (w : List ℕ) (r : ReadsFdr w) where
   pub image-room : 2 ≤ length w
   image-room = let z = image-lies 0 (omega arith) .pair in omega arith
 
-  pub variables-are : (getD w 0 0 ≡ length (fdrOf w .domains)) × (getD w 0 0 ≤ 1024)
+  pub variables-are : (getD w 0 0 ≡ length (fdrOf w .domains)) × (getD w 0 0 ≤ mostAtoms)
   variables-are = (rw (read .task) (sym (domains-count (getD w 0 0) (part w 0) (read .domains))), few-variables w (read .counts))
 
-  pub operators-are : (getD w 1 0 ≡ length (fdrOf w .operators)) × (getD w 1 0 ≤ 1024)
+  pub operators-are : (getD w 1 0 ≡ length (fdrOf w .operators)) × (getD w 1 0 ≤ mostOperators)
   operators-are = (rw (read .task) (sym (table-size (getD w 1 0))), few-operators w (read .counts))
     where
       table-size : (k : ℕ) → length (map (operatorThere w) (below k)) ≡ k
       table-size k = length-map (below k) (operatorThere w) ∙ below-count k
 
-  pub few-atoms : length (fdrOf w .atoms) ≤ 1024
+  pub few-atoms : length (fdrOf w .atoms) ≤ mostAtoms
   few-atoms = rw (read .task) (atoms-tests (domainsIn (part w 0)) (part w 1) (read .atoms) .0)
 
   pub domains-are : (d : List ℕ) → d ≡ part w 0 → domainsIn d ≡ fdrOf w .domains
@@ -281,22 +282,22 @@ module _ (w : List ℕ) (r : ReadsFdr w) where
 
 -- ---- the tests by the code's own values
 module _ (w : List ℕ) where
-  pub counts-long : 32768 < length w → false ≡ countsRight w
+  pub counts-long : mostFdrImage < length w → false ≡ countsRight w
   unfolding countsRight
-  counts-long h = rw (lt-leb (length w) 32768 h)
+  counts-long h = rw (lt-leb (length w) mostFdrImage h)
 
-  module _ (short : length w ≤ 32768) where
+  module _ (short : length w ≤ mostFdrImage) where
     pub counts-none : getD w 0 0 < 1 → false ≡ countsRight w
     unfolding countsRight
-    counts-none h = rw (le-leb (length w) 32768 short, lt-leb 1 (getD w 0 0) h)
+    counts-none h = rw (le-leb (length w) mostFdrImage short, lt-leb 1 (getD w 0 0) h)
 
-    pub counts-many : 1 ≤ getD w 0 0 → 1024 < getD w 0 0 → false ≡ countsRight w
+    pub counts-many : 1 ≤ getD w 0 0 → mostAtoms < getD w 0 0 → false ≡ countsRight w
     unfolding countsRight
-    counts-many l h = rw (le-leb (length w) 32768 short, le-leb 1 (getD w 0 0) l, lt-leb (getD w 0 0) 1024 h)
+    counts-many l h = rw (le-leb (length w) mostFdrImage short, le-leb 1 (getD w 0 0) l, lt-leb (getD w 0 0) mostAtoms h)
 
-    pub counts-rest : 1 ≤ getD w 0 0 → getD w 0 0 ≤ 1024 → leb (getD w 1 0) 1024 ≡ countsRight w
+    pub counts-rest : 1 ≤ getD w 0 0 → getD w 0 0 ≤ mostAtoms → leb (getD w 1 0) mostOperators ≡ countsRight w
     unfolding countsRight
-    counts-rest l h = rw (le-leb (length w) 32768 short, le-leb 1 (getD w 0 0) l, le-leb (getD w 0 0) 1024 h)
+    counts-rest l h = rw (le-leb (length w) mostFdrImage short, le-leb 1 (getD w 0 0) l, le-leb (getD w 0 0) mostAtoms h)
 
 pub goal-odd : (D : List Domain) (g : List ℕ) → (length g % 2 ≡ 0 → ⊥) → false ≡ goalRight D g
 unfolding goalRight
@@ -314,45 +315,45 @@ module _ (D : List Domain) (w b : List ℕ) (i k k′ : ℕ) (more : k ≡ suc k
   pub operators-on : r ≡ true → all (blockThere D w) (range i k) ≡ all (blockThere D w) (range (i + 1) k′)
   operators-on h = range-all-on (blockThere D w) i k k′ more (rw (← eb, ← er) h)
 
--- a test of a part, over the domains
-pub part-test : (f : List Domain → List ℕ → Bool) (w d xs : List ℕ) (i : ℕ) (r : Bool) → d ≡ part w 0 → xs ≡ part w i → r ≡ f (domainsIn d) xs → r ≡ f (domainsIn (part w 0)) (part w i)
-part-test f w d xs i r ed ex er = rw (← ed, ← ex) er
-
-pub domains-test : (w d : List ℕ) (n : ℕ) (r : Bool) → d ≡ part w 0 → n ≡ getD w 0 0 → r ≡ domainsRight n d → r ≡ domainsRight (getD w 0 0) (part w 0)
-domains-test w d n r ed en er = rw (← ed, ← en) er
-
-pub operators-test : (w d : List ℕ) (m : ℕ) (r : Bool) → d ≡ part w 0 → m ≡ getD w 1 0 → r ≡ operatorsRight (domainsIn d) w m → r ≡ operatorsRight (domainsIn (part w 0)) w (getD w 1 0)
-operators-test w d m r ed em er = rw (← ed, ← em) er
-
-pub domains-few : (w d : List ℕ) (n : ℕ) → Laid w → n ≡ getD w 0 0 → domainsRight n d ≡ true → length (domainsIn d) ≤ 1024
+pub domains-few : (w d : List ℕ) (n : ℕ) → Laid w → n ≡ getD w 0 0 → domainsRight n d ≡ true → length (domainsIn d) ≤ mostAtoms
 domains-few w d n l en h = let z = few-variables w (l .counts) in omega (arith, domains-count n d h)
 
--- the parts in turn
-module _ (w : List ℕ) where
-  pub parts-domains : domainsRight (getD w 0 0) (part w 0) ≡ false → false ≡ partsRight w
+-- the parts in order, by the tests of the code
+module _ (w d : List ℕ) (ed : d ≡ part w 0) (n : ℕ) (en : n ≡ getD w 0 0) where
+  pub parts-domains : domainsRight n d ≡ false → false ≡ partsRight w
   unfolding partsRight
-  parts-domains h = rw h
+  parts-domains h = rw (← ed, ← en, h)
 
-  module _ (q₁ : domainsRight (getD w 0 0) (part w 0) ≡ true) where
-    pub parts-initial : valuesRight (domainsIn (part w 0)) (part w 2) ≡ false → false ≡ partsRight w
-    unfolding partsRight
-    parts-initial h = rw (q₁, h)
+  pub parts-rest : domainsRight n d ≡ true → restRight (domainsIn d) w ≡ partsRight w
+  unfolding partsRight
+  parts-rest h = rw (← ed, ← en, h)
 
-    module _ (q₂ : valuesRight (domainsIn (part w 0)) (part w 2) ≡ true) where
-      pub parts-atoms : atomsRight (domainsIn (part w 0)) (part w 1) ≡ false → false ≡ partsRight w
-      unfolding partsRight
-      parts-atoms h = rw (q₁, q₂, h)
+module _ (D : List Domain) (w : List ℕ) where
+  module _ (xs : List ℕ) (e : xs ≡ part w 2) where
+    pub rest-initial : valuesRight D xs ≡ false → false ≡ restRight D w
+    unfolding restRight
+    rest-initial h = rw (← e, h)
 
-      module _ (q₃ : atomsRight (domainsIn (part w 0)) (part w 1) ≡ true) where
-        pub parts-goal : goalRight (domainsIn (part w 0)) (part w 3) ≡ false → false ≡ partsRight w
-        unfolding partsRight
-        parts-goal h = rw (q₁, q₂, q₃, h)
+    module _ (yes-initial : valuesRight D xs ≡ true) (ys : List ℕ) (e′ : ys ≡ part w 1) where
+      pub rest-atoms : atomsRight D ys ≡ false → false ≡ restRight D w
+      unfolding restRight
+      rest-atoms h = rw (← e, ← e′, yes-initial, h)
 
-        pub parts-rest : goalRight (domainsIn (part w 0)) (part w 3) ≡ true → (r : Bool) → r ≡ operatorsRight (domainsIn (part w 0)) w (getD w 1 0) → r ≡ partsRight w
-        unfolding partsRight
-        parts-rest h r e = e ∙ rw (q₁, q₂, q₃, h)
+      pub rest-rules : atomsRight D ys ≡ true → rulesRight D w ≡ restRight D w
+      unfolding restRight
+      rest-rules h = rw (← e, ← e′, yes-initial, h)
 
-  -- the image in turn
+  module _ (xs : List ℕ) (e : xs ≡ part w 3) where
+    pub rules-goal : goalRight D xs ≡ false → false ≡ rulesRight D w
+    unfolding rulesRight
+    rules-goal h = rw (← e, h)
+
+    pub rules-rest : goalRight D xs ≡ true → (m : ℕ) → m ≡ getD w 1 0 → operatorsRight D w m ≡ rulesRight D w
+    unfolding rulesRight
+    rules-rest h m em = rw (← e, h, em)
+
+module _ (w : List ℕ) where
+  -- the image in order
   pub image-short : length w < 2 → false ≡ fdrRight w
   unfolding fdrRight
   image-short h = rw (directory-short w (getD w 1 0 + 4) (omega arith)) (go (countsRight w))

@@ -1,5 +1,5 @@
 -- Rows and blocks, for the walks over them. Assumes nothing.
-use mathlib.Core.Path.{_≡_, refl, sym, ap, _∙_}
+use mathlib.Core.Path.{_≡_, refl, sym, ap, _∙_, subst}
 use mathlib.Core.List.{List, [], _∷_}
 use mathlib.Core.Bool.{Bool, true, false, _&&_, and-false}
 use mathlib.Core.Option.{Option, none, some}
@@ -16,8 +16,8 @@ use Rattle.definitions.specs.Groups.{Domain}
 use Rattle.definitions.specs.Fdr.{FdrLiteral, FdrRow, FdrOperator}
 use Rattle.definitions.specs.FdrImage.{literalsIn, isAtomValue, fdrLiteralRight, fdrRowRight, fdrOperatorRight, fdrRowsOf, fdrRestOf, fdrOperatorOf}
 use Rattle.definitions.proofs.ListLaws.{never}
-use Rattle.fdr_image.specs.Walk.{kindOf, row, rowsRight, blockRight, someRows, rowsOr, parsesAt, rowsAt, someOperator, operatorOr, blockParses, operatorIn}
-use Rattle.fdr_image.specs.Post.{RowRead, BlockRead}
+use Rattle.fdr_image.specs.Walk.{wholeRow, kindOf, row, rowsRight, blockRight, someRows, rowsOr, parsesAt, rowsAt, someOperator, operatorOr, blockParses, operatorIn}
+use Rattle.fdr_image.specs.Post.{RowAt, RowRead, BlockRead}
 use Rattle.fdr_image.specs.declared.block.Kind.the-variants.{Set, Clear, Other}
 
 -- ---- kinds
@@ -115,12 +115,12 @@ module _ (D : List Domain) (b : List ℕ) (p k : ℕ) (more : 0 < k) where
   some-left : rowsRight D (fdrRowsOf k (drop p b)) ≡ rowsRight D (fdrRowsOf (suc (k - 1)) (drop p b))
   some-left = ap (λ (j : ℕ). rowsRight D (fdrRowsOf j (drop p b))) (let e : k ≡ suc (k - 1) = omega arith in e)
 
-  pub rows-short : length b - p < 4 → rowsRight D (fdrRowsOf k (drop p b)) ≡ false
+  rows-short : length b - p < 4 → rowsRight D (fdrRowsOf k (drop p b)) ≡ false
   unfolding rowsRight
   rows-short h = some-left ∙ rw (rows-none b p (k - 1) h)
 
   module _ (e v x c : ℕ) (ee : e ≡ getD b p 0) (ev : v ≡ getD b (p + 1) 0) (ex : x ≡ getD b (p + 2) 0) (ec : c ≡ getD b (p + 3) 0) (four : p + 4 ≤ length b) where
-    pub rows-over : length b - (p + 4) < 2 * c → rowsRight D (fdrRowsOf k (drop p b)) ≡ false
+    rows-over : length b - (p + 4) < 2 * c → rowsRight D (fdrRowsOf k (drop p b)) ≡ false
     unfolding rowsRight
     rows-over h = some-left ∙ rw (rows-past b p (k - 1) e v x c ee ev ex ec four h)
 
@@ -133,11 +133,64 @@ module _ (D : List Domain) (b : List ℕ) (p k : ℕ) (more : 0 < k) where
           go : (q : Option (List FdrRow)) → rowsRight D (withRow (row e v x (literalsIn (take (2 * c) (drop (p + 4) b)))) q) ≡ (fdrRowRight D (row e v x (literalsIn (take (2 * c) (drop (p + 4) b)))) && rowsRight D q)
           go q = rows-with D (row e v x (literalsIn (take (2 * c) (drop (p + 4) b)))) q
 
-      pub rows-off : right ≡ false → rowsRight D (fdrRowsOf k (drop p b)) ≡ false
+      rows-off : right ≡ false → rowsRight D (fdrRowsOf k (drop p b)) ≡ false
       rows-off h = here ∙ rw h
 
-      pub rows-on : right ≡ true → rowsRight D (fdrRowsOf k (drop p b)) ≡ rowsRight D (fdrRowsOf (k - 1) (drop (p + 4 + 2 * c) b))
+      rows-on : right ≡ true → rowsRight D (fdrRowsOf k (drop p b)) ≡ rowsRight D (fdrRowsOf (k - 1) (drop (p + 4 + 2 * c) b))
       rows-on h = here ∙ rw h
+
+-- ---- by the test that all words of the row are in the block
+module _ (b : List ℕ) (p : ℕ) where
+  pub whole-short : p ≤ length b → length b - p < 4 → false ≡ wholeRow b p
+  unfolding wholeRow
+  whole-short h l = sym (lt-leb (p + 4 + 2 * getD b (p + 3) 0) (length b) (omega arith))
+
+  pub whole-rest : (c : ℕ) → c ≡ getD b (p + 3) 0 → p ≤ length b → 4 ≤ length b - p → leb (2 * c) (length b - (p + 4)) ≡ wholeRow b p
+  unfolding wholeRow
+  whole-rest c e h l = go (leb (2 * c) (length b - (p + 4))) refl
+    where
+      go : (t : Bool) → leb (2 * c) (length b - (p + 4)) ≡ t → leb (2 * c) (length b - (p + 4)) ≡ leb (p + 4 + 2 * getD b (p + 3) 0) (length b)
+      go true q = q ∙ sym (le-leb (p + 4 + 2 * getD b (p + 3) 0) (length b) (let z = leb-true (2 * c) (length b - (p + 4)) q in omega arith))
+      go false q = q ∙ sym (lt-leb (p + 4 + 2 * getD b (p + 3) 0) (length b) (let z = leb-false (2 * c) (length b - (p + 4)) q in omega arith))
+
+  pub whole-fits : wholeRow b p ≡ true → p + 4 + 2 * getD b (p + 3) 0 ≤ length b
+  unfolding wholeRow
+  whole-fits h = leb-true (p + 4 + 2 * getD b (p + 3) 0) (length b) h
+
+module _ (D : List Domain) (b : List ℕ) (p k : ℕ) (more : 0 < k) where
+  pub rows-cut : wholeRow b p ≡ false → rowsRight D (fdrRowsOf k (drop p b)) ≡ false
+  unfolding wholeRow
+  rows-cut h = go (leb (p + 4) (length b)) refl
+    where
+      past : length b < p + 4 + 2 * getD b (p + 3) 0
+      past = leb-false (p + 4 + 2 * getD b (p + 3) 0) (length b) h
+
+      go : (t : Bool) → leb (p + 4) (length b) ≡ t → rowsRight D (fdrRowsOf k (drop p b)) ≡ false
+      go true e =
+          let room = leb-true (p + 4) (length b) e in
+          let over = past in
+          rows-over D b p k more (getD b p 0) (getD b (p + 1) 0) (getD b (p + 2) 0) (getD b (p + 3) 0) refl refl refl refl room (omega arith)
+      go false e = rows-short D b p k more (let z = leb-false (p + 4) (length b) e in omega arith)
+
+  module _ (e v x f z : ℕ) (at : RowAt b p e v x f z) (right : Bool) (er : right ≡ fdrRowRight D (row e v x (literalsIn (take (z - f) (drop f b))))) where
+    fits : p + 4 + 2 * getD b (p + 3) 0 ≤ length b
+    fits = let h = at .high in let e = at .end-is in omega arith
+
+    right-is : right ≡ fdrRowRight D (row e v x (literalsIn (take (p + 4 + 2 * getD b (p + 3) 0 - (p + 4)) (drop (p + 4) b))))
+    right-is =
+        er ∙ ap (λ (j : ℕ). fdrRowRight D (row e v x (literalsIn (take (z - j) (drop j b))))) (at .from-is)
+        ∙ ap (λ (j : ℕ). fdrRowRight D (row e v x (literalsIn (take (j - (p + 4)) (drop (p + 4) b))))) (at .end-is)
+
+    pub rows-wrong : right ≡ false → rowsRight D (fdrRowsOf k (drop p b)) ≡ false
+    rows-wrong h =
+        let l = fits in
+        rows-off D b p k more e v x (getD b (p + 3) 0) (at .kind-is) (at .variable-is) (at .value-is) refl (omega arith) (omega arith) right right-is h
+
+    pub rows-right : right ≡ true → rowsRight D (fdrRowsOf k (drop p b)) ≡ rowsRight D (fdrRowsOf (k - 1) (drop z b))
+    rows-right h =
+        let l = fits in
+        rows-on D b p k more e v x (getD b (p + 3) 0) (at .kind-is) (at .variable-is) (at .value-is) refl (omega arith) (omega arith) right right-is h
+        ∙ ap (λ (j : ℕ). rowsRight D (fdrRowsOf (k - 1) (drop j b))) (sym (at .end-is))
 
 pub rows-end : (D : List Domain) (b : List ℕ) (p k : ℕ) → k ≡ 0 → p ≤ length b → eqb p (length b) ≡ rowsRight D (fdrRowsOf k (drop p b))
 unfolding rowsRight fdrRowsOf all
@@ -234,7 +287,7 @@ module _ (b : List ℕ) (p k : ℕ) (ok : parsesAt b p k ≡ true) (more : 0 < k
   unfolding someRows
   refuted e = not-some (sym (ap someRows e) ∙ parses-more)
 
-  pub row-room : p + 4 ≤ length b
+  row-room : p + 4 ≤ length b
   row-room = go (leb (p + 4) (length b)) refl
     where
       go : (t : Bool) → leb (p + 4) (length b) ≡ t → p + 4 ≤ length b
@@ -249,9 +302,9 @@ module _ (b : List ℕ) (p k : ℕ) (ok : parsesAt b p k ≡ true) (more : 0 < k
         go true h = leb-true (2 * c) (length b - (p + 4)) h
         go false h = refuted (rows-past b p (k - 1) e v x c ee ev ex ec row-room (leb-false (2 * c) (length b - (p + 4)) h))
 
-    pub row-read : x < 65536 → RowRead b p k e v x (p + 4) (p + 4 + 2 * c)
+    words-read : x < 65536 → RowRead b p k e v x (p + 4) (p + 4 + 2 * c)
     unfolding parsesAt rowsAt
-    row-read word =
+    words-read word =
         let room = row-room in
         let fit = row-fits in
         let step = rows-next b p (k - 1) e v x c ee ev ex ec row-room row-fits in
@@ -266,6 +319,20 @@ module _ (b : List ℕ) (p k : ℕ) (ok : parsesAt b p k ≡ true) (more : 0 < k
           next = left;
           row = rw (add-sub-cancel-left (p + 4) (2 * c)) (ap (λ (j : ℕ). rowsOr (fdrRowsOf j (drop p b))) more′ ∙ ap rowsOr step ∙ or-row r q left);
         }
+
+  -- by the words of the row
+  pub row-whole : wholeRow b p ≡ true
+  unfolding wholeRow
+  row-whole =
+      let room = row-room in
+      let fit = row-fits (getD b p 0) (getD b (p + 1) 0) (getD b (p + 2) 0) (getD b (p + 3) 0) refl refl refl refl in
+      le-leb (p + 4 + 2 * getD b (p + 3) 0) (length b) (omega arith)
+
+  pub row-read : (e v x f z : ℕ) → RowAt b p e v x f z → RowRead b p k e v x f z
+  row-read e v x f z at =
+      subst (λ (j : ℕ). RowRead b p k e v x j z) (sym (at .from-is))
+      (subst (λ (j : ℕ). RowRead b p k e v x (p + 4) j) (sym (at .end-is))
+      (words-read e v x (getD b (p + 3) 0) (at .kind-is) (at .variable-is) (at .value-is) refl (at .word)))
 
 pub rows-done : (b : List ℕ) (p k : ℕ) → k ≡ 0 → rowsAt b p k ≡ []
 unfolding rowsAt rowsOr fdrRowsOf

@@ -5,11 +5,12 @@ use mathlib.Core.Bool.{Bool, true, false, _&&_}
 use mathlib.Core.Option.{Option, none, some}
 use lib.Dec.{eqb, leb}
 use lib.ListN.{length, getD, drop, set, replicate}
+use Rattle.definitions.specs.Literal.{mostAtoms}
 use Rattle.definitions.specs.Lists.{all, below}
-use Rattle.definitions.specs.Image.{part, directory}
+use Rattle.definitions.specs.Image.{mostOperators, part, directory}
 use Rattle.definitions.specs.Groups.{Domain, Place}
 use Rattle.definitions.specs.Fdr.{FdrLiteral, FdrRow, FdrOperator, noDomain, atomValues}
-use Rattle.definitions.specs.FdrImage.{domainsIn, placesIn, literalsIn, fdrRowsOf, fdrOperatorOf, placeRight, fdrLiteralRight, fdrRowRight, fdrOperatorRight, eachGivenOnce, valuesRight}
+use Rattle.definitions.specs.FdrImage.{mostFdrImage, domainsIn, placesIn, literalsIn, fdrRowsOf, fdrOperatorOf, placeRight, fdrLiteralRight, fdrRowRight, fdrOperatorRight, eachGivenOnce, valuesRight}
 use Rattle.definitions.specs.FdrStep.{noFdrOperator}
 use Rattle.fdr_image.specs.declared.block.Kind.{Kind}
 use Rattle.fdr_image.specs.declared.block.Kind.the-variants.{Set, Clear, Other}
@@ -33,6 +34,10 @@ abbrev pub kindOf : ℕ → Kind
 kindOf zero = Set
 kindOf (suc zero) = Clear
 kindOf (suc (suc k)) = Other
+
+-- all words of a row that begins at p are in the block
+unfoldable pub wholeRow : List ℕ → ℕ → Bool
+wholeRow b p = leb (p + 4 + 2 * getD b (p + 3) 0) (length b)
 
 -- the rows that were read, if any, are right
 unfoldable pub rowsRight : List Domain → Option (List FdrRow) → Bool
@@ -84,9 +89,9 @@ valuesBefore D (suc v) = valuesBefore D v + atomValues (getD D v noDomain)
 abbrev pub ranksIn : List ℕ → List ℕ → List ℕ
 ranksIn s w = map (λ p. getD s (p .variable) 0 + p .value) (placesIn w)
 
--- 1,024 marks, none of them made
+-- a mark for each rank, none of them made
 unfoldable pub noMarks : List ℕ
-noMarks = replicate 1024 0
+noMarks = replicate mostAtoms 0
 
 -- no number twice, nor one that is marked
 unfoldable pub allNew : List ℕ → List ℕ → Bool
@@ -95,7 +100,7 @@ allNew m (k ∷ ks) = let r = allNew (set m k 1) ks in eqb (getD m k 0) 0 && r
 
 -- ---- question 17, part by part
 unfoldable pub countsRight : List ℕ → Bool
-countsRight w = leb (length w) 32768 && leb 1 (getD w 0 0) && leb (getD w 0 0) 1024 && leb (getD w 1 0) 1024
+countsRight w = leb (length w) mostFdrImage && leb 1 (getD w 0 0) && leb (getD w 0 0) mostAtoms && leb (getD w 1 0) mostOperators
 
 unfoldable pub domainsRight : ℕ → List ℕ → Bool
 domainsRight n d = eqb (length d) (2 * n) && all (λ d. leb (d .none) 1) (domainsIn d)
@@ -103,7 +108,7 @@ domainsRight n d = eqb (length d) (2 * n) && all (λ d. leb (d .none) 1) (domain
 unfoldable pub atomsRight : List Domain → List ℕ → Bool
 atomsRight D a =
     let P = placesIn a in
-    (eqb (length a % 2) 0 && leb 1 (length P) && leb (length P) 1024) && (all (placeRight D) P && eachGivenOnce D P)
+    (eqb (length a % 2) 0 && leb 1 (length P) && leb (length P) mostAtoms) && (all (placeRight D) P && eachGivenOnce D P)
 
 unfoldable pub goalRight : List Domain → List ℕ → Bool
 goalRight D g = eqb (length g % 2) 0 && all (fdrLiteralRight D) (literalsIn g)
@@ -111,12 +116,16 @@ goalRight D g = eqb (length g % 2) 0 && all (fdrLiteralRight D) (literalsIn g)
 unfoldable pub operatorsRight : List Domain → List ℕ → ℕ → Bool
 operatorsRight D w m = all (λ i. blockRight D (fdrOperatorOf (part w (i + 4)))) (below m)
 
+-- the goal and the operators, over the domains
+unfoldable pub rulesRight : List Domain → List ℕ → Bool
+rulesRight D w = goalRight D (part w 3) && operatorsRight D w (getD w 1 0)
+
+-- all parts but the domains
+unfoldable pub restRight : List Domain → List ℕ → Bool
+restRight D w = valuesRight D (part w 2) && (atomsRight D (part w 1) && rulesRight D w)
+
 unfoldable pub partsRight : List ℕ → Bool
-partsRight w =
-    let D = domainsIn (part w 0) in
-    domainsRight (getD w 0 0) (part w 0)
-    && (valuesRight D (part w 2)
-    && (atomsRight D (part w 1) && (goalRight D (part w 3) && operatorsRight D w (getD w 1 0))))
+partsRight w = domainsRight (getD w 0 0) (part w 0) && restRight (domainsIn (part w 0)) w
 
 unfoldable pub fdrRight : List ℕ → Bool
 fdrRight w = countsRight w && (directory w (getD w 1 0 + 4) && partsRight w)

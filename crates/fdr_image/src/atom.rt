@@ -1,29 +1,17 @@
 // The atoms, as words: for each its variable and its value. Each atom value of each variable belongs to exactly one atom.
 ghost use mathlib.Core.Path.{_≡_};
-ghost use mathlib.Core.Bool.{true};
-ghost use Prim.Native.Nat.{_+_, _*_, _≤_, _<_};
+ghost use Prim.Native.Nat.{_/_, _≤_, _<_};
 ghost use lib.ListN.{length, getD};
 ghost use Rattle.definitions.specs.Lists.{all};
+ghost use Rattle.definitions.specs.Literal.{mostAtoms};
 ghost use Rattle.definitions.specs.FdrImage.{domainsIn, placesIn, placeRight, eachGivenOnce};
 ghost use Rattle.fdr_image.specs.Walk.{place, noMarks, allNew, ranksIn, atomsRight};
-ghost use Rattle.fdr_image.specs.Post.{Started, Ranked, AllPlaced};
-
-fn starts_room() -> [u16; 1024]
-    ensures { λ r. ⌜ length r ≡ 1024 ⌝ }
-{
-    [0u16; 1024]
-}
-
-fn marks_room() -> [u8; 1024]
-    ensures { λ r. ⌜ r ≡ noMarks ⌝ }
-{
-    [0u8; 1024]
-}
+ghost use Rattle.fdr_image.specs.Post.{Starts, Started, Ranked, AllPlaced};
 
 // Puts the rank of each variable's first value among the atom values of all variables into `starts`.
 // Answers whether there are `atoms` of them in all, and stops where there are more.
 fn put_starts(domains: &[u16], starts: &mut [u16], atoms: usize) -> bool
-    requires { ⌜ (length (domainsIn (now domains)) ≤ 1024) × (length (now starts) ≡ 1024) × (atoms ≤ 1024) ⌝ }
+    requires { ⌜ Starts (domainsIn (now domains)) (now starts) atoms ⌝ }
     ensures { λ r. ⌜ Started (domainsIn (now (domains .entry))) atoms (now (starts .exit)) r ⌝ }
 {
     let mut sum: usize = 0;
@@ -39,17 +27,25 @@ fn put_starts(domains: &[u16], starts: &mut [u16], atoms: usize) -> bool
     sum == atoms
 }
 
+// The rank of an atom's value among the atom values of all variables.
+fn rank_of(atoms: &[u16], starts: &[u16], atom: usize) -> usize
+    requires { ⌜ Ranked (now atoms) (now starts) × (atom < length (now atoms) / 2) ⌝ }
+    ensures { λ r. ⌜ (r ≡ getD (ranksIn (now (starts .entry)) (now (atoms .entry))) atom 0) × (r < mostAtoms) ⌝ }
+{
+    let variable = literal::wide(atoms[2 * atom]);
+    let value = literal::wide(atoms[2 * atom + 1]);
+    literal::wide(starts[variable]) + value
+}
+
 // Whether no two atoms have the same rank.
 fn are_new(atoms: &[u16], starts: &[u16]) -> bool
-    requires { ⌜ (Ranked (now atoms) (now starts)) × (length (now starts) ≡ 1024) ⌝ }
+    requires { ⌜ Ranked (now atoms) (now starts) ⌝ }
     ensures { λ r. ⌜ r ≡ allNew noMarks (ranksIn (now (starts .entry)) (now (atoms .entry))) ⌝ }
 {
-    let mut marks = marks_room();
+    let mut marks = [0u8; literal::MOST_ATOMS];
     let mut i: usize = 0;
     while i < atoms.len() / 2 {
-        let variable = literal::wide(atoms[2 * i]);
-        let value = literal::wide(atoms[2 * i + 1]);
-        let rank = literal::wide(starts[variable]) + value;
+        let rank = rank_of(atoms, starts, i);
         if marks[rank] != 0 {
             return false;
         }
@@ -64,7 +60,7 @@ fn are_given_once(domains: &[u16], atoms: &[u16]) -> bool
     requires { ⌜ AllPlaced (domainsIn (now domains)) (placesIn (now atoms)) ⌝ }
     ensures { λ r. ⌜ r ≡ eachGivenOnce (domainsIn (now (domains .entry))) (placesIn (now (atoms .entry))) ⌝ }
 {
-    let mut starts = starts_room();
+    let mut starts = literal::room::values();
     let full = put_starts(domains, &mut starts, atoms.len() / 2);
     if !full {
         return false;
@@ -89,9 +85,9 @@ fn are_placed(domains: &[u16], atoms: &[u16]) -> bool
     true
 }
 
-// Whether the words are 1 to 1,024 atoms, and each atom value of each variable belongs to exactly one of them.
+// Whether the words are 1 to the most atoms, and each atom value of each variable belongs to exactly one of them.
 pub fn are_atoms(domains: &[u16], atoms: &[u16]) -> bool
-    requires { ⌜ length (domainsIn (now domains)) ≤ 1024 ⌝ }
+    requires { ⌜ length (domainsIn (now domains)) ≤ mostAtoms ⌝ }
     ensures { λ r. ⌜ r ≡ atomsRight (domainsIn (now (domains .entry))) (now (atoms .entry)) ⌝ }
 {
     if atoms.len() % 2 != 0 {
@@ -100,7 +96,7 @@ pub fn are_atoms(domains: &[u16], atoms: &[u16]) -> bool
     if atoms.len() / 2 < 1 {
         return false;
     }
-    if 1024 < atoms.len() / 2 {
+    if literal::MOST_ATOMS < atoms.len() / 2 {
         return false;
     }
     let placed = are_placed(domains, atoms);

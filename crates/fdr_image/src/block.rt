@@ -5,8 +5,8 @@ ghost use Prim.Native.Nat.{_+_, _-_, _≤_, _<_};
 ghost use lib.Dec.{leb};
 ghost use lib.ListN.{length, drop};
 ghost use Rattle.definitions.specs.FdrImage.{domainsIn, literalsIn, fdrRowRight, fdrRowsOf, fdrOperatorOf};
-ghost use Rattle.fdr_image.specs.Walk.{kindOf, row, rowsRight, blockRight, blockParses, operatorIn, parsesAt};
-ghost use Rattle.fdr_image.specs.Post.{RowRead, BlockRead};
+ghost use Rattle.fdr_image.specs.Walk.{kindOf, row, wholeRow, rowsRight, blockRight, blockParses, operatorIn, parsesAt};
+ghost use Rattle.fdr_image.specs.Post.{RowAt, RowRead, BlockRead};
 
 // What a row does with its value.
 pub enum Kind {
@@ -51,6 +51,42 @@ fn is_row(domains: &[u16], kind: u16, variable: usize, value: usize, conditions:
     super::domain::are_literals(domains, conditions)
 }
 
+// Whether all words of a row that begins at `at` are in the block.
+fn is_whole(block: &[u16], at: usize) -> bool
+    requires { ⌜ at ≤ length (now block) ⌝ }
+    ensures { λ r. ⌜ r ≡ wholeRow (now (block .entry)) at ⌝ }
+{
+    if block.len() - at < 4 {
+        return false;
+    }
+    let count = literal::wide(block[at + 3]);
+    2 * count <= block.len() - (at + 4)
+}
+
+// A row of a block: its kind, variable and value, and where its conditions begin and end. The next row begins at their end.
+pub struct RowPart {
+    pub kind: u16,
+    pub variable: usize,
+    pub value: usize,
+    pub from: usize,
+    pub end: usize,
+}
+
+// The row at `at`, all words of which are in the block.
+fn row_at(block: &[u16], at: usize) -> RowPart
+    requires { ⌜ wholeRow (now block) at ≡ true ⌝ }
+    ensures { λ r. ⌜ RowAt (now (block .entry)) at (r .kind) (r .variable) (r .value) (r .from) (r .end) ⌝ }
+{
+    let from = at + 4;
+    RowPart {
+        kind: block[at],
+        variable: literal::wide(block[at + 1]),
+        value: literal::wide(block[at + 2]),
+        from: from,
+        end: from + 2 * literal::wide(block[at + 3]),
+    }
+}
+
 // Whether `rows` right rows stand from `from` to the end of the block.
 fn are_rows(domains: &[u16], block: &[u16], from: usize, rows: usize) -> bool
     requires { ⌜ from ≤ length (now block) ⌝ }
@@ -59,18 +95,18 @@ fn are_rows(domains: &[u16], block: &[u16], from: usize, rows: usize) -> bool
     let mut at = from;
     let mut left = rows;
     while 0 < left {
-        if block.len() - at < 4 {
+        let whole = is_whole(block, at);
+        if !whole {
             return false;
         }
-        let variable = literal::wide(block[at + 1]);
-        let value = literal::wide(block[at + 2]);
-        let count = literal::wide(block[at + 3]);
-        let start = at + 4;
-        if block.len() - start < 2 * count {
-            return false;
-        }
-        let end = start + 2 * count;
-        let right = is_row(domains, block[at], variable, value, &block[start..end]);
+        let RowPart {
+            kind,
+            variable,
+            value,
+            from,
+            end,
+        } = row_at(block, at);
+        let right = is_row(domains, kind, variable, value, &block[from..end]);
         if !right {
             return false;
         }
@@ -99,7 +135,7 @@ pub fn is_block(domains: &[u16], block: &[u16]) -> bool
     are_rows(domains, block, end + 1, rows)
 }
 
-// Where the precondition of a block ends, and its number of rows, which begin behind the word at that end.
+// Where the precondition of a block ends, and its number of rows, which begin after the word at that end.
 pub struct BlockHead {
     pub end: usize,
     pub rows: usize,
@@ -116,26 +152,10 @@ pub fn head(block: &[u16]) -> BlockHead
     }
 }
 
-// A row of a block: its kind, variable and value, and where its conditions begin and end. The next row begins at their end.
-pub struct RowPart {
-    pub kind: u16,
-    pub variable: usize,
-    pub value: usize,
-    pub from: usize,
-    pub end: usize,
-}
-
 // The row at `at`, where `left` rows are left.
 pub fn row(block: &[u16], at: usize, left: usize) -> RowPart
     requires { ⌜ (parsesAt (now block) at left ≡ true) × (0 < left) ⌝ }
     ensures { λ r. ⌜ RowRead (now (block .entry)) at left (r .kind) (r .variable) (r .value) (r .from) (r .end) ⌝ }
 {
-    let from = at + 4;
-    RowPart {
-        kind: block[at],
-        variable: literal::wide(block[at + 1]),
-        value: literal::wide(block[at + 2]),
-        from: from,
-        end: from + 2 * literal::wide(block[at + 3]),
-    }
+    row_at(block, at)
 }

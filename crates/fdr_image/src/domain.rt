@@ -4,6 +4,7 @@ ghost use mathlib.Core.Bool.{true};
 ghost use Prim.Native.Nat.{_+_, _*_, _≤_, _<_};
 ghost use lib.ListN.{length, getD};
 ghost use Rattle.definitions.specs.Lists.{all};
+ghost use Rattle.definitions.specs.Literal.{mostAtoms};
 ghost use Rattle.definitions.specs.Fdr.{noDomain, atomValues};
 ghost use Rattle.definitions.specs.FdrImage.{domainsIn, literalsIn, isAtomValue, valuesRight, fdrLiteralRight};
 ghost use Rattle.fdr_image.specs.Walk.{domainsRight};
@@ -46,7 +47,7 @@ pub fn is_atom_value(domains: &[u16], variable: usize, value: usize) -> bool
 
 // Whether the words are the domains of `variables` variables.
 pub fn are_domains(domains: &[u16], variables: usize) -> bool
-    requires { ⌜ variables ≤ 1024 ⌝ }
+    requires { ⌜ variables ≤ mostAtoms ⌝ }
     ensures { λ r. ⌜ r ≡ domainsRight variables (now (domains .entry)) ⌝ }
 {
     if domains.len() != 2 * variables {

@@ -4,34 +4,41 @@ ghost use mathlib.Core.Bool.{true};
 ghost use Prim.Native.Nat.{_+_, _≤_, _<_};
 ghost use lib.ListN.{length, getD};
 ghost use Rattle.definitions.specs.Answer.{verdict};
-ghost use Rattle.definitions.specs.Image.{directory};
+ghost use Rattle.definitions.specs.Literal.{mostAtoms};
+ghost use Rattle.definitions.specs.Image.{mostOperators, directory};
 ghost use Rattle.definitions.specs.Fdr.{domainAt};
 ghost use Rattle.definitions.specs.FdrImage.{domainsIn, placesIn, literalsIn, readFdr};
 ghost use Rattle.definitions.specs.FdrStep.{isFdrState};
 ghost use Rattle.answer.specs.Answer.{verdictAnswer};
 ghost use Rattle.fdr_image.specs.Reads.{fdrOf, ReadsFdr};
-ghost use Rattle.fdr_image.specs.Walk.{place, countsRight, goalRight, operatorsRight, partsRight, fdrRight};
-ghost use Rattle.fdr_image.specs.Post.{Laid, BlockGiven};
+ghost use Rattle.fdr_image.specs.Walk.{place, countsRight, goalRight, operatorsRight, rulesRight, restRight, partsRight, fdrRight};
+ghost use Rattle.fdr_image.specs.Post.{Laid, LaidOver, BlockGiven};
+use answer::Refusal;
+use answer::Verdict;
 
 pub mod domain; // domain.rt: the domains of the variables, and values in them
 pub mod atom; // atom.rt: the atoms
 pub mod block; // block.rt: the block of one operator
 
-// Whether the image has 2 to 32,768 words, 1 to 1,024 variables and at most 1,024 operators.
+// The most words of a re-encoded image.
+pub const MOST_WORDS: usize = 32768;
+
+// Whether the image has not too many words, 1 to the most variables, and not too many operators.
 fn are_counts(image: &[u16]) -> bool
     requires { ⌜ 2 ≤ length (now image) ⌝ }
     ensures { λ r. ⌜ r ≡ countsRight (now (image .entry)) ⌝ }
 {
-    if 32768 < image.len() {
+    if MOST_WORDS < image.len() {
         return false;
     }
-    if image[0] < 1 {
+    let variables = literal::wide(image[0]);
+    if variables < 1 {
         return false;
     }
-    if 1024 < image[0] {
+    if literal::MOST_ATOMS < variables {
         return false;
     }
-    image[1] <= 1024
+    literal::wide(image[1]) <= directory::MOST_OPERATORS
 }
 
 fn is_goal(domains: &[u16], goal: &[u16]) -> bool
@@ -45,7 +52,7 @@ fn is_goal(domains: &[u16], goal: &[u16]) -> bool
 
 // Whether the blocks of the operators are right.
 fn are_operators(image: &[u16], domains: &[u16], operators: usize) -> bool
-    requires { ⌜ (operators ≤ 1024) × (directory (now image) (operators + 4) ≡ true) ⌝ }
+    requires { ⌜ (operators ≤ mostOperators) × (directory (now image) (operators + 4) ≡ true) ⌝ }
     ensures { λ r. ⌜ r ≡ operatorsRight (domainsIn (now (domains .entry))) (now (image .entry)) operators ⌝ }
 {
     let mut i: usize = 0;
@@ -59,6 +66,34 @@ fn are_operators(image: &[u16], domains: &[u16], operators: usize) -> bool
     true
 }
 
+// Whether the goal and the operators are right over the domains.
+fn are_rules(image: &[u16], domains: &[u16]) -> bool
+    requires { ⌜ LaidOver (now domains) (now image) ⌝ }
+    ensures { λ r. ⌜ r ≡ rulesRight (domainsIn (now (domains .entry))) (now (image .entry)) ⌝ }
+{
+    let goal = is_goal(domains, directory::part(image, 3));
+    if !goal {
+        return false;
+    }
+    are_operators(image, domains, literal::wide(image[1]))
+}
+
+// Whether all parts but the domains are right over them.
+fn is_rest(image: &[u16], domains: &[u16]) -> bool
+    requires { ⌜ LaidOver (now domains) (now image) ⌝ }
+    ensures { λ r. ⌜ r ≡ restRight (domainsIn (now (domains .entry))) (now (image .entry)) ⌝ }
+{
+    let initial = domain::are_values(domains, directory::part(image, 2));
+    if !initial {
+        return false;
+    }
+    let atoms = atom::are_atoms(domains, directory::part(image, 1));
+    if !atoms {
+        return false;
+    }
+    are_rules(image, domains)
+}
+
 // Whether the parts of an image with a right directory are right.
 fn are_parts(image: &[u16]) -> bool
     requires { ⌜ Laid (now image) ⌝ }
@@ -69,19 +104,7 @@ fn are_parts(image: &[u16]) -> bool
     if !sized {
         return false;
     }
-    let initial = domain::are_values(domains, directory::part(image, 2));
-    if !initial {
-        return false;
-    }
-    let atoms = atom::are_atoms(domains, directory::part(image, 1));
-    if !atoms {
-        return false;
-    }
-    let goal = is_goal(domains, directory::part(image, 3));
-    if !goal {
-        return false;
-    }
-    are_operators(image, domains, literal::wide(image[1]))
+    is_rest(image, domains)
 }
 
 // Whether the image is a re-encoded one.
@@ -103,21 +126,20 @@ fn is_right(image: &[u16]) -> bool
 }
 
 // Reads an image: question 17.
-pub fn read(image: &[u16]) -> answer::Verdict
+pub fn read(image: &[u16]) -> Verdict
     ensures { λ r. ⌜ verdictAnswer r ≡ verdict (readFdr (now (image .entry))) ⌝ }
 {
     let right = is_right(image);
-    if right {
-        answer::Verdict::Fine
-    } else {
-        answer::refuse(answer::Refusal::FDR_IMAGE)
+    if !right {
+        return answer::refuse(Refusal::FDR_IMAGE);
     }
+    Verdict::Fine
 }
 
 // The number of variables of an image that reads as a re-encoded task.
 pub fn variables(image: &[u16]) -> usize
     requires { ⌜ ReadsFdr (now image) ⌝ }
-    ensures { λ r. ⌜ (r ≡ length (fdrOf (now (image .entry)) .domains)) × (r ≤ 1024) ⌝ }
+    ensures { λ r. ⌜ (r ≡ length (fdrOf (now (image .entry)) .domains)) × (r ≤ mostAtoms) ⌝ }
 {
     literal::wide(image[0])
 }
@@ -125,7 +147,7 @@ pub fn variables(image: &[u16]) -> usize
 // The number of operators of an image that reads as a re-encoded task.
 pub fn operators(image: &[u16]) -> usize
     requires { ⌜ ReadsFdr (now image) ⌝ }
-    ensures { λ r. ⌜ (r ≡ length (fdrOf (now (image .entry)) .operators)) × (r ≤ 1024) ⌝ }
+    ensures { λ r. ⌜ (r ≡ length (fdrOf (now (image .entry)) .operators)) × (r ≤ mostOperators) ⌝ }
 {
     literal::wide(image[1])
 }
@@ -173,7 +195,7 @@ pub fn operator_block(image: &[u16], i: usize) -> &[u16]
 // The number of atoms of an image that reads as a re-encoded task.
 pub fn atoms(image: &[u16]) -> usize
     requires { ⌜ ReadsFdr (now image) ⌝ }
-    ensures { λ r. ⌜ (r ≡ length (fdrOf (now (image .entry)) .atoms)) × (r ≤ 1024) ⌝ }
+    ensures { λ r. ⌜ (r ≡ length (fdrOf (now (image .entry)) .atoms)) × (r ≤ mostAtoms) ⌝ }
 {
     let words = places(image);
     words.len() / 2

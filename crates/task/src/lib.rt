@@ -19,7 +19,7 @@ pub mod block; // block.rt: the block of one operator
 pub const MOST_WORDS: usize = 8192;
 
 // The most operators of a task.
-pub const MOST_OPERATORS: usize = 1024;
+pub const MOST_OPERATORS: usize = directory::MOST_OPERATORS;
 
 // Question 1.
 fn is_size(image: &[u16]) -> bool

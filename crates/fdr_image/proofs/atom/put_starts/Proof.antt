@@ -28,19 +28,19 @@ returns : tie.Need-returns Inv-loop μ-loop
 returns c = record { all-values = before-over (domainsIn (c .before .before .before .before .before .args .domains .now)) (c .before .before .loop .v) _ _ (omega (arith, domains-length (c .before .before .before .before .before .args .domains .now))) (c .before .before .loop .inv .2) (c .if1 .taken); begin = λ e. absurd (let z : _≡_ {A = ℕ} 0 1 = cc in omega arith) }
 
 cast-starts : tie.Need-cast-starts Inv-loop μ-loop
-cast-starts c = omega (arith, c .before .before .before .before .before .pre .2)
+cast-starts c = omega (arith, c .before .before .before .before .before .pre .few)
 
 mul-starts : tie.Need-mul-starts Inv-loop μ-loop
 mul-starts c = search needs
 
 slice-write-starts : tie.Need-slice-write-starts Inv-loop μ-loop
-slice-write-starts c = omega (arith, c .before .before .before .before .before .pre .0, c .before .before .before .before .before .pre .1, c .before .before .loop .inv .1, domains-length (c .before .before .before .before .before .args .domains .now))
+slice-write-starts c = omega (arith, c .before .before .before .before .before .pre .variables, c .before .before .before .before .before .pre .size, c .before .before .loop .inv .1, domains-length (c .before .before .before .before .before .args .domains .now))
 
 atom-values-requires : tie.Need-atom-values-requires Inv-loop μ-loop
 atom-values-requires c κs = omega (arith, domains-length (c .before .before .before .before .before .args .domains .now))
 
 add-sum : tie.Need-add-sum Inv-loop μ-loop
-add-sum c = omega (arith, c .atom-values .ensures .1, c .before .before .before .before .before .before .pre .2)
+add-sum c = omega (arith, c .atom-values .ensures .1, c .before .before .before .before .before .before .pre .few)
 
 add-v : tie.Need-add-v Inv-loop μ-loop
 add-v c = search needs
@@ -49,7 +49,7 @@ loop-less : tie.Need-loop-less Inv-loop μ-loop
 loop-less c = search needs
 
 loop-again : tie.Need-loop-again Inv-loop μ-loop
-loop-again c = (omega arith, simp length-set (c .before .before .before .loop .inv .1), before-next (domainsIn (c .before .before .before .before .before .before .args .domains .now)) _ _ _ (c .before .before .before .loop .inv .2) (c .atom-values .ensures .0), starts-more (domainsIn (c .before .before .before .before .before .before .args .domains .now)) (c .before .before .before .loop .starts) (c .before .before .before .loop .v) _ (omega (arith, c .before .before .before .before .before .before .pre .0, c .before .before .before .before .before .before .pre .1, c .before .before .before .loop .inv .1, domains-length (c .before .before .before .before .before .before .args .domains .now))) (c .before .before .before .loop .inv .3) (c .before .before .before .loop .inv .2))
+loop-again c = (omega arith, simp length-set (c .before .before .before .loop .inv .1), before-next (domainsIn (c .before .before .before .before .before .before .args .domains .now)) _ _ _ (c .before .before .before .loop .inv .2) (c .atom-values .ensures .0), starts-more (domainsIn (c .before .before .before .before .before .before .args .domains .now)) (c .before .before .before .loop .starts) (c .before .before .before .loop .v) _ (omega (arith, c .before .before .before .before .before .before .pre .variables, c .before .before .before .before .before .before .pre .size, c .before .before .before .loop .inv .1, domains-length (c .before .before .before .before .before .before .args .domains .now))) (c .before .before .before .loop .inv .3) (c .before .before .before .loop .inv .2))
 
 same-length-2 : tie.Need-same-length-2 Inv-loop μ-loop
 same-length-2 c = search needs

@@ -6,103 +6,75 @@ use lib.ListN.{length, drop}
 use borrow.Author.Tests.{not-true, not-false}
 use Rattle.definitions.specs.FdrImage.{domainsIn, fdrRowsOf}
 use Rattle.fdr_image.specs.Walk.{rowsRight}
-use Rattle.fdr_image.proofs.RowLaws.{rows-short, rows-over, rows-off, rows-on, rows-end}
+use Rattle.fdr_image.proofs.RowLaws.{rows-cut, rows-wrong, rows-right, rows-end}
 use borrow.Author.Needs.{needs}
 use Rattle.fdr_image.proofs.block.are_rows.Statement.{statement}
 use Rattle.fdr_image.proofs.block.are_rows.Tie as tie
 
 abbrev Inv-loop : tie.InvT-loop
-Inv-loop domains block from rows at₀ left₀ at left = (at ≤ length block) × (rowsRight (domainsIn domains) (fdrRowsOf rows (drop from block)) ≡ rowsRight (domainsIn domains) (fdrRowsOf left (drop at block)))
+Inv-loop domains block from rows at₀ left₀ at left =
+    (at ≤ length block)
+    × (rowsRight (domainsIn domains) (fdrRowsOf rows (drop from block)) ≡ rowsRight (domainsIn domains) (fdrRowsOf left (drop at block)))
 
 abbrev μ-loop : tie.MeasureT-loop
 μ-loop domains block from rows at₀ left₀ at left = left
 
+-- where a row was tested: its words, the loop, and the start
+abbrev row-of : tie.After-is-row Inv-loop μ-loop → tie.After-row-at Inv-loop μ-loop
+row-of c = c .before .before
+
+abbrev in-of : tie.After-row-at Inv-loop μ-loop → tie.In-loop Inv-loop μ-loop
+in-of c = c .before .before .before
+
+abbrev start : tie.At-loop Inv-loop μ-loop → tie.Start Inv-loop μ-loop
+start c = c .before .before .before
+
 loop-holds : tie.Need-loop-holds Inv-loop μ-loop
 loop-holds c = (c .before .before .pre, refl)
 
-sub-if1 : tie.Need-sub-if1 Inv-loop μ-loop
-sub-if1 c = search needs
+is-whole-requires : tie.Need-is-whole-requires Inv-loop μ-loop
+is-whole-requires c κs = c .before .loop .inv .0
 
 returns : tie.Need-returns Inv-loop μ-loop
-returns c = sym (c .before .before .loop .inv .1 ∙ rows-short _ (c .before .before .before .before .before .args .block .now) (c .before .before .loop .at) (c .before .before .loop .left) (c .before .loop-test .taken) (c .if1 .taken))
+returns c =
+    let i = c .before .before in
+    let l = i .before in
+    sym
+    (l .loop .inv .1
+    ∙ rows-cut _ (start l .args .block .now) (l .loop .at) (l .loop .left) (i .loop-test .taken) (sym (c .before .is-whole .ensures) ∙ not-true _ (c .if1 .taken)))
 
-add-wide : tie.Need-add-wide Inv-loop μ-loop
-add-wide c = search needs
-
-mul-wide : tie.Need-mul-wide Inv-loop μ-loop
-mul-wide c = search needs
-
-shared-slice-read-wide : tie.Need-shared-slice-read-wide Inv-loop μ-loop
-shared-slice-read-wide c = search needs
-
-wide-requires : tie.Need-wide-requires Inv-loop μ-loop
-wide-requires c κs = search needs
-
-add-wide-2 : tie.Need-add-wide-2 Inv-loop μ-loop
-add-wide-2 c = search needs
-
-mul-wide-2 : tie.Need-mul-wide-2 Inv-loop μ-loop
-mul-wide-2 c = search needs
-
-shared-slice-read-wide-2 : tie.Need-shared-slice-read-wide-2 Inv-loop μ-loop
-shared-slice-read-wide-2 c = search needs
-
-wide-requires-2 : tie.Need-wide-requires-2 Inv-loop μ-loop
-wide-requires-2 c κs = search needs
-
-add-wide-3 : tie.Need-add-wide-3 Inv-loop μ-loop
-add-wide-3 c = search needs
-
-mul-wide-3 : tie.Need-mul-wide-3 Inv-loop μ-loop
-mul-wide-3 c = search needs
-
-shared-slice-read-wide-3 : tie.Need-shared-slice-read-wide-3 Inv-loop μ-loop
-shared-slice-read-wide-3 c = search needs
-
-wide-requires-3 : tie.Need-wide-requires-3 Inv-loop μ-loop
-wide-requires-3 c κs = search needs
-
-add-start : tie.Need-add-start Inv-loop μ-loop
-add-start c = search needs
-
-sub-if2 : tie.Need-sub-if2 Inv-loop μ-loop
-sub-if2 c = search needs
-
-mul-if2 : tie.Need-mul-if2 Inv-loop μ-loop
-mul-if2 c = search needs
-
-returns-2 : tie.Need-returns-2 Inv-loop μ-loop
-returns-2 c = sym (c .before .before .before .before .before .before .before .before .before .loop .inv .1 ∙ rows-over _ (c .before .before .before .before .before .before .before .before .before .before .before .before .args .block .now) (c .before .before .before .before .before .before .before .before .before .loop .at) (c .before .before .before .before .before .before .before .before .before .loop .left) (c .before .before .before .before .before .before .before .before .loop-test .taken) _ _ _ _ refl (c .before .before .before .before .before .wide .ensures .0) (c .before .before .before .wide2 .ensures .0) (c .before .wide3 .ensures .0) (omega arith) (c .if2 .taken))
-
-mul-end : tie.Need-mul-end Inv-loop μ-loop
-mul-end c = search needs
-
-add-end : tie.Need-add-end Inv-loop μ-loop
-add-end c = search needs
+row-at-requires : tie.Need-row-at-requires Inv-loop μ-loop
+row-at-requires c κs = sym (c .before .is-whole .ensures) ∙ not-false _ (c .if1 .left)
 
 mul-is-row : tie.Need-mul-is-row Inv-loop μ-loop
 mul-is-row c = search needs
-
-shared-slice-read-is-row : tie.Need-shared-slice-read-is-row Inv-loop μ-loop
-shared-slice-read-is-row c = search needs
-
-mul-is-row-2 : tie.Need-mul-is-row-2 Inv-loop μ-loop
-mul-is-row-2 c = search needs
 
 sub-is-row : tie.Need-sub-is-row Inv-loop μ-loop
 sub-is-row c = search needs
 
 part-is-row-start : tie.Need-part-is-row-start Inv-loop μ-loop
-part-is-row-start c = search needs
+part-is-row-start c =
+    let r = c .row-at .ensures in
+    omega (arith, r .from-is, r .end-is, r .high)
 
 part-is-row-end : tie.Need-part-is-row-end Inv-loop μ-loop
-part-is-row-end c = search needs
+part-is-row-end c =
+    let r = c .row-at .ensures in
+    omega (arith, r .high)
 
 is-row-requires : tie.Need-is-row-requires Inv-loop μ-loop
 is-row-requires c κs = search needs
 
-returns-3 : tie.Need-returns-3 Inv-loop μ-loop
-returns-3 c = sym (c .before .before .before .before .before .before .before .before .before .before .before .before .before .loop .inv .1 ∙ rows-off _ (c .before .before .before .before .before .before .before .before .before .before .before .before .before .before .before .before .args .block .now) (c .before .before .before .before .before .before .before .before .before .before .before .before .before .loop .at) (c .before .before .before .before .before .before .before .before .before .before .before .before .before .loop .left) (c .before .before .before .before .before .before .before .before .before .before .before .before .loop-test .taken) _ _ _ _ refl (c .before .before .before .before .before .before .before .before .before .wide .ensures .0) (c .before .before .before .before .before .before .before .wide2 .ensures .0) (c .before .before .before .before .before .wide3 .ensures .0) (omega arith) (c .before .before .before .before .if2 .left) _ (c .before .is-row .ensures) (not-true _ (c .if3 .taken)))
+returns-2 : tie.Need-returns-2 Inv-loop μ-loop
+returns-2 c =
+    let t = c .before in
+    let r = row-of t in
+    let i = in-of r in
+    let l = i .before in
+    sym
+    (l .loop .inv .1
+    ∙ rows-wrong _ (start l .args .block .now) (l .loop .at) (l .loop .left) (i .loop-test .taken) _ _ _ _ _ (r .row-at .ensures) _ (t .is-row .ensures)
+    (not-true _ (c .if2 .taken)))
 
 sub-left : tie.Need-sub-left Inv-loop μ-loop
 sub-left c = search needs
@@ -111,10 +83,21 @@ loop-less : tie.Need-loop-less Inv-loop μ-loop
 loop-less c = search needs
 
 loop-again : tie.Need-loop-again Inv-loop μ-loop
-loop-again c = (omega arith, c .before .before .before .before .before .before .before .before .before .before .before .before .before .loop .inv .1 ∙ rows-on _ (c .before .before .before .before .before .before .before .before .before .before .before .before .before .before .before .before .args .block .now) (c .before .before .before .before .before .before .before .before .before .before .before .before .before .loop .at) (c .before .before .before .before .before .before .before .before .before .before .before .before .before .loop .left) (c .before .before .before .before .before .before .before .before .before .before .before .before .loop-test .taken) _ _ _ _ refl (c .before .before .before .before .before .before .before .before .before .wide .ensures .0) (c .before .before .before .before .before .before .before .wide2 .ensures .0) (c .before .before .before .before .before .wide3 .ensures .0) (omega arith) (c .before .before .before .before .if2 .left) _ (c .before .is-row .ensures) (not-false _ (c .if3 .left)))
+loop-again c =
+    let t = c .before in
+    let r = row-of t in
+    let i = in-of r in
+    let l = i .before in (
+      r .row-at .ensures .high,
+      l .loop .inv .1
+          ∙ rows-right _ (start l .args .block .now) (l .loop .at) (l .loop .left) (i .loop-test .taken) _ _ _ _ _ (r .row-at .ensures) _ (t .is-row .ensures)
+          (not-false _ (c .if2 .left)),
+    )
 
-returns-4 : tie.Need-returns-4 Inv-loop μ-loop
-returns-4 c = rows-end _ (c .before .before .before .before .args .block .now) (c .before .loop .at) (c .before .loop .left) (omega arith) (c .before .loop .inv .0) ∙ sym (c .before .loop .inv .1)
+returns-3 : tie.Need-returns-3 Inv-loop μ-loop
+returns-3 c =
+    let l = c .before in
+    rows-end _ (start l .args .block .now) (l .loop .at) (l .loop .left) (omega arith) (l .loop .inv .0) ∙ sym (l .loop .inv .1)
 
 pub are-rows-spec : {M : Type 1} → statement M
 are-rows-spec =
@@ -123,35 +106,16 @@ are-rows-spec =
     Inv-loop
     μ-loop
     loop-holds
-    sub-if1
+    is-whole-requires
     returns
-    add-wide
-    mul-wide
-    shared-slice-read-wide
-    wide-requires
-    add-wide-2
-    mul-wide-2
-    shared-slice-read-wide-2
-    wide-requires-2
-    add-wide-3
-    mul-wide-3
-    shared-slice-read-wide-3
-    wide-requires-3
-    add-start
-    sub-if2
-    mul-if2
-    returns-2
-    mul-end
-    add-end
+    row-at-requires
     mul-is-row
-    shared-slice-read-is-row
-    mul-is-row-2
     sub-is-row
     part-is-row-start
     part-is-row-end
     is-row-requires
-    returns-3
+    returns-2
     sub-left
     loop-less
     loop-again
-    returns-4)
+    returns-3)
