@@ -41,7 +41,7 @@ module _ (w e c : List ℕ) where
       && (bothFound sameBool (goalTask w s) (goalFdr e v)
       && (isFound (fromAtomsCall e s (length v)) v && isFound (toAtomsCall e v (length s)) s))
 
-  -- a step for every number of the list in turn: the answers are the same, and the states after it
+  -- a step for every number of the list, one after the other: the answers are the same, and the states after it
   unfoldable pub stepsSame : List ℕ → List ℕ → List ℕ → Bool
   stepsSame [] s v = true
   stepsSame (i ∷ is) s v =

@@ -44,11 +44,11 @@ pub ascends-end : (next : ℕ → ℕ) (bound from : ℕ) (xs : List ℕ) (i : �
 ascends-end next bound from xs i h = rw (drop-of-length-le xs {i = i} h)
 
 -- a part taken out of a conjunction
-turn : (a b c d : Bool) → (a && b && (c && d)) ≡ (a && (c && (b && d)))
-turn true true c d = refl
-turn true false true d = refl
-turn true false false d = refl
-turn false b c d = refl
+reorder : (a b c d : Bool) → (a && b && (c && d)) ≡ (a && (c && (b && d)))
+reorder true true c d = refl
+reorder true false true d = refl
+reorder true false false d = refl
+reorder false b c d = refl
 
 next-atom : (x y : ℕ) → ltb x y ≡ leb (nextAtom x) y
 next-atom x y =
@@ -60,7 +60,7 @@ atoms-above : (n x : ℕ) (xs : List ℕ) → (above x xs && allBelow n xs) ≡ 
 unfolding above allBelow all
 atoms-above n x [] = refl
 atoms-above n x (y ∷ ys) =
-    turn (ltb x y) (above y ys) (ltb y n) (allBelow n ys)
+    reorder (ltb x y) (above y ys) (ltb y n) (allBelow n ys)
     ∙ rw (next-atom x y, atoms-above n y ys)
 
 -- strictly ascending atoms below n

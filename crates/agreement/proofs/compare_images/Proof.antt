@@ -7,8 +7,8 @@ use borrow.Author.Needs.{needs}
 use Rattle.agreement.proofs.compare_images.Statement.{statement}
 use Rattle.agreement.proofs.compare_images.Tie as tie
 
--- behind the comparison: the rooms, and the numbers of atoms and variables
-abbrev compared : tie.After-values2 → tie.After-same-list
+-- after the comparison: the rooms, and the numbers of atoms and variables
+abbrev compared : tie.After-values3 → tie.After-same-list
 compared c = c .before .before
 
 abbrev rooms : tie.After-same-list → tie.After-values

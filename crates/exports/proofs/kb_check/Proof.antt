@@ -1,5 +1,5 @@
 use mathlib.Core.Path.{ap, _∙_}
-use Rattle.exports.specs.Told.{toldVerdict}
+use Rattle.exports.specs.Returned.{returnedVerdict}
 use borrow.Author.Needs.{needs}
 use Rattle.exports.proofs.kb_check.Statement.{statement}
 use Rattle.exports.proofs.kb_check.Tie as tie
@@ -21,7 +21,7 @@ abbrev after-verdict-arg : tie.After-verdict → tie.After-verdict-arg
 after-verdict-arg c = c .before .before
 
 returns : tie.Need-returns
-returns c = c .verdict .ensures ∙ ap toldVerdict (after-accept (after-verdict-arg c) .accept .ensures)
+returns c = c .verdict .ensures ∙ ap returnedVerdict (after-accept (after-verdict-arg c) .accept .ensures)
 
 pub kb-check-spec : {M : Type 1} → statement M
 kb-check-spec = tie.close (tie.spec accept-requires verdict-requires same-length returns)

@@ -1,7 +1,7 @@
 use mathlib.Core.Path.{ap, _∙_}
 use Prim.Native.Nat.{ℕ}
 use Rattle.definitions.specs.Answer.{Outcome, outcome}
-use Rattle.exports.specs.Told.{toldCount}
+use Rattle.exports.specs.Returned.{returnedCount}
 use borrow.Author.Needs.{needs}
 use Rattle.exports.proofs.kb_groups.Statement.{statement}
 use Rattle.exports.proofs.kb_groups.Tie as tie
@@ -34,7 +34,7 @@ after-groups-from-count c = after-groups (after-target ((after-count-arg c)))
 returns : tie.Need-returns
 unfolding outcome
 returns c = (
-  c .count .ensures ∙ ap toldCount (ap (λ (x : Outcome ℕ). x .answer) (after-groups-from-count c .groups .ensures)),
+  c .count .ensures ∙ ap returnedCount (ap (λ (x : Outcome ℕ). x .answer) (after-groups-from-count c .groups .ensures)),
   ap (λ (x : Outcome ℕ). x .lent) (after-groups-from-count c .groups .ensures),
 )
 

@@ -1,5 +1,5 @@
 use mathlib.Core.Path.{ap, _∙_}
-use Rattle.exports.specs.Told.{toldTest}
+use Rattle.exports.specs.Returned.{returnedTest}
 use borrow.Author.Needs.{needs}
 use Rattle.exports.proofs.kb_kept.Statement.{statement}
 use Rattle.exports.proofs.kb_kept.Tie as tie
@@ -21,7 +21,7 @@ abbrev after-test-arg : tie.After-test → tie.After-test-arg
 after-test-arg c = c .before .before
 
 returns : tie.Need-returns
-returns c = c .test .ensures ∙ ap toldTest (after-kept (after-test-arg c) .kept .ensures)
+returns c = c .test .ensures ∙ ap returnedTest (after-kept (after-test-arg c) .kept .ensures)
 
 pub kb-kept-spec : {M : Type 1} → statement M
 kb-kept-spec = tie.close (tie.spec kept-requires test-requires same-length returns)

@@ -1,7 +1,7 @@
 use mathlib.Core.Path.{ap, _∙_}
 use Prim.Native.Nat.{ℕ}
 use Rattle.definitions.specs.Answer.{Outcome, outcome}
-use Rattle.exports.specs.Told.{toldCount}
+use Rattle.exports.specs.Returned.{returnedCount}
 use borrow.Author.Needs.{needs}
 use Rattle.exports.proofs.kb_reencode.Statement.{statement}
 use Rattle.exports.proofs.kb_reencode.Tie as tie
@@ -34,7 +34,7 @@ after-reencode-from-count c = after-reencode (after-target ((after-count-arg c))
 returns : tie.Need-returns
 unfolding outcome
 returns c = (
-  c .count .ensures ∙ ap toldCount (ap (λ (x : Outcome ℕ). x .answer) (after-reencode-from-count c .reencode .ensures)),
+  c .count .ensures ∙ ap returnedCount (ap (λ (x : Outcome ℕ). x .answer) (after-reencode-from-count c .reencode .ensures)),
   ap (λ (x : Outcome ℕ). x .lent) (after-reencode-from-count c .reencode .ensures),
 )
 

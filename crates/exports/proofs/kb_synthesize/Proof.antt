@@ -1,7 +1,7 @@
 use mathlib.Core.Path.{ap, _∙_}
 use Rattle.definitions.specs.Answer.{Outcome, outcome}
 use Rattle.definitions.specs.Synthesis.{Made}
-use Rattle.exports.specs.Told.{toldMade}
+use Rattle.exports.specs.Returned.{returnedMade}
 use borrow.Author.Needs.{needs}
 use Rattle.exports.proofs.kb_synthesize.Statement.{statement}
 use Rattle.exports.proofs.kb_synthesize.Tie as tie
@@ -43,7 +43,7 @@ after-synthesize-from-made c = after-synthesize-from-made-arg (after-made-arg c)
 returns : tie.Need-returns
 unfolding outcome
 returns c = (
-  c .made .ensures ∙ ap toldMade (ap (λ (x : Outcome Made). x .answer) (after-synthesize-from-made c .synthesize .ensures)),
+  c .made .ensures ∙ ap returnedMade (ap (λ (x : Outcome Made). x .answer) (after-synthesize-from-made c .synthesize .ensures)),
   ap (λ (x : Outcome Made). x .lent) (after-synthesize-from-made c .synthesize .ensures),
 )
 

@@ -1,7 +1,7 @@
 use mathlib.Core.Path.{ap, _∙_}
 use Prim.Native.Nat.{ℕ}
 use Rattle.definitions.specs.Answer.{Outcome, outcome}
-use Rattle.exports.specs.Told.{toldCount}
+use Rattle.exports.specs.Returned.{returnedCount}
 use borrow.Author.Needs.{needs}
 use Rattle.exports.proofs.kb_task_run.Statement.{statement}
 use Rattle.exports.proofs.kb_task_run.Tie as tie
@@ -25,7 +25,7 @@ after-count-arg c = c .before .before
 returns : tie.Need-returns
 unfolding outcome
 returns c = (
-  c .count .ensures ∙ ap toldCount (ap (λ (x : Outcome ℕ). x .answer) (after-run (after-count-arg c) .run .ensures)),
+  c .count .ensures ∙ ap returnedCount (ap (λ (x : Outcome ℕ). x .answer) (after-run (after-count-arg c) .run .ensures)),
   ap (λ (x : Outcome ℕ). x .lent) (after-run (after-count-arg c) .run .ensures),
 )
 

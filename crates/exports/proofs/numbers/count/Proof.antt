@@ -1,10 +1,10 @@
 use mathlib.Core.Path.{sym, ap, _∙_}
 use Rattle.answer.specs.Answer.{countAnswer}
 use Rattle.answer.specs.declared.Counted.{Counted}
-use Rattle.exports.specs.Told.{toldCount}
+use Rattle.exports.specs.Returned.{returnedCount}
 use borrow.Author.Needs.{needs}
-use Rattle.exports.proofs.tell.count.Statement.{statement}
-use Rattle.exports.proofs.tell.count.Tie as tie
+use Rattle.exports.proofs.numbers.count.Statement.{statement}
+use Rattle.exports.proofs.numbers.count.Tie as tie
 
 enum-known-c : tie.Need-enum-known-c
 enum-known-c c = search needs
@@ -32,10 +32,10 @@ abbrev after-refusal-arg : tie.After-refusal → tie.After-refusal-arg
 after-refusal-arg c = c .before .before
 
 returns : tie.Need-returns
-returns c = c .finding .ensures ∙ ap (λ (k : Counted). toldCount (countAnswer k)) (sym (after-c (after-finding-arg c) .c .given .1))
+returns c = c .finding .ensures ∙ ap (λ (k : Counted). returnedCount (countAnswer k)) (sym (after-c (after-finding-arg c) .c .given .1))
 
 returns-2 : tie.Need-returns-2
-returns-2 c = c .refusal .ensures ∙ ap (λ (k : Counted). toldCount (countAnswer k)) (sym (after-c2 (after-refusal-arg c) .c2 .given .1))
+returns-2 c = c .refusal .ensures ∙ ap (λ (k : Counted). returnedCount (countAnswer k)) (sym (after-c2 (after-refusal-arg c) .c2 .given .1))
 
 pub count-spec : {M : Type 1} → statement M
 count-spec =

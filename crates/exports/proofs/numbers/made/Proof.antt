@@ -1,10 +1,10 @@
 use mathlib.Core.Path.{sym, ap, _∙_}
 use Rattle.synthesis.specs.Answer.{synthesisAnswer}
 use Rattle.synthesis.specs.declared.Synthesis.{Synthesis}
-use Rattle.exports.specs.Told.{toldMade}
+use Rattle.exports.specs.Returned.{returnedMade}
 use borrow.Author.Needs.{needs}
-use Rattle.exports.proofs.tell.made.Statement.{statement}
-use Rattle.exports.proofs.tell.made.Tie as tie
+use Rattle.exports.proofs.numbers.made.Statement.{statement}
+use Rattle.exports.proofs.numbers.made.Tie as tie
 
 enum-known-s : tie.Need-enum-known-s
 enum-known-s c = search needs
@@ -32,10 +32,10 @@ abbrev after-refusal-arg : tie.After-refusal → tie.After-refusal-arg
 after-refusal-arg c = c .before .before
 
 returns : tie.Need-returns
-returns c = c .findings .ensures ∙ ap (λ (x : Synthesis). toldMade (synthesisAnswer x)) (sym (after-s (after-findings-arg c) .s .given .1))
+returns c = c .findings .ensures ∙ ap (λ (x : Synthesis). returnedMade (synthesisAnswer x)) (sym (after-s (after-findings-arg c) .s .given .1))
 
 returns-2 : tie.Need-returns-2
-returns-2 c = c .refusal .ensures ∙ ap (λ (x : Synthesis). toldMade (synthesisAnswer x)) (sym (after-s2 (after-refusal-arg c) .s2 .given .1))
+returns-2 c = c .refusal .ensures ∙ ap (λ (x : Synthesis). returnedMade (synthesisAnswer x)) (sym (after-s2 (after-refusal-arg c) .s2 .given .1))
 
 pub made-spec : {M : Type 1} → statement M
 made-spec =

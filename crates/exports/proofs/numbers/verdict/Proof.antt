@@ -1,10 +1,10 @@
 use mathlib.Core.Path.{sym, ap, _∙_}
 use Rattle.answer.specs.Answer.{verdictAnswer}
 use Rattle.answer.specs.declared.Verdict.{Verdict}
-use Rattle.exports.specs.Told.{toldVerdict}
+use Rattle.exports.specs.Returned.{returnedVerdict}
 use borrow.Author.Needs.{needs}
-use Rattle.exports.proofs.tell.verdict.Statement.{statement}
-use Rattle.exports.proofs.tell.verdict.Tie as tie
+use Rattle.exports.proofs.numbers.verdict.Statement.{statement}
+use Rattle.exports.proofs.numbers.verdict.Tie as tie
 
 enum-told : tie.Need-enum-told
 enum-told c = search needs
@@ -19,7 +19,7 @@ refusal-requires : tie.Need-refusal-requires
 refusal-requires c κs = search needs
 
 returns : tie.Need-returns
-returns c = c .finding .ensures ∙ ap (λ (v : Verdict). toldVerdict (verdictAnswer v)) (sym (c .before .before .before .enum-told .given .1))
+returns c = c .finding .ensures ∙ ap (λ (v : Verdict). returnedVerdict (verdictAnswer v)) (sym (c .before .before .before .enum-told .given .1))
 
 -- the places of the function
 abbrev after-v : tie.After-refusal-arg → tie.After-v
@@ -29,7 +29,7 @@ abbrev after-refusal-arg : tie.After-refusal → tie.After-refusal-arg
 after-refusal-arg c = c .before .before
 
 returns-2 : tie.Need-returns-2
-returns-2 c = c .refusal .ensures ∙ ap (λ (v : Verdict). toldVerdict (verdictAnswer v)) (sym (after-v (after-refusal-arg c) .v .given .1))
+returns-2 c = c .refusal .ensures ∙ ap (λ (v : Verdict). returnedVerdict (verdictAnswer v)) (sym (after-v (after-refusal-arg c) .v .given .1))
 
 pub verdict-spec : {M : Type 1} → statement M
 verdict-spec =
