@@ -69,7 +69,7 @@ module _ (w c : List ℕ) (n most rows : ℕ) (r : Round w c n most rows) where
   C = clausesOf c
 
   few : t .atoms ≤ mostAtoms
-  few = let e = r .read .atoms in let h = r .read .few in omega arith
+  few = let e = r .read .counted in let h = r .read .few in omega arith
 
   good : (f : List ℕ) → List·Memᴰ f C → GoodClause (t .atoms) most f
   good f m = good-sets t most (r .before) (r .some-literal) f (subst (λ (D : List (List ℕ)). List·Memᴰ f D) (r .set) m)

@@ -24,11 +24,11 @@ use Rattle.task.proofs.Questions.{task-read}
 use Rattle.task.specs.Walk.{operatorIn}
 use Rattle.task.specs.Post.{BlockGiven}
 use Rattle.judge.specs.Judging.{flagMore}
-use Rattle.judge.specs.Promise.{Judged, BulkGiven}
+use Rattle.judge.specs.Promise.{Judged, BulkGiven, Read}
 use Rattle.judge.proofs.Keeping.{given-operator}
 use Rattle.propagation.proofs.Marks.{bit-back}
 use Rattle.next_set.specs.Build.{failsBelow, survivors}
-use Rattle.next_set.specs.Post.{Read, ReadWithRoom, TestedWithRoom, WeakensAt}
+use Rattle.next_set.specs.Post.{ReadWithRoom, TestedWithRoom, WeakensAt}
 use Rattle.next_set.proofs.Flags.{flag-map}
 use Rattle.next_set.proofs.NextSet.{all-pass}
 
@@ -43,7 +43,7 @@ pub read-bulk :
 read-bulk w c b atoms i marks fails r h g =
     let q = r .read in
     record {
-      given = given-operator w c b atoms i (q .task) (q .atoms) (q .few) h (q .clauses) g;
+      given = given-operator w c b atoms i (q .task) (q .counted) (q .few) h (q .clauses) g;
       judged = read-judged w c atoms q;
       room = r .room;
       flagged = r .flagged;

@@ -137,7 +137,7 @@ module _ (w : List ℕ) (n most rows : ℕ) (task : Reads w) (atoms : n ≡ task
   pub set-round : Round w v n most rows
   set-round =
       record {
-        read = record { task = task; atoms = atoms; few = few; clauses = rw words (words-read n S few good (up-sets (taskOf w) most before) (omega arith)) };
+        read = record { task = task; counted = atoms; few = few; clauses = rw words (words-read n S few good (up-sets (taskOf w) most before) (omega arith)) };
         before = before;
         set = set-back;
         some-literal = some-literal;

@@ -79,9 +79,7 @@ slice-aggregate-judge-guaranteed : tie.Need-slice-aggregate-judge-guaranteed
 slice-aggregate-judge-guaranteed c = sym (length-take-le (size c) (local c) (fits c))
 
 judge-guaranteed-requires : tie.Need-judge-guaranteed-requires
-judge-guaranteed-requires c κs =
-    let g = start c .pre .0 in
-    (g .given, g .judged, g .room, g .flagged, length-take-le (size c) (local c) (fits c))
+judge-guaranteed-requires c κs = (start c .pre .0, length-take-le (size c) (local c) (fits c))
 
 same-length : tie.Need-same-length
 same-length c = search needs
@@ -122,14 +120,12 @@ returns-2 c =
     let d = listing i in
     let s = start (d .before) in
     let l = listed i in
-    let h = guarantees d true (not-false (d .judge-guaranteed .result) (c .before .before .before .before .before .if1 .left)) in (
-      d .judge-guaranteed .ensures .0,
-      record {
-        few = omega (arith, l .few, back d .size, few (d .before), s .pre .1, i .list-flagged .kept .1 .0);
-        low = listed-low (flags d) _ _ l (omega (arith, back d .size, few (d .before)));
-        words = λ t q k. l .words ∙ listed-guarantees t (clauses d) (operator d) (s .args .atoms) (flags d) q (h .1);
-      },
-    )
+    let h = guarantees d true (not-false (d .judge-guaranteed .result) (c .before .before .before .before .before .if1 .left)) in
+    (d .judge-guaranteed .ensures .0, record {
+      few = omega (arith, l .few, back d .size, few (d .before), s .pre .1, i .list-flagged .kept .1 .0);
+      low = listed-low (flags d) _ _ l (omega (arith, back d .size, few (d .before)));
+      words = λ t q k. l .words ∙ listed-guarantees t (clauses d) (operator d) (s .args .atoms) (flags d) q (h .1);
+    })
 
 pub judge-listed-spec : {M : Type 1} → statement M
 judge-listed-spec =
