@@ -73,7 +73,7 @@ module _ (atoms : ℕ) (f : List ℕ) (row : ClauseRead atoms f) where
   unfolding failFlags has
   one-fails C o o′ s eo e = rw (e, one-clause, eo) (bit-back (not (kept atoms C o′ (clauseOf f))))
 
--- ---- the questions in turn
+-- ---- the questions, one after the other
 module _ (w c f : List ℕ) where
   pub read-task : (r : Refusal) → refused r ≡ verdict (readTask w) → (i marks : ℕ) → refused r ≡ keeps w c f i marks
   unfolding keeps _>>=_

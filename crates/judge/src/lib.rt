@@ -46,7 +46,7 @@ fn read_all(image: &[u16], clauses: &[u16], clause: &[u16]) -> Verdict
     clause::check_clause(clause, atoms)
 }
 
-// The questions of the test, in turn: 1 to 9, 8 and 9 for the clause alone, 19, 13.
+// The questions of the test: 1 to 9, 8 and 9 for the clause alone, 19, 13. The first that is answered no decides.
 fn check_input(
     image: &[u16],
     clauses: &[u16],

@@ -88,12 +88,12 @@ module _ (t : Task) (C : List (List ℕ)) where
       go (f ∷ D) = ap (λ (l : List ℕ). 0 ∷ l) (go D)
 
   pub fails-turn :
-      (n j : ℕ) (s s′ : List ℕ) → n ≡ t .atoms → s ≡ map (λ f. bit (failsBelow t C j f)) C
-      → s′ ≡ flagMore (λ f. not (kept n C (operatorAt t j) f)) C s → s′ ≡ map (λ f. bit (failsBelow t C (j + 1) f)) C
+      (atoms j : ℕ) (s s′ : List ℕ) → atoms ≡ t .atoms → s ≡ map (λ f. bit (failsBelow t C j f)) C
+      → s′ ≡ flagMore (λ f. not (kept atoms C (operatorAt t j) f)) C s → s′ ≡ map (λ f. bit (failsBelow t C (j + 1) f)) C
   unfolding failsBelow
-  fails-turn n j s s′ atoms inv h =
+  fails-turn atoms j s s′ counted inv h =
       h
-      ∙ ap (λ (m : ℕ). flagMore (λ f. not (kept m C (operatorAt t j) f)) C s) atoms
+      ∙ ap (λ (m : ℕ). flagMore (λ f. not (kept m C (operatorAt t j) f)) C s) counted
       ∙ ap (flagMore (λ f. not (kept (t .atoms) C (operatorAt t j) f)) C) inv
       ∙ flag-map (λ f. not (kept (t .atoms) C (operatorAt t j) f)) (failsBelow t C j) C
       ∙ rw add-one

@@ -73,13 +73,16 @@ slice-aggregate-judge-closed c = back (c .before .before) .whole
 judge-closed-requires : tie.Need-judge-closed-requires
 judge-closed-requires c κs =
     let d = c .before .before .before .before .before in
-    let p = start (d .before) .pre in
-    (record {
-      given = p .0 .given;
-      judged = p .0 .judged;
-      closed = closed d;
-      flagged = p .0 .flagged;
-    }, marked-room _ _ _ (p .0 .closed .marked), p .1)
+    let p = start (d .before) .pre in (
+      record {
+        given = p .0 .given;
+        judged = p .0 .judged;
+        closed = closed d;
+        flagged = p .0 .flagged;
+      },
+      marked-room _ _ _ (p .0 .closed .marked),
+      p .1,
+    )
 
 same-length : tie.Need-same-length
 same-length c = search needs

@@ -75,13 +75,15 @@ judge-consistent-requires c κs =
     let d = closing e in
     let h = head-of d in
     let g = start h .pre .0 in
-    let told = told-consistent _ _ _ _ _ (d .close .ensures .1) (e .enum-told2 .given .1) in
-    (record {
-      given = g .given;
-      judged = g .judged;
-      closed = closure-start _ _ _ _ _ (h .head .ensures .precondition) (closure-told _ _ _ _ told);
-      flagged = cleared h .clear .kept .0 ∙ g .flagged;
-    }, start h .pre .1)
+    let told = told-consistent _ _ _ _ _ (d .close .ensures .1) (e .enum-told2 .given .1) in (
+      record {
+        given = g .given;
+        judged = g .judged;
+        closed = closure-start _ _ _ _ _ (h .head .ensures .precondition) (closure-told _ _ _ _ told);
+        flagged = cleared h .clear .kept .0 ∙ g .flagged;
+      },
+      start h .pre .1,
+    )
 
 same-length : tie.Need-same-length
 same-length c = search needs

@@ -1,4 +1,4 @@
--- `judge::bulk::judge_row`: by the closure with the row's conditions, which is the closure at hand where it holds them. Assumes nothing.
+-- `judge::bulk::judge_row`: by the closure with the row's conditions, which is the base closure where that holds them. Assumes nothing.
 use mathlib.Core.Path.{sym, _∙_, ap}
 use denote.Ref.{now}
 use native.Mathlib.Omega.{arith}

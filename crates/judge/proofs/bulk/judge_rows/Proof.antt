@@ -67,13 +67,16 @@ judge-row-requires : tie.Need-judge-row-requires Inv-loop μ-loop
 judge-row-requires c κs =
     let p = c .before .before .before .before .before .before .before .before .before .before .before .before .before .before .before .before .before .pre in
     let i = c .before .before .before .before .before .before .before .before .loop .inv in
-    let g = p .0 .given in
-    (record { given = g; judged = p .0 .judged; closed = p .0 .closed; flagged = i .1 ∙ p .0 .flagged }, record {
-      few = g .few;
-      room = omega (arith, p .2, i .0);
-      rows = g .rows;
-      below = conditions-low _ _ _ _ _ _ _ (i .2) (c .before .before .before .before .before .before .row .ensures);
-    }, p .1)
+    let g = p .0 .given in (
+      record { given = g; judged = p .0 .judged; closed = p .0 .closed; flagged = i .1 ∙ p .0 .flagged },
+      record {
+        few = g .few;
+        room = omega (arith, p .2, i .0);
+        rows = g .rows;
+        below = conditions-low _ _ _ _ _ _ _ (i .2) (c .before .before .before .before .before .before .row .ensures);
+      },
+      p .1,
+    )
 
 loop-less-2 : tie.Need-loop-less-2 Inv-loop μ-loop
 loop-less-2 c = search needs

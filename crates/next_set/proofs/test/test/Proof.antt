@@ -50,8 +50,8 @@ same-due l = l .loop .inv .5 ∙ l .before .before .before .clear2 .kept .0
 abbrev tested : Type 0
 tested = tie.After-test-operator Inv-loop μ-loop
 
-abbrev turn : tested → at-loop
-turn d = d .before .before .before .before .before .before
+abbrev loop-of : tested → at-loop
+loop-of d = d .before .before .before .before .before .before
 
 operators-requires : tie.Need-operators-requires Inv-loop μ-loop
 operators-requires c κs = c .before .before .before .before .before .before .pre .0 .read .task
@@ -69,19 +69,22 @@ loop-holds c =
     let t = taskOf (s .args .image .now) in
     let C = clausesOf (s .args .clauses .now) in
     let done = subst (λ (x : List ℕ). TestedBelow t C x (c .before .before .clear2 .last .0) 0) (sym (d .clear .ensures))
-        (subst (λ (x : List ℕ). TestedBelow t C (replicate (length (s .args .failing .now)) 0) x 0) (sym (c .before .before .clear2 .ensures))
-        (tested-start t C (length (s .args .failing .now)) (length (s .args .due .now)) (s .pre .1 ∙ sym (clauses-length (s .args .clauses .now))))) in
+    (subst (λ (x : List ℕ). TestedBelow t C (replicate (length (s .args .failing .now)) 0) x 0) (sym (c .before .before .clear2 .ensures))
+    (tested-start t C (length (s .args .failing .now)) (length (s .args .due .now)) (s .pre .1 ∙ sym (clauses-length (s .args .clauses .now))))) in
     (d .before .before .operators .ensures .0, omega arith, refl, refl, refl, refl, done)
 
 test-operator-requires : tie.Need-test-operator-requires Inv-loop μ-loop
 test-operator-requires c κs =
     let l = c .before .before .before .before .before in
-    let p = start l .pre in
-    (record {
-      read = p .0 .read;
-      room = omega (arith, l .loop .inv .2, p .0 .room);
-      flagged = l .loop .inv .3 ∙ p .0 .flagged;
-    }, omega (arith, l .loop .inv .0, c .before .before .before .before .loop-test .taken), same-failing l ∙ p .1)
+    let p = start l .pre in (
+      record {
+        read = p .0 .read;
+        room = omega (arith, l .loop .inv .2, p .0 .room);
+        flagged = l .loop .inv .3 ∙ p .0 .flagged;
+      },
+      omega (arith, l .loop .inv .0, c .before .before .before .before .loop-test .taken),
+      same-failing l ∙ p .1,
+    )
 
 add-operator : tie.Need-add-operator Inv-loop μ-loop
 add-operator c = search needs
@@ -92,7 +95,7 @@ loop-less c = search needs
 loop-again : tie.Need-loop-again Inv-loop μ-loop
 loop-again c =
     let d = c .before .before .before .before .before .before .before .before in
-    let l = turn d in
+    let l = loop-of d in
     let o = d .test-operator in
     let p = start l .pre in
     (l .loop .inv .0, omega arith, o .kept .1 .1 .1 .1 .0 ∙ l .loop .inv .2, o .kept .1 .1 .1 .1 .1 .0 ∙ l .loop .inv .3, o .kept .1 .1 .1 .1 .1 .1 .0 ∙ l .loop .inv .4, o .kept .1 .1 .1 .1 .1 .1 .1 .0 ∙ l .loop .inv .5, tested-next (task l) (clauses l) (read-sizes _ _ _ (p .0 .read)) (start l .args .atoms) (l .loop .operator) (p .0 .read .counted) (l .loop .failing) _ (l .loop .due) _ (l .loop .inv .6) (o .ensures) (o .kept .1 .1 .1 .1 .1 .1 .1 .0))

@@ -120,12 +120,14 @@ returns-2 c =
     let d = listing i in
     let s = start (d .before) in
     let l = listed i in
-    let h = guarantees d true (not-false (d .judge-guaranteed .result) (c .before .before .before .before .before .if1 .left)) in
-    (d .judge-guaranteed .ensures .0, record {
-      few = omega (arith, l .few, back d .size, few (d .before), s .pre .1, i .list-flagged .kept .1 .0);
-      low = listed-low (flags d) _ _ l (omega (arith, back d .size, few (d .before)));
-      words = λ t q k. l .words ∙ listed-guarantees t (clauses d) (operator d) (s .args .atoms) (flags d) q (h .1);
-    })
+    let h = guarantees d true (not-false (d .judge-guaranteed .result) (c .before .before .before .before .before .if1 .left)) in (
+      d .judge-guaranteed .ensures .0,
+      record {
+        few = omega (arith, l .few, back d .size, few (d .before), s .pre .1, i .list-flagged .kept .1 .0);
+        low = listed-low (flags d) _ _ l (omega (arith, back d .size, few (d .before)));
+        words = λ t q k. l .words ∙ listed-guarantees t (clauses d) (operator d) (s .args .atoms) (flags d) q (h .1);
+      },
+    )
 
 pub judge-listed-spec : {M : Type 1} → statement M
 judge-listed-spec =
