@@ -22,7 +22,8 @@ use Rattle.answer.specs.declared.Verdict.the-variants.{Fine, Refused}
 use Rattle.clause.specs.Rows.{clausesOf, ClausesRead}
 use Rattle.answer.proofs.Laws.{verdict-refused}
 use Rattle.task.specs.Reads.{taskOf, Reads}
-use Rattle.checker.specs.Search.{falseAnswer, Read, Reading, Input}
+use Rattle.judge.specs.Promise.{Read}
+use Rattle.checker.specs.Search.{falseAnswer, Reading, Input}
 
 -- ---- the walk to the first element that fails
 module _ {A : Type 0} (p : A → Bool) (xs : List A) (i : ℕ) where

@@ -6,7 +6,6 @@ use mathlib.Core.Path.{_≡_}
 use Prim.Native.Nat.{ℕ, _*_, _≤_, _<_}
 use lib.ListN.{length, getD}
 use Rattle.definitions.specs.Answer.{Answer, finding, refused, refuse, verdict}
-use Rattle.definitions.specs.Literal.{mostAtoms}
 use Rattle.definitions.specs.Image.{Task}
 use Rattle.definitions.specs.Step.{operatorAt}
 use Rattle.definitions.specs.Kept.{kept}
@@ -15,6 +14,7 @@ use Rattle.answer.specs.Answer.{placed}
 use Rattle.answer.specs.declared.Verdict as verdicts
 use Rattle.task.specs.Reads.{taskOf, Reads}
 use Rattle.clause.specs.Rows.{rowCount, ClausesRead}
+use Rattle.judge.specs.Promise.{Read}
 
 -- the first flag, or the end where there is none
 pub record FirstFlag (flags : List ℕ) (i : ℕ) : Type 0 where
@@ -32,13 +32,6 @@ pub record Searched (t : Task) (C : List (List ℕ)) (j low under : ℕ) : Type 
 unfoldable pub falseAnswer : Option ℕ → Answer (Unit {0})
 falseAnswer none = finding tt
 falseAnswer (some i) = refuse 10 i 0
-
--- the image and the clauses are read
-pub record Read (w c : List ℕ) (atoms : ℕ) : Type 0 where
-  pub task : Reads w
-  pub counted : atoms ≡ taskOf w .atoms
-  pub few : atoms ≤ mostAtoms
-  pub clauses : ClausesRead atoms c
 
 -- what is asked to judge the first clauses under an operator, with so many marks, and a flag for each of them
 pub record Judging (w c : List ℕ) (atoms operator marks flags : ℕ) : Type 0 where

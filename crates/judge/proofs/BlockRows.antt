@@ -14,38 +14,38 @@ use Rattle.definitions.proofs.LiteralLaws.{list-low}
 use Rattle.task.specs.Walk.{row, operatorIn, parsesAt, rowsAt}
 use Rattle.task.specs.Post.{BlockRead, RowRead}
 
-pub record Left (n : ℕ) (b : List ℕ) (at k : ℕ) : Type 0 where
+pub record Left (atoms : ℕ) (b : List ℕ) (at k : ℕ) : Type 0 where
   pub parses : parsesAt b at k ≡ true
-  pub right : all (rowRight n) (rowsAt b at k) ≡ true
+  pub right : all (rowRight atoms) (rowsAt b at k) ≡ true
 
-module _ (n : ℕ) (b : List ℕ) (right : operatorRight n (operatorIn b) ≡ true) (end k : ℕ) (read : BlockRead b (operatorIn b) end k) where
-  pub left-start : Left n b (end + 1) k
+module _ (atoms : ℕ) (b : List ℕ) (right : operatorRight atoms (operatorIn b) ≡ true) (end k : ℕ) (read : BlockRead b (operatorIn b) end k) where
+  pub left-start : Left atoms b (end + 1) k
   unfolding operatorRight
   left-start =
       record {
         parses = read .parses;
-        right = ap (all (rowRight n)) (read .rows) ∙ and-right (literalList n (operatorIn b .precondition)) (all (rowRight n) (operatorIn b .rows)) right;
+        right = ap (all (rowRight atoms)) (read .rows) ∙ and-right (literalList atoms (operatorIn b .precondition)) (all (rowRight atoms) (operatorIn b .rows)) right;
       }
 
-  pub precondition-low : allBelow (2 * n) (take (end - 1) (drop 1 b)) ≡ true
+  pub precondition-low : allBelow (2 * atoms) (take (end - 1) (drop 1 b)) ≡ true
   unfolding operatorRight
-  precondition-low = ap (allBelow (2 * n)) (read .precondition) ∙ list-low n (operatorIn b .precondition) (and-left (literalList n (operatorIn b .precondition)) (all (rowRight n) (operatorIn b .rows)) right)
+  precondition-low = ap (allBelow (2 * atoms)) (read .precondition) ∙ list-low atoms (operatorIn b .precondition) (and-left (literalList atoms (operatorIn b .precondition)) (all (rowRight atoms) (operatorIn b .rows)) right)
 
-module _ (n : ℕ) (b : List ℕ) (at k e from end : ℕ) (left : Left n b at k) (read : RowRead b at k e from end) where
+module _ (atoms : ℕ) (b : List ℕ) (at k e from end : ℕ) (left : Left atoms b at k) (read : RowRead b at k e from end) where
   conditions : List ℕ
   conditions = take (end - from) (drop from b)
 
-  both : (rowRight n (row e conditions) && all (rowRight n) (rowsAt b end (k - 1))) ≡ true
+  both : (rowRight atoms (row e conditions) && all (rowRight atoms) (rowsAt b end (k - 1))) ≡ true
   unfolding all conditions
-  both = sym (ap (all (rowRight n)) (read .row)) ∙ left .right
+  both = sym (ap (all (rowRight atoms)) (read .row)) ∙ left .right
 
-  pub left-next : Left n b end (k - 1)
-  left-next = record { parses = read .next; right = and-right (rowRight n (row e conditions)) (all (rowRight n) (rowsAt b end (k - 1))) both }
+  pub left-next : Left atoms b end (k - 1)
+  left-next = record { parses = read .next; right = and-right (rowRight atoms (row e conditions)) (all (rowRight atoms) (rowsAt b end (k - 1))) both }
 
-  pub effect-low : e < 2 * n
+  pub effect-low : e < 2 * atoms
   unfolding rowRight
-  effect-low = ltb-true e (2 * n) (and-left (ltb e (2 * n)) (literalList n conditions) (and-left (rowRight n (row e conditions)) (all (rowRight n) (rowsAt b end (k - 1))) both))
+  effect-low = ltb-true e (2 * atoms) (and-left (ltb e (2 * atoms)) (literalList atoms conditions) (and-left (rowRight atoms (row e conditions)) (all (rowRight atoms) (rowsAt b end (k - 1))) both))
 
-  pub conditions-low : allBelow (2 * n) (take (end - from) (drop from b)) ≡ true
+  pub conditions-low : allBelow (2 * atoms) (take (end - from) (drop from b)) ≡ true
   unfolding rowRight conditions
-  conditions-low = list-low n conditions (and-right (ltb e (2 * n)) (literalList n conditions) (and-left (rowRight n (row e conditions)) (all (rowRight n) (rowsAt b end (k - 1))) both))
+  conditions-low = list-low atoms conditions (and-right (ltb e (2 * atoms)) (literalList atoms conditions) (and-left (rowRight atoms (row e conditions)) (all (rowRight atoms) (rowsAt b end (k - 1))) both))

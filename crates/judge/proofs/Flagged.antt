@@ -113,8 +113,8 @@ flags-more K s i x inside ex h k low = go (ℕ-discrete k i)
     go (yes e) = rw (e, getD-set-same s i x 0 inside) ex
     go (no ne) = getD-set-other s i k x 0 ne ∙ h k (omega arith)
 
-pub flags-end : (n : ℕ) (K s : List ℕ) (i : ℕ) → length s ≡ 2 * n → 2 * n ≤ i → ((k : ℕ) → k < i → getD s k 0 ≡ bit (has K k)) → s ≡ flagsOf n K
+pub flags-end : (atoms : ℕ) (K s : List ℕ) (i : ℕ) → length s ≡ 2 * atoms → 2 * atoms ≤ i → ((k : ℕ) → k < i → getD s k 0 ≡ bit (has K k)) → s ≡ flagsOf atoms K
 unfolding flagsOf
-flags-end n K s i len past h =
-    ext-getD 0 s (map (λ l. bit (has K l)) (below (2 * n))) (len ∙ sym (table-length (λ l. bit (has K l)) (2 * n)))
-    (λ k low. h k (omega arith) ∙ sym (table-at (λ l. bit (has K l)) (2 * n) k (omega arith)))
+flags-end atoms K s i len past h =
+    ext-getD 0 s (map (λ l. bit (has K l)) (below (2 * atoms))) (len ∙ sym (table-length (λ l. bit (has K l)) (2 * atoms)))
+    (λ k low. h k (omega arith) ∙ sym (table-at (λ l. bit (has K l)) (2 * atoms) k (omega arith)))

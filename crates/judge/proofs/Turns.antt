@@ -21,10 +21,10 @@ use Rattle.judge.proofs.Violations.{violates-none, violates-passed, vio
 use Rattle.judge.proofs.Flagged.{flag-agree, flag-none, rows-on, rows-end, rows-fail, contradictory-fail}
 
 -- the judged clauses' literals
-pub judged-low : (n : ℕ) (ws : List ℕ) → Judged n ws → (f : List ℕ) → List·Memᴰ f (clausesOf ws) → allBelow (2 * n) f ≡ true
-judged-low n ws judged f m =
+pub judged-low : (atoms : ℕ) (ws : List ℕ) → Judged atoms ws → (f : List ℕ) → List·Memᴰ f (clausesOf ws) → allBelow (2 * atoms) f ≡ true
+judged-low atoms ws judged f m =
     let p = clause-of ws f m in
-    rw (p .same) (list-low n (clauseOf (rowAt ws (p .row))) (right-list n (rowAt ws (p .row)) (judged .right (p .row) (p .inside))))
+    rw (p .same) (list-low atoms (clauseOf (rowAt ws (p .row))) (right-list atoms (rowAt ws (p .row)) (judged .right (p .row) (p .inside))))
 
 -- one row against the judged clauses
 module _ (N : ℕ) (C : List (List ℕ)) (o : Operator) (D : List (List ℕ)) (e : ℕ) (cs s : List ℕ) where

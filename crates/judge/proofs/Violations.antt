@@ -1,4 +1,4 @@
--- A clause is kept exactly if no row violates it, and whether a row violates it is told by the flags of the guaranteed literals. Assumes nothing.
+-- A clause is kept exactly if no row violates it, and the flags of the guaranteed literals say whether a row does. Assumes nothing.
 use mathlib.Core.Bool.{Bool, true, false, not, _&&_, _||_, and-false}
 use mathlib.Core.Logic.{_⊎_, inl, inr}
 use mathlib.Core.Path.{_≡_, refl, sym, _∙_, ap, ap₂, subst}

@@ -21,7 +21,7 @@ addEffects K [] S = S
 addEffects K (q ∷ qs) S = addEffects K qs (cond (allIn K (q .conditions)) (set S (q .effect) 1) S)
 
 module _ (N : ℕ) (C : List (List ℕ)) where
-  -- a row with conditions cs can fire where C and ls hold, as far as the closure tells
+  -- a row with conditions cs can fire where C and ls hold, as far as the closure says
   unfoldable pub canFire : List ℕ → List ℕ → Bool
   canFire ls cs = not (contradictory N (closure N C (ls ++ cs)))
 

@@ -8,7 +8,7 @@ ghost use Rattle.definitions.specs.Literal.{complement};
 ghost use Rattle.definitions.specs.Clauses.{clauseOf};
 ghost use Rattle.clause.specs.Rows.{rowCount, clausesOf};
 ghost use Rattle.judge.specs.Judging.{lacksOther, isOther, flagMore, guaranteedFlags, violates, someViolates, failFlags, Guarantees};
-ghost use Rattle.judge.specs.Promise.{Given, Judged, ConsistentClosure};
+ghost use Rattle.judge.specs.Promise.{Given, BulkGiven, ConsistentClosure, ClosedGiven, FlagsGuaranteed};
 ghost use Rattle.propagation.specs.Marks.{Asked, ConsistentMarks};
 ghost use Rattle.task.specs.Walk.{row, operatorIn};
 use propagation::Closing;
@@ -88,15 +88,15 @@ fn flag_violated(
     block: &[u16],
     l: u16,
     marks: &[u8],
-    n: usize,
+    atoms: usize,
     fails: &mut [u8],
 )
-    requires { ⌜ Given n (now clauses) (now block) × ConsistentMarks n (now marks) × (length (now fails) ≡ rowCount (now judged)) ⌝ }
-    ensures { λ _. ⌜ ((ls : List ℕ) → ConsistentClosure n (now (clauses .entry)) ls (now (marks .entry)) → now (fails .exit) ≡ flagMore (lacksOther l (guaranteedFlags n (clausesOf (now (clauses .entry))) (operatorIn (now (block .entry))) ls)) (clausesOf (now (judged .entry))) (now (fails .entry))) ⌝ }
+    requires { ⌜ Given atoms (now clauses) (now block) × ConsistentMarks atoms (now marks) × (length (now fails) ≡ rowCount (now judged)) ⌝ }
+    ensures { λ _. ⌜ ((ls : List ℕ) → ConsistentClosure atoms (now (clauses .entry)) ls (now (marks .entry)) → now (fails .exit) ≡ flagMore (lacksOther l (guaranteedFlags atoms (clausesOf (now (clauses .entry))) (operatorIn (now (block .entry))) ls)) (clausesOf (now (judged .entry))) (now (fails .entry))) ⌝ }
 {
-    let mut flags = super::guarantee::room();
-    let size = 2 * n;
-    super::guarantee::flag_guaranteed(clauses, block, marks, n, &mut flags[..size]);
+    let mut flags = literal::room::marks();
+    let size = 2 * atoms;
+    super::guarantee::flag_guaranteed(clauses, block, marks, atoms, &mut flags[..size]);
     flag_lacking(judged, l, &flags[..size], fails);
 }
 
@@ -112,22 +112,22 @@ fn judge_row(
     base: &[u8],
     flags: &[u8],
     marks: &mut [u8],
-    n: usize,
+    atoms: usize,
     fails: &mut [u8],
 )
-    requires { ⌜ Given n (now clauses) (now block) × Judged n (now judged) × ConsistentClosure n (now clauses) (operatorIn (now block) .precondition) (now base) × Asked n (now clauses) (now conditions) (now marks) × (length (now fails) ≡ rowCount (now judged)) × ((ls : List ℕ) → ConsistentClosure n (now clauses) ls (now base) → now flags ≡ guaranteedFlags n (clausesOf (now clauses)) (operatorIn (now block)) ls) ⌝ }
-    ensures { λ _. ⌜ ((e : ℕ) → l ≡ complement e → now (fails .exit) ≡ flagMore (violates n (clausesOf (now (clauses .entry))) (operatorIn (now (block .entry))) (row e (now (conditions .entry)))) (clausesOf (now (judged .entry))) (now (fails .entry))) ⌝ }
+    requires { ⌜ ClosedGiven atoms (now clauses) (now judged) (now block) (now base) (now fails) × Asked atoms (now clauses) (now conditions) (now marks) × FlagsGuaranteed atoms (now clauses) (now block) (now base) (now flags) ⌝ }
+    ensures { λ _. ⌜ ((e : ℕ) → l ≡ complement e → now (fails .exit) ≡ flagMore (violates atoms (clausesOf (now (clauses .entry))) (operatorIn (now (block .entry))) (row e (now (conditions .entry)))) (clausesOf (now (judged .entry))) (now (fails .entry))) ⌝ }
 {
     if propagation::holds_all(base, conditions) {
         flag_lacking(judged, l, flags, fails);
         return;
     }
-    propagation::copy(base, marks, n);
-    let closed = propagation::extend(clauses, conditions, marks, n);
+    propagation::copy(base, marks, atoms);
+    let closed = propagation::extend(clauses, conditions, marks, atoms);
     match closed {
         Closing::Contradictory => {}
         Closing::Consistent => {
-            flag_violated(clauses, judged, block, l, marks, n, fails);
+            flag_violated(clauses, judged, block, l, marks, atoms, fails);
         }
     }
 }
@@ -141,11 +141,11 @@ fn judge_rows(
     base: &[u8],
     flags: &[u8],
     marks: &mut [u8],
-    n: usize,
+    atoms: usize,
     fails: &mut [u8],
 )
-    requires { ⌜ Given n (now clauses) (now block) × Judged n (now judged) × ConsistentClosure n (now clauses) (operatorIn (now block) .precondition) (now base) × (2 * n ≤ length (now marks)) × (length (now fails) ≡ rowCount (now judged)) × ((ls : List ℕ) → ConsistentClosure n (now clauses) ls (now base) → now flags ≡ guaranteedFlags n (clausesOf (now clauses)) (operatorIn (now block)) ls) ⌝ }
-    ensures { λ _. ⌜ now (fails .exit) ≡ flagMore (someViolates n (clausesOf (now (clauses .entry))) (operatorIn (now (block .entry))) (operatorIn (now (block .entry)) .rows)) (clausesOf (now (judged .entry))) (now (fails .entry)) ⌝ }
+    requires { ⌜ ClosedGiven atoms (now clauses) (now judged) (now block) (now base) (now fails) × FlagsGuaranteed atoms (now clauses) (now block) (now base) (now flags) × (2 * atoms ≤ length (now marks)) ⌝ }
+    ensures { λ _. ⌜ now (fails .exit) ≡ flagMore (someViolates atoms (clausesOf (now (clauses .entry))) (operatorIn (now (block .entry))) (operatorIn (now (block .entry)) .rows)) (clausesOf (now (judged .entry))) (now (fails .entry)) ⌝ }
 {
     let BlockHead { end, rows } = task::block::head(block);
     let mut at = end + 1;
@@ -167,10 +167,29 @@ fn judge_rows(
             base,
             flags,
             marks,
-            n,
+            atoms,
             fails,
         );
     }
+}
+
+// Flags the judged clauses that some row violates, and the literals that the operator guarantees, where `base` has the marks of the
+// clauses' and the precondition's closure.
+fn judge_closed(
+    clauses: &[u16],
+    judged: &[u16],
+    block: &[u16],
+    base: &[u8],
+    marks: &mut [u8],
+    atoms: usize,
+    fails: &mut [u8],
+    flags: &mut [u8],
+)
+    requires { ⌜ ClosedGiven atoms (now clauses) (now judged) (now block) (now base) (now fails) × (2 * atoms ≤ length (now marks)) × (length (now flags) ≡ 2 * atoms) ⌝ }
+    ensures { λ _. ⌜ (now (fails .exit) ≡ flagMore (someViolates atoms (clausesOf (now (clauses .entry))) (operatorIn (now (block .entry))) (operatorIn (now (block .entry)) .rows)) (clausesOf (now (judged .entry))) (now (fails .entry))) × (now (flags .exit) ≡ guaranteedFlags atoms (clausesOf (now (clauses .entry))) (operatorIn (now (block .entry))) (operatorIn (now (block .entry)) .precondition)) ⌝ }
+{
+    super::guarantee::flag_guaranteed(clauses, block, base, atoms, flags);
+    judge_rows(clauses, judged, block, base, flags, marks, atoms, fails);
 }
 
 // Flags the judged clauses that some row violates, and the literals that the operator guarantees, where the marks are those of the
@@ -180,26 +199,25 @@ fn judge_consistent(
     judged: &[u16],
     block: &[u16],
     marks: &mut [u8],
-    n: usize,
+    atoms: usize,
     fails: &mut [u8],
     flags: &mut [u8],
 )
-    requires { ⌜ Given n (now clauses) (now block) × Judged n (now judged) × ConsistentClosure n (now clauses) (operatorIn (now block) .precondition) (now marks) × (length (now fails) ≡ rowCount (now judged)) × (length (now flags) ≡ 2 * n) ⌝ }
-    ensures { λ _. ⌜ (now (fails .exit) ≡ flagMore (someViolates n (clausesOf (now (clauses .entry))) (operatorIn (now (block .entry))) (operatorIn (now (block .entry)) .rows)) (clausesOf (now (judged .entry))) (now (fails .entry))) × (now (flags .exit) ≡ guaranteedFlags n (clausesOf (now (clauses .entry))) (operatorIn (now (block .entry))) (operatorIn (now (block .entry)) .precondition)) ⌝ }
+    requires { ⌜ ClosedGiven atoms (now clauses) (now judged) (now block) (now marks) (now fails) × (length (now flags) ≡ 2 * atoms) ⌝ }
+    ensures { λ _. ⌜ (now (fails .exit) ≡ flagMore (someViolates atoms (clausesOf (now (clauses .entry))) (operatorIn (now (block .entry))) (operatorIn (now (block .entry)) .rows)) (clausesOf (now (judged .entry))) (now (fails .entry))) × (now (flags .exit) ≡ guaranteedFlags atoms (clausesOf (now (clauses .entry))) (operatorIn (now (block .entry))) (operatorIn (now (block .entry)) .precondition)) ⌝ }
 {
-    let mut base = super::guarantee::room();
-    let size = 2 * n;
-    propagation::copy(marks, &mut base[..size], n);
-    super::guarantee::flag_guaranteed(clauses, block, &base[..size], n, flags);
-    judge_rows(
+    let mut base = literal::room::marks();
+    let size = 2 * atoms;
+    propagation::copy(marks, &mut base[..size], atoms);
+    judge_closed(
         clauses,
         judged,
         block,
         &base[..size],
-        flags,
         marks,
-        n,
+        atoms,
         fails,
+        flags,
     );
 }
 
@@ -211,21 +229,21 @@ pub fn judge_guaranteed(
     judged: &[u16],
     block: &[u16],
     marks: &mut [u8],
-    n: usize,
+    atoms: usize,
     fails: &mut [u8],
     flags: &mut [u8],
 ) -> bool
-    requires { ⌜ Given n (now clauses) (now block) × Judged n (now judged) × (2 * n ≤ length (now marks)) × (length (now fails) ≡ rowCount (now judged)) × (length (now flags) ≡ 2 * n) ⌝ }
-    ensures { λ r. ⌜ (now (fails .exit) ≡ failFlags n (clausesOf (now (clauses .entry))) (operatorIn (now (block .entry))) (clausesOf (now (judged .entry)))) × Guarantees n (clausesOf (now (clauses .entry))) (operatorIn (now (block .entry))) (now (flags .exit)) r ⌝ }
+    requires { ⌜ BulkGiven atoms (now clauses) (now judged) (now block) (now marks) (now fails) × (length (now flags) ≡ 2 * atoms) ⌝ }
+    ensures { λ r. ⌜ (now (fails .exit) ≡ failFlags atoms (clausesOf (now (clauses .entry))) (operatorIn (now (block .entry))) (clausesOf (now (judged .entry)))) × Guarantees atoms (clausesOf (now (clauses .entry))) (operatorIn (now (block .entry))) (now (flags .exit)) r ⌝ }
 {
     literal::flags::clear(fails);
     let head = task::block::head(block);
     let end = head.end;
-    let closed = propagation::close(clauses, &block[1..end], marks, n);
+    let closed = propagation::close(clauses, &block[1..end], marks, atoms);
     match closed {
         Closing::Contradictory => false,
         Closing::Consistent => {
-            judge_consistent(clauses, judged, block, marks, n, fails, flags);
+            judge_consistent(clauses, judged, block, marks, atoms, fails, flags);
             true
         }
     }
@@ -237,13 +255,21 @@ pub fn judge(
     judged: &[u16],
     block: &[u16],
     marks: &mut [u8],
-    n: usize,
+    atoms: usize,
     fails: &mut [u8],
 )
-    requires { ⌜ Given n (now clauses) (now block) × Judged n (now judged) × (2 * n ≤ length (now marks)) × (length (now fails) ≡ rowCount (now judged)) ⌝ }
-    ensures { λ _. ⌜ now (fails .exit) ≡ failFlags n (clausesOf (now (clauses .entry))) (operatorIn (now (block .entry))) (clausesOf (now (judged .entry))) ⌝ }
+    requires { ⌜ BulkGiven atoms (now clauses) (now judged) (now block) (now marks) (now fails) ⌝ }
+    ensures { λ _. ⌜ now (fails .exit) ≡ failFlags atoms (clausesOf (now (clauses .entry))) (operatorIn (now (block .entry))) (clausesOf (now (judged .entry))) ⌝ }
 {
-    let mut flags = super::guarantee::room();
-    let size = 2 * n;
-    judge_guaranteed(clauses, judged, block, marks, n, fails, &mut flags[..size]);
+    let mut flags = literal::room::marks();
+    let size = 2 * atoms;
+    judge_guaranteed(
+        clauses,
+        judged,
+        block,
+        marks,
+        atoms,
+        fails,
+        &mut flags[..size],
+    );
 }

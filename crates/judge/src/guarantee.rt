@@ -4,24 +4,17 @@ ghost use mathlib.Core.Bool.{true};
 ghost use mathlib.Core.List.{List};
 ghost use Prim.Native.Nat.{ℕ, _*_, _<_, _≤_};
 ghost use lib.ListN.{length};
-ghost use Rattle.definitions.specs.Literal.{complement};
+ghost use Rattle.definitions.specs.Literal.{mostAtoms, complement};
 ghost use Rattle.definitions.specs.Image.{operatorRight};
 ghost use Rattle.clause.specs.Rows.{clausesOf};
 ghost use Rattle.task.specs.Walk.{blockParses, operatorIn};
 ghost use Rattle.propagation.specs.Marks.{Marked, ConsistentMarks, Asked};
-ghost use Rattle.judge.specs.Promise.{Given, ConsistentClosure};
-ghost use Rattle.judge.specs.Judging.{flagsOf, canFire, addEffects, dropChanged, guaranteedFlags, Guarantees};
+ghost use Rattle.judge.specs.Promise.{Given, ConsistentClosure, FlagsGuaranteed};
+ghost use Rattle.judge.specs.Judging.{flagsOf, canFire, addEffects, dropChanged};
 use literal::Literal;
 use propagation::Closing;
 use task::block::BlockHead;
 use task::block::RowPart;
-
-// Room for a byte for each literal.
-pub fn room() -> [u8; 2048]
-    ensures { λ r. ⌜ length r ≡ 2048 ⌝ }
-{
-    [0u8; 2048]
-}
 
 // The complement of a row's effect.
 pub fn complement(effect: usize) -> u16
@@ -36,11 +29,11 @@ pub fn complement(effect: usize) -> u16
 }
 
 // Flags the marked literals.
-fn flag_marked(marks: &[u8], n: usize, flags: &mut [u8])
-    requires { ⌜ (n ≤ 1024) × (length (now flags) ≡ 2 * n) ⌝ }
-    ensures { λ _. ⌜ ((K : List ℕ) → Marked n (now (marks .entry)) K → now (flags .exit) ≡ flagsOf n K) ⌝ }
+fn flag_marked(marks: &[u8], atoms: usize, flags: &mut [u8])
+    requires { ⌜ (atoms ≤ mostAtoms) × (length (now flags) ≡ 2 * atoms) ⌝ }
+    ensures { λ _. ⌜ ((K : List ℕ) → Marked atoms (now (marks .entry)) K → now (flags .exit) ≡ flagsOf atoms K) ⌝ }
 {
-    let end = 2 * n;
+    let end = 2 * atoms;
     let mut l: usize = 0;
     while l < end {
         flags[l] = literal::flags::byte(propagation::holds(marks, l));
@@ -49,15 +42,21 @@ fn flag_marked(marks: &[u8], n: usize, flags: &mut [u8])
 }
 
 // Whether a row with these conditions can fire, where the marks are those of a closure.
-fn can_fire(clauses: &[u16], conditions: &[u16], marks: &[u8], n: usize, work: &mut [u8]) -> bool
-    requires { ⌜ Asked n (now clauses) (now conditions) (now work) × ConsistentMarks n (now marks) ⌝ }
-    ensures { λ r. ⌜ ((ls : List ℕ) → ConsistentClosure n (now (clauses .entry)) ls (now (marks .entry)) → r ≡ canFire n (clausesOf (now (clauses .entry))) ls (now (conditions .entry))) ⌝ }
+fn can_fire(
+    clauses: &[u16],
+    conditions: &[u16],
+    marks: &[u8],
+    atoms: usize,
+    work: &mut [u8],
+) -> bool
+    requires { ⌜ Asked atoms (now clauses) (now conditions) (now work) × ConsistentMarks atoms (now marks) ⌝ }
+    ensures { λ r. ⌜ ((ls : List ℕ) → ConsistentClosure atoms (now (clauses .entry)) ls (now (marks .entry)) → r ≡ canFire atoms (clausesOf (now (clauses .entry))) ls (now (conditions .entry))) ⌝ }
 {
     if propagation::holds_all(marks, conditions) {
         return true;
     }
-    propagation::copy(marks, work, n);
-    let closed = propagation::extend(clauses, conditions, work, n);
+    propagation::copy(marks, work, atoms);
+    let closed = propagation::extend(clauses, conditions, work, atoms);
     match closed {
         Closing::Consistent => true,
         Closing::Contradictory => false,
@@ -69,12 +68,12 @@ fn drop_changed(
     clauses: &[u16],
     block: &[u16],
     marks: &[u8],
-    n: usize,
+    atoms: usize,
     work: &mut [u8],
     flags: &mut [u8],
 )
-    requires { ⌜ Given n (now clauses) (now block) × ConsistentMarks n (now marks) × (2 * n ≤ length (now work)) ⌝ }
-    ensures { λ _. ⌜ ((ls : List ℕ) → ConsistentClosure n (now (clauses .entry)) ls (now (marks .entry)) → now (flags .exit) ≡ dropChanged n (clausesOf (now (clauses .entry))) ls (operatorIn (now (block .entry)) .rows) (now (flags .entry))) ⌝ }
+    requires { ⌜ Given atoms (now clauses) (now block) × ConsistentMarks atoms (now marks) × (2 * atoms ≤ length (now work)) ⌝ }
+    ensures { λ _. ⌜ ((ls : List ℕ) → ConsistentClosure atoms (now (clauses .entry)) ls (now (marks .entry)) → now (flags .exit) ≡ dropChanged atoms (clausesOf (now (clauses .entry))) ls (operatorIn (now (block .entry)) .rows) (now (flags .entry))) ⌝ }
 {
     let BlockHead { end, rows } = task::block::head(block);
     let mut at = end + 1;
@@ -87,7 +86,7 @@ fn drop_changed(
         if literal::flags::is_zero(flags, l) {
             continue;
         }
-        if !can_fire(clauses, &block[from..end], marks, n, work) {
+        if !can_fire(clauses, &block[from..end], marks, atoms, work) {
             continue;
         }
         literal::flags::put(flags, l, 0);
@@ -97,7 +96,7 @@ fn drop_changed(
 // Flags the effects of the rows whose conditions are marked.
 fn add_effects(block: &[u16], marks: &[u8], flags: &mut [u8])
     requires { ⌜ blockParses (now block) ≡ true ⌝ }
-    ensures { λ _. ⌜ ((n : ℕ) (K : List ℕ) → operatorRight n (operatorIn (now (block .entry))) ≡ true → Marked n (now (marks .entry)) K → now (flags .exit) ≡ addEffects K (operatorIn (now (block .entry)) .rows) (now (flags .entry))) ⌝ }
+    ensures { λ _. ⌜ ((atoms : ℕ) (K : List ℕ) → operatorRight atoms (operatorIn (now (block .entry))) ≡ true → Marked atoms (now (marks .entry)) K → now (flags .exit) ≡ addEffects K (operatorIn (now (block .entry)) .rows) (now (flags .entry))) ⌝ }
 {
     let BlockHead { end, rows } = task::block::head(block);
     let mut at = end + 1;
@@ -114,13 +113,13 @@ fn add_effects(block: &[u16], marks: &[u8], flags: &mut [u8])
 }
 
 // Flags the literals that an operator guarantees, where the marks are those of the closure of the clauses and literals that hold before it.
-pub fn flag_guaranteed(clauses: &[u16], block: &[u16], marks: &[u8], n: usize, flags: &mut [u8])
-    requires { ⌜ Given n (now clauses) (now block) × ConsistentMarks n (now marks) × (length (now flags) ≡ 2 * n) ⌝ }
-    ensures { λ _. ⌜ ((ls : List ℕ) → ConsistentClosure n (now (clauses .entry)) ls (now (marks .entry)) → now (flags .exit) ≡ guaranteedFlags n (clausesOf (now (clauses .entry))) (operatorIn (now (block .entry))) ls) ⌝ }
+pub fn flag_guaranteed(clauses: &[u16], block: &[u16], marks: &[u8], atoms: usize, flags: &mut [u8])
+    requires { ⌜ Given atoms (now clauses) (now block) × ConsistentMarks atoms (now marks) × (length (now flags) ≡ 2 * atoms) ⌝ }
+    ensures { λ _. ⌜ FlagsGuaranteed atoms (now (clauses .entry)) (now (block .entry)) (now (marks .entry)) (now (flags .exit)) ⌝ }
 {
-    let mut work = room();
-    let end = 2 * n;
-    flag_marked(marks, n, flags);
-    drop_changed(clauses, block, marks, n, &mut work[..end], flags);
+    let mut work = literal::room::marks();
+    let end = 2 * atoms;
+    flag_marked(marks, atoms, flags);
+    drop_changed(clauses, block, marks, atoms, &mut work[..end], flags);
     add_effects(block, marks, flags);
 }

@@ -1,33 +1,15 @@
 // Kept clauses: one clause under one operator, and many clauses at once.
 ghost use mathlib.Core.Path.{_≡_};
-ghost use Prim.Native.Nat.{_*_, _≤_, _<_};
 ghost use lib.ListN.{length};
-ghost use Rattle.definitions.specs.Answer.{finding, refused};
-ghost use Rattle.definitions.specs.Step.{operatorAt};
-ghost use Rattle.definitions.specs.Clauses.{clauseOf};
-ghost use Rattle.definitions.specs.Kept.{kept};
 ghost use Rattle.definitions.specs.Checker.{keeps};
-ghost use Rattle.answer.specs.Answer.{refusalAt, testAnswer};
-ghost use Rattle.clause.specs.Rows.{clausesOf};
-ghost use Rattle.task.specs.Reads.{taskOf};
-ghost use Rattle.judge.specs.Promise.{Asks};
+ghost use Rattle.answer.specs.Answer.{testAnswer};
+ghost use Rattle.judge.specs.Promise.{Asks, InputAnswer, ReadAnswer};
 use answer::Refusal;
 use answer::Tested;
 use answer::Verdict;
 
 pub mod bulk; // bulk.rt: all judged clauses under one operator
 pub mod guarantee; // guarantee.rt: the literals that an operator guarantees
-
-// The refusal of a question, with both places zero.
-fn refuse(number: u16) -> Tested
-    ensures { λ r. ⌜ testAnswer r ≡ refused (refusalAt number 0 0) ⌝ }
-{
-    Tested::Refused(Refusal {
-        number: number,
-        first: 0,
-        second: 0,
-    })
-}
 
 // Room for the flag of one clause.
 fn one() -> [u8; 1]
@@ -37,21 +19,54 @@ fn one() -> [u8; 1]
 }
 
 // Whether the clauses keep a clause under an operator.
-fn test(
+fn test(image: &[u16], clauses: &[u16], clause: &[u16], operator: usize, marks: &mut [u8]) -> Tested
+    requires { ⌜ Asks (now image) (now clauses) (now clause) operator (length (now marks)) ⌝ }
+    ensures { λ r. ⌜ testAnswer r ≡ keeps (now (image .entry)) (now (clauses .entry)) (now (clause .entry)) operator (length (now (marks .entry))) ⌝ }
+{
+    let atoms = task::atoms(image);
+    let block = task::operator_block(image, operator);
+    let mut fails = one();
+    bulk::judge(clauses, clause, block, marks, atoms, &mut fails[..1]);
+    answer::whether(!literal::flags::has(&fails[..1], 0))
+}
+
+// Questions 1 to 9, then 8 and 9 for the clause alone.
+fn read_all(image: &[u16], clauses: &[u16], clause: &[u16]) -> Verdict
+    ensures { λ r. ⌜ ReadAnswer (now (image .entry)) (now (clauses .entry)) (now (clause .entry)) r ⌝ }
+{
+    let read = task::read(image);
+    if let Verdict::Refused(f) = read {
+        return Verdict::Refused(f);
+    }
+    let atoms = task::atoms(image);
+    let set = clause::check_rows(clauses, atoms);
+    if let Verdict::Refused(f) = set {
+        return Verdict::Refused(f);
+    }
+    clause::check_clause(clause, atoms)
+}
+
+// The questions of the test: 1 to 9, 8 and 9 for the clause alone, 19, 13. The first that is answered no decides.
+fn check_input(
     image: &[u16],
     clauses: &[u16],
     clause: &[u16],
     operator: usize,
-    n: usize,
-    marks: &mut [u8],
-) -> Tested
-    requires { ⌜ Asks (now image) (now clauses) (now clause) operator n × (2 * n ≤ length (now marks)) ⌝ }
-    ensures { λ r. ⌜ testAnswer r ≡ finding (kept n (clausesOf (now (clauses .entry))) (operatorAt (taskOf (now (image .entry))) operator) (clauseOf (now (clause .entry)))) ⌝ }
+    marks: usize,
+) -> Verdict
+    ensures { λ r. ⌜ InputAnswer (now (image .entry)) (now (clauses .entry)) (now (clause .entry)) operator marks r ⌝ }
 {
-    let block = task::operator_block(image, operator);
-    let mut fails = one();
-    bulk::judge(clauses, clause, block, marks, n, &mut fails[..1]);
-    answer::whether(!literal::flags::has(&fails[..1], 0))
+    let read = read_all(image, clauses, clause);
+    if let Verdict::Refused(f) = read {
+        return Verdict::Refused(f);
+    }
+    if task::operators(image) <= operator {
+        return answer::refuse(Refusal::OPERATOR_NUMBER);
+    }
+    if marks < 2 * task::atoms(image) {
+        return answer::refuse(Refusal::BUFFERS);
+    }
+    Verdict::Fine
 }
 
 // Whether the clauses keep a clause under an operator: questions 1 to 9, then 8 and 9 for the clause alone, 19, 13.
@@ -64,25 +79,10 @@ pub fn kept(
 ) -> Tested
     ensures { λ r. ⌜ testAnswer r ≡ keeps (now (image .entry)) (now (clauses .entry)) (now (clause .entry)) operator (length (now (marks .entry))) ⌝ }
 {
-    let read = task::read(image);
-    if let Verdict::Refused(f) = read {
+    let number = literal::wide(operator);
+    let input = check_input(image, clauses, clause, number, marks.len());
+    if let Verdict::Refused(f) = input {
         return Tested::Refused(f);
     }
-    let n = task::atoms(image);
-    let set = clause::check_rows(clauses, n);
-    if let Verdict::Refused(f) = set {
-        return Tested::Refused(f);
-    }
-    let row = clause::check_clause(clause, n);
-    if let Verdict::Refused(f) = row {
-        return Tested::Refused(f);
-    }
-    let i = literal::wide(operator);
-    if task::operators(image) <= i {
-        return refuse(Refusal::OPERATOR_NUMBER);
-    }
-    if marks.len() < 2 * n {
-        return refuse(Refusal::BUFFERS);
-    }
-    test(image, clauses, clause, i, n, marks)
+    test(image, clauses, clause, number, marks)
 }

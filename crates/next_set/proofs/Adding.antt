@@ -79,32 +79,32 @@ module _ (t : Task) (C : List (List ℕ)) (o : Operator) where
   weakened-each f = extended-all f (guarantees t C o)
 
   -- the listed literals are those that the operator guarantees
-  pub listed-guarantees : (n : ℕ) (flags : List ℕ) → t .atoms ≡ n → flags ≡ guaranteedFlags n C o (o .precondition) → keep (has flags) (below (length flags)) ≡ guarantees t C o
+  pub listed-guarantees : (atoms : ℕ) (flags : List ℕ) → t .atoms ≡ atoms → flags ≡ guaranteedFlags atoms C o (o .precondition) → keep (has flags) (below (length flags)) ≡ guarantees t C o
   unfolding guarantees guaranteedFlags
-  listed-guarantees n flags a e =
-      let l : length flags ≡ 2 * n = ap length e ∙ size in
+  listed-guarantees atoms flags a e =
+      let l : length flags ≡ 2 * atoms = ap length e ∙ size in
       rw (l, ← a, e, ← a) (keep-agree (has (guaranteedFlags (t .atoms) C o (o .precondition))) (guaranteed (t .atoms) C o (o .precondition) (closure (t .atoms) C (o .precondition))) (below (2 * t .atoms)) (λ x m. guaranteed-has (t .atoms) C o (o .precondition) x (below-of (2 * t .atoms) m)))
     where
-      size : length (guaranteedFlags n C o (o .precondition)) ≡ 2 * n
-      size = table-length (λ m. bit (guaranteed n C o (o .precondition) (closure n C (o .precondition)) m)) (2 * n)
+      size : length (guaranteedFlags atoms C o (o .precondition)) ≡ 2 * atoms
+      size = table-length (λ m. bit (guaranteed atoms C o (o .precondition) (closure atoms C (o .precondition)) m)) (2 * atoms)
 
-  module _ (n k : ℕ) (flags : List ℕ) (atoms : t .atoms ≡ n) (fails : flags ≡ failFlags n C o C) where
+  module _ (atoms k : ℕ) (flags : List ℕ) (counted : t .atoms ≡ atoms) (fails : flags ≡ failFlags atoms C o C) where
     due-fails : (i : ℕ) → i < length C → isDue C flags k i ≡ (eqb (length (getD C i [])) k && not (kept (t .atoms) C o (getD C i [])))
     unfolding isDue failFlags
     due-fails i h =
-        let l = flags-length (λ f. not (kept n C o f)) C flags fails in
-        rw (flag-has (λ f. not (kept n C o f)) C flags fails i (omega arith), atoms)
+        let l = flags-length (λ f. not (kept atoms C o f)) C flags fails in
+        rw (flag-has (λ f. not (kept atoms C o f)) C flags fails i (omega arith), counted)
 
     -- a clause fails only where the closure of C and the precondition is not contradictory
-    fails-consistent : (f : List ℕ) → (eqb (length f) k && not (kept (t .atoms) C o f)) ≡ true → contradictory n (closure n C (o .precondition)) ≡ false
+    fails-consistent : (f : List ℕ) → (eqb (length f) k && not (kept (t .atoms) C o f)) ≡ true → contradictory atoms (closure atoms C (o .precondition)) ≡ false
     unfolding kept
     fails-consistent f d =
         let e = not-true (kept (t .atoms) C o f) (and-right (eqb (length f) k) (not (kept (t .atoms) C o f)) d) in
-        subst (λ (m : ℕ). contradictory m (closure m C (o .precondition)) ≡ false) atoms (or-false-left (contradictory (t .atoms) (closure (t .atoms) C (o .precondition))) _ e)
+        subst (λ (m : ℕ). contradictory m (closure m C (o .precondition)) ≡ false) counted (or-false-left (contradictory (t .atoms) (closure (t .atoms) C (o .precondition))) _ e)
 
     -- the rows' additions are the operator's; the list is not asked where no clause fails
     pub rows-added :
-        (list : List ℕ) → (contradictory n (closure n C (o .precondition)) ≡ false → list ≡ guarantees t C o)
+        (list : List ℕ) → (contradictory atoms (closure atoms C (o .precondition)) ≡ false → list ≡ guarantees t C o)
         → each (addedRow C flags list k) (range 0 (length C)) ≡ addedBy t C k o
     unfolding addedBy addedRow addedFor
     rows-added list listed =
@@ -139,9 +139,9 @@ unfolding allBelow all
 no-words list = refl
 
 -- ---- rows that are right over fewer atoms
-below-more : (n m : ℕ) (xs : List ℕ) → n ≤ m → allBelow n xs ≡ true → allBelow m xs ≡ true
+below-more : (k m : ℕ) (xs : List ℕ) → k ≤ m → allBelow k xs ≡ true → allBelow m xs ≡ true
 unfolding allBelow
-below-more n m xs h e = all-of (λ x. ltb x m) xs (λ x k. let b = ltb-true x n (all-at (λ x. ltb x n) e k) in lt-ltb x m (omega arith))
+below-more k m xs h e = all-of (λ x. ltb x m) xs (λ x i. let b = ltb-true x k (all-at (λ x. ltb x k) e i) in lt-ltb x m (omega arith))
 
 pub list-more : (N M : ℕ) (f : List ℕ) → N ≤ M → literalList N f ≡ true → literalList M f ≡ true
 unfolding literalList
@@ -161,26 +161,26 @@ rows-more N M w h r = record { ascending = r .ascending; right = λ i k. right i
         and-both (and-both (and-left (not (empty f)) (literalList N f) a) (list-more N M f h (and-right (not (empty f)) (literalList N f) a))) (and-right (not (empty f) && literalList N f) same e)
 
 -- a flag for each clause
-pub fail-count : (C : List (List ℕ)) (o : Operator) (n : ℕ) (flags : List ℕ) → flags ≡ failFlags n C o C → length flags ≡ length C
+pub fail-count : (C : List (List ℕ)) (o : Operator) (atoms : ℕ) (flags : List ℕ) → flags ≡ failFlags atoms C o C → length flags ≡ length C
 unfolding failFlags
-fail-count C o n flags fails = flags-length (λ f. not (kept n C o f)) C flags fails
+fail-count C o atoms flags fails = flags-length (λ f. not (kept atoms C o f)) C flags fails
 
 -- ---- one operator, by the rows of clause words
-module _ (w : List ℕ) (o : Operator) (n k : ℕ) (flags : List ℕ) (fails : flags ≡ failFlags n (clausesOf w) o (clausesOf w)) where
+module _ (w : List ℕ) (o : Operator) (atoms k : ℕ) (flags : List ℕ) (fails : flags ≡ failFlags atoms (clausesOf w) o (clausesOf w)) where
   pub fails-length : length flags ≡ rowCount w
-  fails-length = fail-count (clausesOf w) o n flags fails ∙ clauses-length w
+  fails-length = fail-count (clausesOf w) o atoms flags fails ∙ clauses-length w
 
-  pub weakening : n ≤ mostAtoms → ClausesRead n w → (list : List ℕ) → allBelow mostLiterals list ≡ true → k < width → Weakening w flags list k
+  pub weakening : atoms ≤ mostAtoms → ClausesRead atoms w → (list : List ℕ) → allBelow mostLiterals list ≡ true → k < width → Weakening w flags list k
   weakening few read list low short =
       record {
-        rows = rows-more n mostAtoms w few (read-right n w read);
+        rows = rows-more atoms mostAtoms w few (read-right atoms w read);
         flagged = fails-length;
         low = low;
         short = short;
       }
 
   pub under-added :
-      (t : Task) → t .atoms ≡ n → (rows : ℕ) (s : Option (List (List ℕ))) (list : List ℕ)
-      → (contradictory n (closure n (clausesOf w) (o .precondition)) ≡ false → list ≡ guarantees t (clausesOf w) o)
+      (t : Task) → t .atoms ≡ atoms → (rows : ℕ) (s : Option (List (List ℕ))) (list : List ℕ)
+      → (contradictory atoms (closure atoms (clausesOf w) (o .precondition)) ≡ false → list ≡ guarantees t (clausesOf w) o)
       → putAll rows (each (addedRow (clausesOf w) flags list k) (range 0 (rowCount w))) s ≡ putAll rows (addedBy t (clausesOf w) k o) s
-  under-added t atoms rows s list listed = rw (← clauses-length w, rows-added t (clausesOf w) o n k flags atoms fails list listed)
+  under-added t counted rows s list listed = rw (← clauses-length w, rows-added t (clausesOf w) o atoms k flags counted fails list listed)

@@ -11,7 +11,7 @@ use lib.Dec.{eqb, ltb}
 use lib.ListN.{length}
 use borrow.Author.Tests.{ltb-true, ltb-false}
 use Rattle.definitions.specs.Lists.{ascending}
-use Rattle.definitions.specs.Literal.{atom, allBelow, literalList}
+use Rattle.definitions.specs.Literal.{mostAtoms, atom, allBelow, literalList}
 use Rattle.definitions.specs.Clauses.{width}
 use Rattle.definitions.specs.Synthesis.{undominated, insertClause}
 use Rattle.definitions.proofs.ListLaws.{decide, and-left}
@@ -30,7 +30,7 @@ unfolding literalList
 good-ascending N n f g = and-left (ascending f) (allBelow (2 * N) f) (and-left (ascending f && allBelow (2 * N) f) (ascending (map atom f)) (g .list))
 
 -- the clauses of U, of which those of a set are taken
-module _ (N rows : ℕ) (few : N ≤ 1024) (U : List (List ℕ)) (good : Goods N U) where
+module _ (N rows : ℕ) (few : N ≤ mostAtoms) (U : List (List ℕ)) (good : Goods N U) where
   -- a set under way: only undominated clauses, among them all of at most j literals
   pub record Stage (j : ℕ) (D : List (List ℕ)) : Type 0 where
     pub order : up D ≡ true

@@ -10,7 +10,7 @@ use lib.Dec.{eqb, ltb, leb}
 use lib.ListN.{length}
 use borrow.Author.Tests.{eqb-true, eq-eqb, ltb-true, lt-ltb, le-leb, lt-leb, not-true}
 use Rattle.definitions.specs.Lists.{any, all, keep, each, empty, below, range, member}
-use Rattle.definitions.specs.Literal.{atom}
+use Rattle.definitions.specs.Literal.{mostAtoms, atom}
 use Rattle.definitions.specs.Image.{Operator, Task}
 use Rattle.definitions.specs.Clauses.{width}
 use Rattle.definitions.specs.Closure.{closure}
@@ -39,7 +39,7 @@ each-in f {x} {y} (z ∷ xs) m k = go (List·Memᴰ·cases-cons m) (λ j. each-i
     go (inl e) rec = Memᴰ·append-left (each f xs) (rw e at k)
     go (inr j) rec = Memᴰ·append-right (f z) (rec j)
 
-all-in : (N : ℕ) → N ≤ 1024 → (D C : List (List ℕ)) → Goods N D → Goods N C → (h : List ℕ) → List·Memᴰ h D → List·Memᴰ h (insertAll D C)
+all-in : (N : ℕ) → N ≤ mostAtoms → (D C : List (List ℕ)) → Goods N D → Goods N C → (h : List ℕ) → List·Memᴰ h D → List·Memᴰ h (insertAll D C)
 unfolding insertAll
 all-in N few [] C a b h m = absurd (List·Memᴰ·not-nil m)
 all-in N few (f ∷ D) C a b h m =
@@ -203,7 +203,7 @@ module _ (t : Task) (C : List (List ℕ)) where
   survivors-up order = keep-up (λ f. all (λ o. fine o f) (t .operators)) C order
 
 -- ---- C is a set of the synthesis, in a buffer of its rows
-module _ (t : Task) (n rows : ℕ) (C : List (List ℕ)) (few : t .atoms ≤ 1024) (some-n : 1 ≤ n) (narrow : n ≤ width) (good : (f : List ℕ) → List·Memᴰ f C → GoodClause (t .atoms) n f) (order : up C ≡ true) (anti : Antichain C) (inside : length C ≤ rows) where
+module _ (t : Task) (n rows : ℕ) (C : List (List ℕ)) (few : t .atoms ≤ mostAtoms) (some-n : 1 ≤ n) (narrow : n ≤ width) (good : (f : List ℕ) → List·Memᴰ f C → GoodClause (t .atoms) n f) (order : up C ≡ true) (anti : Antichain C) (inside : length C ≤ rows) where
   abbrev U : List (List ℕ)
   U = insertAll (each (weakened t n C) (tested t C)) (map (λ x. x .clause) (keep passes (tested t C)))
 

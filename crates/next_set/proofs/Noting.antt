@@ -66,7 +66,7 @@ module _ (p : List ℕ → Bool) (C : List (List ℕ)) (at : ℕ) where
 
     module _ (flags : List ℕ) (e : flags ≡ map (λ f. bit (p f)) C) (more : j < length flags) (room : length flags ≡ length to) where
       inside : j < length C
-      inside = let n = flags-length p C flags e in omega arith
+      inside = let l = flags-length p C flags e in omega arith
 
       -- a clause without a flag
       pub adding-pass : (getD flags j 0 ≡ 1 → ⊥) → Adding to₀ to due₀ due (j + 1)
@@ -140,9 +140,9 @@ module _ (t : Task) (C : List (List ℕ)) where
         → has due (width * i + k) ≡ someFails t C k (operatorAt t i)
     pub left : (i k : ℕ) → j ≤ i → 1 ≤ k → k ≤ width → width * i + k < length due → has due (width * i + k) ≡ false
 
-  pub tested-start : (n m : ℕ) → n ≡ length C → TestedBelow (replicate n 0) (replicate m 0) 0
+  pub tested-start : (k m : ℕ) → k ≡ length C → TestedBelow (replicate k 0) (replicate m 0) 0
   unfolding has
-  tested-start n m e =
+  tested-start k m e =
       record {
         flags = ap (λ (x : ℕ). replicate x 0) e ∙ fails-start t C;
         done = λ i k h. absurd (omega arith);
@@ -152,15 +152,15 @@ module _ (t : Task) (C : List (List ℕ)) where
   pub tested-end : (failing due : List ℕ) → TestedBelow failing due (length (t .operators)) → FailuresNoted t C due
   tested-end failing due b = record { flag = λ i k h. b .done i k h }
 
-  module _ (sizes : (f : List ℕ) → List·Memᴰ f C → (1 ≤ length f) × (length f ≤ width)) (n j : ℕ) (atoms : n ≡ t .atoms) (failing failing′ due due′ : List ℕ) where
+  module _ (sizes : (f : List ℕ) → List·Memᴰ f C → (1 ≤ length f) × (length f ≤ width)) (atoms j : ℕ) (counted : atoms ≡ t .atoms) (failing failing′ due due′ : List ℕ) where
     abbrev fails : List ℕ → Bool
-    fails = λ f. not (kept n C (operatorAt t j) f)
+    fails = λ f. not (kept atoms C (operatorAt t j) f)
 
     pub tested-next : TestedBelow failing due j → FlagsAdded fails C (width * j) failing failing′ due due′ → length due′ ≡ length due → TestedBelow failing′ due′ (j + 1)
     unfolding someFails
     tested-next b a same =
         record {
-          flags = fails-turn t C n j failing failing′ atoms (b .flags) (a .flags);
+          flags = fails-turn t C atoms j failing failing′ counted (b .flags) (a .flags);
           done = λ i k h low high room. here i k low high (rw same at room) (below-suc i j h);
           left = λ i k h low high room. a .noted (width * i + k) (rw same at room) ∙ rw (other-operator C sizes fails i j k (λ e. omega arith) low high) (b .left i k (omega arith) low high (rw same at room));
         }
@@ -172,7 +172,7 @@ module _ (t : Task) (C : List (List ℕ)) where
             (a .noted (width * j + k) (rw e at room)
             ∙ or-false _ _ (b .left j k (omega arith) low high (rw e at room))
             ∙ same-operator C sizes fails j k
-            ∙ ap (λ (x : ℕ). any (λ f. eqb (length f) k && not (kept x C (operatorAt t j) f)) C) atoms)
+            ∙ ap (λ (x : ℕ). any (λ f. eqb (length f) k && not (kept x C (operatorAt t j) f)) C) counted)
 
   -- nothing is to be put in for an operator and a number of literals that are not noted
   pub put-none :

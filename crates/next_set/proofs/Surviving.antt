@@ -58,10 +58,10 @@ whole : (c : List ℕ) → length c % width ≡ 0 → length c ≡ width * rowCo
 unfolding rowCount width
 whole c e = omega arith
 
-pub read-words : (n : ℕ) (c : List ℕ) → ClausesRead n c → length c ≡ width * rowCount c
-read-words n c r = whole c (read-whole n c r)
+pub read-words : (atoms : ℕ) (c : List ℕ) → ClausesRead atoms c → length c ≡ width * rowCount c
+read-words atoms c r = whole c (read-whole atoms c r)
 
-module _ (w c : List ℕ) (n most rows : ℕ) (r : Round w c n most rows) where
+module _ (w c : List ℕ) (atoms most rows : ℕ) (r : Round w c atoms most rows) where
   abbrev t : Task
   t = taskOf w
 
@@ -69,7 +69,7 @@ module _ (w c : List ℕ) (n most rows : ℕ) (r : Round w c n most rows) where
   C = clausesOf c
 
   few : t .atoms ≤ mostAtoms
-  few = let e = r .read .atoms in let h = r .read .few in omega arith
+  few = let e = r .read .counted in let h = r .read .few in omega arith
 
   good : (f : List ℕ) → List·Memᴰ f C → GoodClause (t .atoms) most f
   good f m = good-sets t most (r .before) (r .some-literal) f (subst (λ (D : List (List ℕ)). List·Memᴰ f D) (r .set) m)
@@ -84,7 +84,7 @@ module _ (w c : List ℕ) (n most rows : ℕ) (r : Round w c n most rows) where
   pub round-words : length c ≤ width * rows
   round-words =
       let a = mul-le-mul-left width (r .size) in
-      let b = read-words n c (r .read .clauses) in
+      let b = read-words atoms c (r .read .clauses) in
       omega arith
 
   module _ (flags : List ℕ) (failing : flags ≡ map (λ f. bit (failsBelow t C (length (t .operators)) f)) C) where
@@ -104,7 +104,7 @@ module _ (w c : List ℕ) (n most rows : ℕ) (r : Round w c n most rows) where
         row i h =
             let l : length flags ≡ rowCount c = flags-length (failsBelow t C (length (t .operators))) C flags failing ∙ clauses-length c in
             let q : i < rowCount c = omega arith in
-            rw (flag-has (failsBelow t C (length (t .operators))) C flags failing i (omega arith), fails-all t C (getD C i []), row-at n c (read-right n c (r .read .clauses)) i q)
+            rw (flag-has (failsBelow t C (length (t .operators))) C flags failing i (omega arith), fails-all t C (getD C i []), row-at atoms c (read-right atoms c (r .read .clauses)) i q)
             (cond-not (all (λ o. kept (t .atoms) C o (getD C i [])) (t .operators)) [] (rowOf (getD C i [])))
 
     survivors-good : Goods mostAtoms (survivors t C)

@@ -24,11 +24,11 @@ use Rattle.task.proofs.Questions.{task-read}
 use Rattle.task.specs.Walk.{operatorIn}
 use Rattle.task.specs.Post.{BlockGiven}
 use Rattle.judge.specs.Judging.{flagMore}
-use Rattle.judge.specs.Promise.{Judged, BulkGiven}
+use Rattle.judge.specs.Promise.{Judged, BulkGiven, Read}
 use Rattle.judge.proofs.Keeping.{given-operator}
 use Rattle.propagation.proofs.Marks.{bit-back}
 use Rattle.next_set.specs.Build.{failsBelow, survivors}
-use Rattle.next_set.specs.Post.{Read, ReadWithRoom, TestedWithRoom, WeakensAt}
+use Rattle.next_set.specs.Post.{ReadWithRoom, TestedWithRoom, WeakensAt}
 use Rattle.next_set.proofs.Flags.{flag-map}
 use Rattle.next_set.proofs.NextSet.{all-pass}
 
@@ -43,7 +43,7 @@ pub read-bulk :
 read-bulk w c b atoms i marks fails r h g =
     let q = r .read in
     record {
-      given = given-operator w c b atoms i (q .task) (q .atoms) (q .few) h (q .clauses) g;
+      given = given-operator w c b atoms i (q .task) (q .counted) (q .few) h (q .clauses) g;
       judged = read-judged w c atoms q;
       room = r .room;
       flagged = r .flagged;
@@ -88,12 +88,12 @@ module _ (t : Task) (C : List (List ℕ)) where
       go (f ∷ D) = ap (λ (l : List ℕ). 0 ∷ l) (go D)
 
   pub fails-turn :
-      (n j : ℕ) (s s′ : List ℕ) → n ≡ t .atoms → s ≡ map (λ f. bit (failsBelow t C j f)) C
-      → s′ ≡ flagMore (λ f. not (kept n C (operatorAt t j) f)) C s → s′ ≡ map (λ f. bit (failsBelow t C (j + 1) f)) C
+      (atoms j : ℕ) (s s′ : List ℕ) → atoms ≡ t .atoms → s ≡ map (λ f. bit (failsBelow t C j f)) C
+      → s′ ≡ flagMore (λ f. not (kept atoms C (operatorAt t j) f)) C s → s′ ≡ map (λ f. bit (failsBelow t C (j + 1) f)) C
   unfolding failsBelow
-  fails-turn n j s s′ atoms inv h =
+  fails-turn atoms j s s′ counted inv h =
       h
-      ∙ ap (λ (m : ℕ). flagMore (λ f. not (kept m C (operatorAt t j) f)) C s) atoms
+      ∙ ap (λ (m : ℕ). flagMore (λ f. not (kept m C (operatorAt t j) f)) C s) counted
       ∙ ap (flagMore (λ f. not (kept (t .atoms) C (operatorAt t j) f)) C) inv
       ∙ flag-map (λ f. not (kept (t .atoms) C (operatorAt t j) f)) (failsBelow t C j) C
       ∙ rw add-one

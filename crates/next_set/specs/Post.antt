@@ -12,17 +12,11 @@ use Rattle.definitions.specs.Image.{Operator, Task}
 use Rattle.definitions.specs.Clauses.{width, mostRows}
 use Rattle.definitions.specs.Step.{operatorAt}
 use Rattle.definitions.specs.Synthesis.{guarantees, setAt}
-use Rattle.clause.specs.Rows.{rowCount, clausesOf, ClausesRead, RightRows}
-use Rattle.task.specs.Reads.{taskOf, Reads}
+use Rattle.clause.specs.Rows.{rowCount, clausesOf, RightRows}
+use Rattle.task.specs.Reads.{taskOf}
 use Rattle.judge.specs.Judging.{flagMore}
+use Rattle.judge.specs.Promise.{Read}
 use Rattle.next_set.specs.Build.{failsBelow, someFails, wordsWithout}
-
--- the image and the clauses are read
-pub record Read (w c : List ℕ) (N : ℕ) : Type 0 where
-  pub task : Reads w
-  pub atoms : N ≡ taskOf w .atoms
-  pub few : N ≤ mostAtoms
-  pub clauses : ClausesRead N c
 
 -- the image and the clauses are read, and there is room to judge the clauses
 pub record ReadWithRoom (w c : List ℕ) (atoms : ℕ) (marks fails : List ℕ) : Type 0 where

@@ -163,7 +163,7 @@ module _ (w : List ℕ) (atoms n rows before count : ℕ) (v : List ℕ) (m : Ma
   set-round : Round w v atoms n rows
   set-round =
       record {
-        read = record { task = m .task; atoms = m .counted; few = m .few; clauses = set-read };
+        read = record { task = m .task; counted = m .counted; few = m .few; clauses = set-read };
         before = before;
         set = set-back;
         some-literal = m .some-literal;
@@ -253,7 +253,7 @@ module _ (w : List ℕ) (atoms n limit rows : ℕ) (c : List ℕ) (count made : 
           let r = s .round in
           record {
             task = r .read .task;
-            counted = r .read .atoms;
+            counted = r .read .counted;
             few = r .read .few;
             some-literal = r .some-literal;
             narrow = r .narrow;

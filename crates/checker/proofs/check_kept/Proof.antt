@@ -12,7 +12,8 @@ use Rattle.task.specs.Reads.{taskOf}
 use Rattle.clause.specs.Rows.{clausesOf}
 use Rattle.clause.proofs.RowLaws.{clauses-length}
 use Rattle.judge.specs.Judging.{failFlags}
-use Rattle.checker.specs.Search.{Searched, FirstFlag, Read}
+use Rattle.judge.specs.Promise.{Read}
+use Rattle.checker.specs.Search.{Searched, FirstFlag}
 use Rattle.checker.proofs.Prefix.{part-kept}
 use Rattle.checker.proofs.Searching.{search-begins, operator-same, operator-lower, search-ends, search-kept, search-refused}
 use borrow.Author.Needs.{needs}

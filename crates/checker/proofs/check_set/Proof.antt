@@ -6,7 +6,8 @@ use mathlib.Core.Path.{ap, sym, _∙_}
 use native.Mathlib.Omega.{arith}
 use lib.ListN.{length}
 use Rattle.answer.specs.Answer.{placed, verdictAnswer}
-use Rattle.checker.specs.Search.{Read, Reading}
+use Rattle.judge.specs.Promise.{Read}
+use Rattle.checker.specs.Search.{Reading}
 use Rattle.checker.proofs.Prefix.{few-rows}
 use Rattle.checker.proofs.Checking.{check-initial, check-kept, read-both}
 use borrow.Author.Needs.{needs}

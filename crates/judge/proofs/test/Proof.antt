@@ -1,27 +1,28 @@
 -- `judge::test`: the clause is judged as a list of one row.
-use mathlib.Core.Path.{_∙_}
-use Rattle.judge.proofs.Keeping.{given-operator, one-judged, one-flag, one-fails, test-told}
+use mathlib.Core.Path.{_≡_, _∙_}
+use mathlib.Core.List.{List}
+use Rattle.judge.proofs.Keeping.{asks-bulk, asks-answer}
 use borrow.Author.Needs.{needs}
 use Rattle.judge.proofs.test.Statement.{statement}
 use Rattle.judge.proofs.test.Tie as tie
 
 -- where the block is read, and the start
-abbrev first-words : tie.After-operator-block → tie.After-shared-slice-known2
-first-words c = c .before .before .before
+abbrev found : Type 0
+found = tie.After-operator-block
 
-abbrev start : tie.After-operator-block → tie.Start
-start c = first-words c .before .before
+abbrev start : found → tie.Start
+start d = d .before .before .before .before .before .before
 
--- where the clause is judged: the room, and the block
-abbrev room : tie.After-judge → tie.After-one
-room c = c .before .before .before
+-- where the clause is judged: the block
+abbrev block-of : tie.After-judge → found
+block-of c = c .before .before .before .before
 
--- behind the flag that is looked at: the judging
-abbrev back : tie.After-has → tie.After-slice-known2
-back c = c .before .before .before
-
+-- after the flag that is looked at: the judging
 abbrev judged : tie.After-has → tie.After-judge
-judged c = back c .before .before
+judged c = c .before .before .before .before .before
+
+atoms-requires : tie.Need-atoms-requires
+atoms-requires c κs = search needs
 
 operator-block-requires : tie.Need-operator-block-requires
 operator-block-requires c κs = search needs
@@ -34,14 +35,10 @@ slice-aggregate-judge c = search needs
 
 judge-requires : tie.Need-judge-requires
 judge-requires c κs =
-    let b = c .before .before .before in
-    let p = start b .pre in
-    let g = p .0 in (
-      given-operator _ _ _ _ _ (g .task) (g .atoms) (g .few) (g .operator) (g .clauses) (b .operator-block .ensures),
-      one-judged _ _ (g .clause),
-      p .1,
-      one-flag _ _ (g .clause) _ (c .before .before .one .ensures),
-    )
+    let d = c .before .before .before in
+    let s = start d in
+    let atoms = d .before .atoms in
+    asks-bulk _ _ _ (s .args .operator) (s .args .marks .now) (s .pre) (atoms .result) (atoms .ensures .0) (atoms .ensures .1) _ _ (d .operator-block .ensures) (c .before .before .one .ensures)
 
 slice-aggregate-has : tie.Need-slice-aggregate-has
 slice-aggregate-has c = search needs
@@ -59,14 +56,17 @@ returns : tie.Need-returns
 returns c =
     let h = c .before in
     let j = judged h in
-    let b = room j .before in
+    let d = block-of j in
+    let s = start d in
+    let atoms = d .before .atoms in
     c .whether .ensures
-    ∙ test-told _ _ (h .has .ensures ∙ one-fails _ _ (start b .pre .0 .clause) _ _ _ _ (b .operator-block .ensures .operator) (j .judge .ensures))
+    ∙ asks-answer _ _ _ (s .args .operator) (s .args .marks .now) (s .pre) (atoms .result) (atoms .ensures .0) _ _ (h .has .result) (d .operator-block .ensures .operator) (j .judge .ensures) (h .has .ensures)
 
 pub test-spec : {M : Type 1} → statement M
 test-spec =
     tie.close
     (tie.spec
+    atoms-requires
     operator-block-requires
     one-requires
     slice-aggregate-judge

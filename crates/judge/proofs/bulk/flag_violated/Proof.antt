@@ -1,19 +1,42 @@
 -- `judge::bulk::flag_violated`: the guaranteed literals' flags are made, and the clauses judged by them.
-use Rattle.judge.proofs.Parts.{part-room, part-length, part-back}
-use denote.Ref.{now}
-use Prim.Native.Nat.{_*_, _≤_}
+use Prim.Native.Nat.{ℕ, _*_, _≤_}
+use mathlib.Core.List.{List}
 use mathlib.Core.Path.{sym, _∙_, ap}
 use native.Mathlib.Omega.{arith}
 use lib.ListN.{length}
 use lib.Seq.{length-take-le}
 use Rattle.clause.specs.Rows.{clausesOf}
 use Rattle.judge.specs.Judging.{lacksOther, flagMore}
+use Rattle.judge.proofs.Parts.{CameBack, came-back}
 use borrow.Author.Needs.{needs}
 use Rattle.judge.proofs.bulk.flag_violated.Statement.{statement}
 use Rattle.judge.proofs.bulk.flag_violated.Tie as tie
 
-room-requires : tie.Need-room-requires
-room-requires c κs = search needs
+-- where the part of the local array is lent
+abbrev lent : Type 0
+lent = tie.After-flags
+
+abbrev start : lent → tie.Start
+start b = b .before .before .before .before .before .before .before
+
+abbrev size : lent → ℕ
+size b = 2 * start b .args .atoms
+
+abbrev local : lent → List ℕ
+local b = b .before .marks .result
+
+fits : (b : lent) → size b ≤ length (local b)
+fits b = omega (arith, b .before .marks .ensures, start b .pre .0 .few)
+
+-- where it came back with the flags
+abbrev flagged : Type 0
+flagged = tie.After-flag-guaranteed
+
+back : (d : flagged) → CameBack (size (d .before)) (local (d .before)) (d .flag-guaranteed .last .1 .1 .1 .1 .0)
+back d = came-back (size (d .before)) (local (d .before)) (d .flag-guaranteed .last .1 .1 .1 .1 .0) (fits (d .before)) (d .flag-guaranteed .kept .1 .1 .1 .1 .0)
+
+marks-requires : tie.Need-marks-requires
+marks-requires c κs = search needs
 
 mul-size : tie.Need-mul-size
 mul-size c = search needs
@@ -22,21 +45,16 @@ array-borrow-prefix-flags : tie.Need-array-borrow-prefix-flags
 array-borrow-prefix-flags c = search needs
 
 slice-aggregate-flag-guaranteed : tie.Need-slice-aggregate-flag-guaranteed
-slice-aggregate-flag-guaranteed c = sym (length-take-le _ (c .before .room .result) (omega (arith, c .before .before .before .before .before .before .before .pre .0 .few)))
+slice-aggregate-flag-guaranteed c = sym (length-take-le _ (local c) (fits c))
 
 flag-guaranteed-requires : tie.Need-flag-guaranteed-requires
-flag-guaranteed-requires c κs =
-    let p = c .before .before .before .before .before .before .before .pre in
-    (p .0, p .1, length-take-le (2 * c .before .before .before .before .before .before .before .args .n) (c .before .room .result) (omega (arith, p .0 .few)))
+flag-guaranteed-requires c κs = let p = start c .pre in (p .0, p .1, length-take-le (size c) (local c) (fits c))
 
 array-share-prefix-flags : tie.Need-array-share-prefix-flags
-array-share-prefix-flags c = part-room _ (c .before .before .before .room .result) (c .before .flag-guaranteed .last .1 .1 .1 .1 .0) (omega (arith, c .before .before .before .before .before .before .before .before .before .pre .0 .few)) (c .before .flag-guaranteed .kept .1 .1 .1 .1 .0)
+array-share-prefix-flags c = back (c .before) .room
 
 slice-aggregate-flag-lacking : tie.Need-slice-aggregate-flag-lacking
-slice-aggregate-flag-lacking c =
-    let k = c .before .before .flag-guaranteed .kept .1 .1 .1 .1 .0 in
-    let few : 2 * c .before .before .before .before .before .before .before .before .before .before .args .n ≤ length (c .before .before .before .before .room .result) = omega (arith, c .before .before .before .before .before .before .before .before .before .before .pre .0 .few) in
-    sym (ap length (part-back _ (c .before .before .before .before .room .result) (c .before .before .flag-guaranteed .last .1 .1 .1 .1 .0) few k) ∙ part-length _ (c .before .before .before .before .room .result) (c .before .before .flag-guaranteed .last .1 .1 .1 .1 .0) few k)
+slice-aggregate-flag-lacking c = back (c .before .before) .whole
 
 flag-lacking-requires : tie.Need-flag-lacking-requires
 flag-lacking-requires c κs = search needs
@@ -46,16 +64,17 @@ same-length c = search needs
 
 returns : tie.Need-returns
 returns c =
-    λ ls closed.
-    let few : 2 * c .before .before .before .before .before .before .before .before .before .before .before .before .before .before .args .n ≤ length (c .before .before .before .before .before .before .before .before .room .result) = omega (arith, c .before .before .before .before .before .before .before .before .before .before .before .before .before .before .pre .0 .few) in
-    let made = part-back _ (c .before .before .before .before .before .before .before .before .room .result) (c .before .before .before .before .before .before .flag-guaranteed .last .1 .1 .1 .1 .0) few (c .before .before .before .before .before .before .flag-guaranteed .kept .1 .1 .1 .1 .0) ∙ c .before .before .before .before .before .before .flag-guaranteed .ensures ls closed in
-    c .before .before .flag-lacking .ensures ∙ ap (λ G. flagMore (lacksOther (c .before .before .before .before .before .before .before .before .before .before .before .before .before .before .args .l) G) (clausesOf (now (c .before .before .before .before .before .before .before .before .before .before .before .before .before .before .args .judged))) (now (c .before .before .before .before .before .before .before .before .before .before .before .before .before .before .args .fails))) made
+    let l = c .before .before in
+    let d = l .before .before .before .before in
+    let a = start (d .before) .args in
+    λ ls closed. l .flag-lacking .ensures
+    ∙ ap (λ G. flagMore (lacksOther (a .l) G) (clausesOf (a .judged .now)) (a .fails .now)) (back d .part ∙ d .flag-guaranteed .ensures ls closed)
 
 pub flag-violated-spec : {M : Type 1} → statement M
 flag-violated-spec =
     tie.close
     (tie.spec
-    room-requires
+    marks-requires
     mul-size
     array-borrow-prefix-flags
     slice-aggregate-flag-guaranteed

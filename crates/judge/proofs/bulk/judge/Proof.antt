@@ -1,14 +1,29 @@
 -- `judge::bulk::judge`: the flags of the guaranteed literals stand in a local array. Assumes nothing.
-use Prim.Native.Nat.{_*_}
+use Prim.Native.Nat.{ℕ, _*_, _≤_}
+use mathlib.Core.List.{List}
 use mathlib.Core.Path.{sym}
 use native.Mathlib.Omega.{arith}
+use lib.ListN.{length}
 use lib.Seq.{length-take-le}
 use borrow.Author.Needs.{needs}
 use Rattle.judge.proofs.bulk.judge.Statement.{statement}
 use Rattle.judge.proofs.bulk.judge.Tie as tie
 
-room-requires : tie.Need-room-requires
-room-requires c κs = search needs
+-- where the part of the local array is lent
+abbrev lent : Type 0
+lent = tie.After-flags
+
+abbrev start : lent → tie.Start
+start b = b .before .before .before .before .before .before .before .before .before
+
+abbrev local : lent → List ℕ
+local b = b .before .before .before .marks .result
+
+fits : (b : lent) → 2 * start b .args .atoms ≤ length (local b)
+fits b = omega (arith, b .before .before .before .marks .ensures, start b .pre .given .few)
+
+marks-requires : tie.Need-marks-requires
+marks-requires c κs = search needs
 
 mul-size : tie.Need-mul-size
 mul-size c = search needs
@@ -17,12 +32,10 @@ array-borrow-prefix-flags : tie.Need-array-borrow-prefix-flags
 array-borrow-prefix-flags c = search needs
 
 slice-aggregate-judge-guaranteed : tie.Need-slice-aggregate-judge-guaranteed
-slice-aggregate-judge-guaranteed c = sym (length-take-le _ (c .before .before .before .room .result) (omega (arith, c .before .before .before .before .before .before .before .before .before .pre .0 .few)))
+slice-aggregate-judge-guaranteed c = sym (length-take-le _ (local c) (fits c))
 
 judge-guaranteed-requires : tie.Need-judge-guaranteed-requires
-judge-guaranteed-requires c κs =
-    let p = c .before .before .before .before .before .before .before .before .before .pre in
-    (p .0, p .1, p .2, p .3, length-take-le (2 * c .before .before .before .before .before .before .before .before .before .args .n) (c .before .before .before .room .result) (omega (arith, p .0 .few)))
+judge-guaranteed-requires c κs = (start c .pre, length-take-le (2 * start c .args .atoms) (local c) (fits c))
 
 same-length : tie.Need-same-length
 same-length c = search needs
@@ -37,7 +50,7 @@ pub judge-spec : {M : Type 1} → statement M
 judge-spec =
     tie.close
     (tie.spec
-    room-requires
+    marks-requires
     mul-size
     array-borrow-prefix-flags
     slice-aggregate-judge-guaranteed

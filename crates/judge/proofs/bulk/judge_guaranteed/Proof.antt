@@ -1,13 +1,41 @@
 -- `judge::bulk::judge_guaranteed`: where the closure of the precondition is contradictory no clause fails, else the rows tell. Assumes nothing.
-use mathlib.Core.Path.{_∙_}
-use denote.Ref.{now}
+use Prim.Native.Nat.{ℕ}
+use mathlib.Core.Path.{_≡_, _∙_}
+use mathlib.Core.List.{List}
+use Rattle.propagation.proofs.Marks.{told-consistent, told-contradictory}
 use Rattle.judge.proofs.BlockRows.{precondition-low}
 use Rattle.judge.proofs.Closures.{closure-told, closure-start, contradictory-start}
-use Rattle.propagation.proofs.Marks.{told-consistent, told-contradictory}
 use Rattle.judge.proofs.Turns.{fail-none, fail-rows}
 use borrow.Author.Needs.{needs}
 use Rattle.judge.proofs.bulk.judge_guaranteed.Statement.{statement}
 use Rattle.judge.proofs.bulk.judge_guaranteed.Tie as tie
+
+-- where the block's head is known: the start, and the flags cleared
+abbrev headed : Type 0
+headed = tie.After-head
+
+abbrev cleared : headed → tie.After-clear
+cleared h = h .before .before .before
+
+abbrev start : headed → tie.Start
+start h = cleared h .before .before .before .before .before .before .before .before
+
+abbrev judged : headed → List ℕ
+judged h = start h .args .judged .now
+
+abbrev fails : headed → List ℕ
+fails h = start h .args .fails .now
+
+-- where the closure is made
+abbrev head-of : tie.After-close → headed
+head-of d = d .before .before .before
+
+-- where it is contradictory, and where it is not
+abbrev clashing : tie.After-enum-told → tie.After-close
+clashing c = c .before .before .before .before
+
+abbrev closing : tie.After-enum-told2 → tie.After-close
+closing c = c .before .before .before .before
 
 clear-requires : tie.Need-clear-requires
 clear-requires c κs = search needs
@@ -26,8 +54,14 @@ part-close-end c = search needs
 
 close-requires : tie.Need-close-requires
 close-requires c κs =
-    let p = c .before .before .before .before .before .before .before .before .before .before .before .before .before .pre in
-    record { few = p .0 .few; room = p .2; rows = p .0 .rows; below = precondition-low _ _ (p .0 .right) _ _ (c .before .before .head .ensures) }
+    let h = c .before .before in
+    let g = start h .pre .0 in
+    record {
+      few = g .given .few;
+      room = g .room;
+      rows = g .given .rows;
+      below = precondition-low _ _ (g .given .right) _ _ (h .head .ensures);
+    }
 
 enum-told : tie.Need-enum-told
 enum-told c = c .match .keys1
@@ -37,9 +71,19 @@ enum-told-2 c = c .match .keys2
 
 judge-consistent-requires : tie.Need-judge-consistent-requires
 judge-consistent-requires c κs =
-    let p = c .before .before .before .before .before .before .before .before .before .before .before .before .before .before .before .before .before .before .before .before .before .pre in
-    let h = c .before .before .before .before .before .before .before .before .before .before .head .ensures in
-    (p .0, p .1, closure-start _ _ _ _ _ (h .precondition) (closure-told _ _ _ _ (told-consistent _ _ _ _ _ (c .before .before .before .before .before .before .before .close .ensures .1) (c .before .before .before .enum-told2 .given .1))), c .before .before .before .before .before .before .before .before .before .before .before .before .before .clear .kept .0 ∙ p .3, p .4)
+    let e = c .before .before .before in
+    let d = closing e in
+    let h = head-of d in
+    let g = start h .pre .0 in
+    let told = told-consistent _ _ _ _ _ (d .close .ensures .1) (e .enum-told2 .given .1) in (
+      record {
+        given = g .given;
+        judged = g .judged;
+        closed = closure-start _ _ _ _ _ (h .head .ensures .precondition) (closure-told _ _ _ _ told);
+        flagged = cleared h .clear .kept .0 ∙ g .flagged;
+      },
+      start h .pre .1,
+    )
 
 same-length : tie.Need-same-length
 same-length c = search needs
@@ -49,9 +93,11 @@ same-length-2 c = search needs
 
 returns : tie.Need-returns
 returns c =
-    let p = c .before .before .before .before .before .before .before .before .before .before .before .before .before .before .before .before .before .before .pre in
-    let told = told-contradictory _ _ _ _ _ (c .before .before .before .before .close .ensures .1) (c .enum-told .given .1) in
-    (fail-none _ _ _ (now (c .before .before .before .before .before .before .before .before .before .before .before .before .before .before .before .before .before .before .args .judged)) _ (now (c .before .before .before .before .before .before .before .before .before .before .before .before .before .before .before .before .before .before .args .fails)) _ (p .3) (c .before .before .before .before .before .before .before .before .before .before .clear .ensures) (c .before .before .before .before .before .before .before .head .ensures .precondition) told, contradictory-start _ _ _ _ (c .before .before .before .before .before .before .before .head .ensures .precondition) told)
+    let d = clashing c in
+    let h = head-of d in
+    let pre = h .head .ensures .precondition in
+    let told = told-contradictory _ _ _ _ _ (d .close .ensures .1) (c .enum-told .given .1) in
+    (fail-none _ _ _ (judged h) _ (fails h) _ (start h .pre .0 .flagged) (cleared h .clear .ensures) pre told, contradictory-start _ _ _ _ pre told)
 
 same-length-3 : tie.Need-same-length-3
 same-length-3 c = search needs
@@ -64,9 +110,14 @@ same-length-5 c = search needs
 
 returns-2 : tie.Need-returns-2
 returns-2 c =
-    let p = c .before .before .before .before .before .before .before .before .before .before .before .before .before .before .before .before .before .before .before .before .before .before .before .before .before .before .before .before .pre in
-    let told = told-consistent _ _ _ _ _ (c .before .before .before .before .before .before .before .before .before .before .before .before .before .before .close .ensures .1) (c .before .before .before .before .before .before .before .before .before .before .enum-told2 .given .1) in
-    (fail-rows _ _ _ (now (c .before .before .before .before .before .before .before .before .before .before .before .before .before .before .before .before .before .before .before .before .before .before .before .before .before .before .before .before .args .judged)) _ (now (c .before .before .before .before .before .before .before .before .before .before .before .before .before .before .before .before .before .before .before .before .before .before .before .before .before .before .before .before .args .fails)) _ (p .3) (c .before .before .before .before .before .before .before .before .before .before .before .before .before .before .before .before .before .before .before .before .clear .ensures) (c .before .before .before .before .before .before .before .before .before .before .before .before .before .before .before .before .before .head .ensures .precondition) _ (told .0) (c .before .before .before .before .before .before .judge-consistent .ensures .0), (closure-start _ _ _ _ _ (c .before .before .before .before .before .before .before .before .before .before .before .before .before .before .before .before .before .head .ensures .precondition) (closure-told _ _ _ _ told) .consistent, c .before .before .before .before .before .before .judge-consistent .ensures .1))
+    let j = c .before .before .before .before .before .before in
+    let e = j .before .before .before .before in
+    let d = closing e in
+    let h = head-of d in
+    let pre = h .head .ensures .precondition in
+    let told = told-consistent _ _ _ _ _ (d .close .ensures .1) (e .enum-told2 .given .1) in
+    let consistent = closure-start _ _ _ _ _ pre (closure-told _ _ _ _ told) .consistent in
+    (fail-rows _ _ _ (judged h) _ (fails h) _ (start h .pre .0 .flagged) (cleared h .clear .ensures) pre _ (told .0) (j .judge-consistent .ensures .0), (consistent, j .judge-consistent .ensures .1))
 
 pub judge-guaranteed-spec : {M : Type 1} → statement M
 judge-guaranteed-spec =

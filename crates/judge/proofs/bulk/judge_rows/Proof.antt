@@ -14,21 +14,21 @@ use Rattle.judge.proofs.bulk.judge_rows.Statement.{statement}
 use Rattle.judge.proofs.bulk.judge_rows.Tie as tie
 
 abbrev Inv-loop : tie.InvT-loop
-Inv-loop clauses judged block base flags marks₀ n fails₀ end rows at₀ left₀ marks fails at left =
-    (length marks ≡ length marks₀) × (length fails ≡ length fails₀) × Left n block at left
-    × (flagMore (someViolates n (clausesOf clauses) (operatorIn block) (operatorIn block .rows)) (clausesOf judged) fails₀ ≡ flagMore (someViolates n (clausesOf clauses) (operatorIn block) (rowsAt block at left)) (clausesOf judged) fails)
+Inv-loop clauses judged block base flags marks₀ atoms fails₀ end rows at₀ left₀ marks fails at left =
+    (length marks ≡ length marks₀) × (length fails ≡ length fails₀) × Left atoms block at left
+    × (flagMore (someViolates atoms (clausesOf clauses) (operatorIn block) (operatorIn block .rows)) (clausesOf judged) fails₀ ≡ flagMore (someViolates atoms (clausesOf clauses) (operatorIn block) (rowsAt block at left)) (clausesOf judged) fails)
 
 abbrev μ-loop : tie.MeasureT-loop
-μ-loop clauses judged block base flags marks₀ n fails₀ end rows at₀ left₀ marks fails at left = left
+μ-loop clauses judged block base flags marks₀ atoms fails₀ end rows at₀ left₀ marks fails at left = left
 
 head-requires : tie.Need-head-requires Inv-loop μ-loop
-head-requires c κs = c .before .before .before .before .before .before .before .pre .0 .parses
+head-requires c κs = c .before .before .before .before .before .before .before .pre .0 .given .parses
 
 add-at : tie.Need-add-at Inv-loop μ-loop
 add-at c = search needs
 
 loop-holds : tie.Need-loop-holds Inv-loop μ-loop
-loop-holds c = (refl, refl, left-start _ _ (c .before .before .before .before .before .before .before .before .pre .0 .right) _ _ (c .head .ensures), turn-start _ _ _ _ _ _ _ (c .head .ensures .rows))
+loop-holds c = (refl, refl, left-start _ _ (c .before .before .before .before .before .before .before .before .pre .0 .given .right) _ _ (c .head .ensures), turn-start _ _ _ _ _ _ _ (c .head .ensures .rows))
 
 row-requires : tie.Need-row-requires Inv-loop μ-loop
 row-requires c κs = (c .before .loop .inv .2 .parses, c .loop-test .taken)
@@ -37,7 +37,7 @@ sub-left : tie.Need-sub-left Inv-loop μ-loop
 sub-left c = search needs
 
 complement-requires : tie.Need-complement-requires Inv-loop μ-loop
-complement-requires c κs = omega (arith, effect-low _ _ _ _ _ _ _ (c .before .before .loop .inv .2) (c .row .ensures), c .before .before .before .before .before .before .before .before .before .before .before .pre .0 .few)
+complement-requires c κs = omega (arith, effect-low _ _ _ _ _ _ _ (c .before .before .loop .inv .2) (c .row .ensures), c .before .before .before .before .before .before .before .before .before .before .before .pre .0 .given .few)
 
 some-holds-requires : tie.Need-some-holds-requires Inv-loop μ-loop
 some-holds-requires c κs = search needs
@@ -67,7 +67,16 @@ judge-row-requires : tie.Need-judge-row-requires Inv-loop μ-loop
 judge-row-requires c κs =
     let p = c .before .before .before .before .before .before .before .before .before .before .before .before .before .before .before .before .before .pre in
     let i = c .before .before .before .before .before .before .before .before .loop .inv in
-    (p .0, p .1, p .2, record { few = p .0 .few; room = omega (arith, p .3, i .0); rows = p .0 .rows; below = conditions-low _ _ _ _ _ _ _ (i .2) (c .before .before .before .before .before .before .row .ensures) }, i .1 ∙ p .4, p .5)
+    let g = p .0 .given in (
+      record { given = g; judged = p .0 .judged; closed = p .0 .closed; flagged = i .1 ∙ p .0 .flagged },
+      record {
+        few = g .few;
+        room = omega (arith, p .2, i .0);
+        rows = g .rows;
+        below = conditions-low _ _ _ _ _ _ _ (i .2) (c .before .before .before .before .before .before .row .ensures);
+      },
+      p .1,
+    )
 
 loop-less-2 : tie.Need-loop-less-2 Inv-loop μ-loop
 loop-less-2 c = search needs

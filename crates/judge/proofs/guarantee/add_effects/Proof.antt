@@ -20,7 +20,7 @@ use Rattle.judge.proofs.guarantee.add_effects.Tie as tie
 abbrev Inv-loop : tie.InvT-loop
 Inv-loop block marks flags₀ end rows at₀ left₀ flags at left =
     (parsesAt block at left ≡ true) × (length flags ≡ length flags₀)
-    × ((n : ℕ) (K : List ℕ) → operatorRight n (operatorIn block) ≡ true → Marked n marks K → Left n block at left × (addEffects K (operatorIn block .rows) flags₀ ≡ addEffects K (rowsAt block at left) flags))
+    × ((atoms : ℕ) (K : List ℕ) → operatorRight atoms (operatorIn block) ≡ true → Marked atoms marks K → Left atoms block at left × (addEffects K (operatorIn block .rows) flags₀ ≡ addEffects K (rowsAt block at left) flags))
 
 abbrev μ-loop : tie.MeasureT-loop
 μ-loop block marks flags₀ end rows at₀ left₀ flags at left = left
@@ -32,7 +32,7 @@ add-at : tie.Need-add-at Inv-loop μ-loop
 add-at c = search needs
 
 loop-holds : tie.Need-loop-holds Inv-loop μ-loop
-loop-holds c = (c .head .ensures .parses, refl, λ n K right m. (left-start n _ right _ _ (c .head .ensures), add-start K _ _ _ (c .head .ensures .rows)))
+loop-holds c = (c .head .ensures .parses, refl, λ atoms K right m. (left-start atoms _ right _ _ (c .head .ensures), add-start K _ _ _ (c .head .ensures .rows)))
 
 row-requires : tie.Need-row-requires Inv-loop μ-loop
 row-requires c κs = (c .before .loop .inv .0, c .loop-test .taken)
@@ -64,9 +64,9 @@ loop-again c =
     let r = c .before .before .before .row .ensures in (
       r .next,
       i .1,
-      λ n K right m.
-          let j = i .2 n K right m in
-          (left-next n _ _ _ _ _ _ (j .0) r, j .1 ∙ add-passed K _ _ _ _ _ (r .row) (sym (c .before .holds-all .ensures n K m (conditions-low n _ _ _ _ _ _ (j .0) r)) ∙ not-true _ (c .if1 .taken))),
+      λ atoms K right m.
+          let j = i .2 atoms K right m in
+          (left-next atoms _ _ _ _ _ _ (j .0) r, j .1 ∙ add-passed K _ _ _ _ _ (r .row) (sym (c .before .holds-all .ensures atoms K m (conditions-low atoms _ _ _ _ _ _ (j .0) r)) ∙ not-true _ (c .if1 .taken))),
     )
 
 put-requires : tie.Need-put-requires Inv-loop μ-loop
@@ -81,16 +81,16 @@ loop-again-2 c =
     let r = c .before .before .before .before .before .before .before .row .ensures in (
       r .next,
       c .before .before .put .kept .0 ∙ i .1,
-      λ n K right m.
-          let j = i .2 n K right m in
-          (left-next n _ _ _ _ _ _ (j .0) r, j .1 ∙ add-made K _ _ _ _ _ (r .row) _ (c .before .before .put .ensures) (sym (c .before .before .before .before .before .holds-all .ensures n K m (conditions-low n _ _ _ _ _ _ (j .0) r)) ∙ not-false _ (c .before .before .before .before .if1 .left))),
+      λ atoms K right m.
+          let j = i .2 atoms K right m in
+          (left-next atoms _ _ _ _ _ _ (j .0) r, j .1 ∙ add-made K _ _ _ _ _ (r .row) _ (c .before .before .put .ensures) (sym (c .before .before .before .before .before .holds-all .ensures atoms K m (conditions-low atoms _ _ _ _ _ _ (j .0) r)) ∙ not-false _ (c .before .before .before .before .if1 .left))),
     )
 
 same-length : tie.Need-same-length Inv-loop μ-loop
 same-length c = c .before .loop .inv .1
 
 returns : tie.Need-returns Inv-loop μ-loop
-returns c = λ n K right m. sym (c .before .loop .inv .2 n K right m .1 ∙ add-end K _ _ (rows-none _ _ _ (omega arith)))
+returns c = λ atoms K right m. sym (c .before .loop .inv .2 atoms K right m .1 ∙ add-end K _ _ (rows-none _ _ _ (omega arith)))
 
 pub add-effects-spec : {M : Type 1} → statement M
 add-effects-spec =

@@ -18,12 +18,12 @@ use Rattle.judge.proofs.guarantee.drop_changed.Statement.{statement}
 use Rattle.judge.proofs.guarantee.drop_changed.Tie as tie
 
 abbrev Inv-loop : tie.InvT-loop
-Inv-loop clauses block marks n work₀ flags₀ end rows at₀ left₀ work flags at left =
-    (length work ≡ length work₀) × (length flags ≡ length flags₀) × Left n block at left
-    × ((ls : List ℕ) → ConsistentClosure n clauses ls marks → dropChanged n (clausesOf clauses) ls (operatorIn block .rows) flags₀ ≡ dropChanged n (clausesOf clauses) ls (rowsAt block at left) flags)
+Inv-loop clauses block marks atoms work₀ flags₀ end rows at₀ left₀ work flags at left =
+    (length work ≡ length work₀) × (length flags ≡ length flags₀) × Left atoms block at left
+    × ((ls : List ℕ) → ConsistentClosure atoms clauses ls marks → dropChanged atoms (clausesOf clauses) ls (operatorIn block .rows) flags₀ ≡ dropChanged atoms (clausesOf clauses) ls (rowsAt block at left) flags)
 
 abbrev μ-loop : tie.MeasureT-loop
-μ-loop clauses block marks n work₀ flags₀ end rows at₀ left₀ work flags at left = left
+μ-loop clauses block marks atoms work₀ flags₀ end rows at₀ left₀ work flags at left = left
 
 head-requires : tie.Need-head-requires Inv-loop μ-loop
 head-requires c κs = c .before .before .before .before .before .pre .0 .parses

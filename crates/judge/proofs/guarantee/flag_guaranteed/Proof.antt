@@ -8,8 +8,8 @@ use borrow.Author.Needs.{needs}
 use Rattle.judge.proofs.guarantee.flag_guaranteed.Statement.{statement}
 use Rattle.judge.proofs.guarantee.flag_guaranteed.Tie as tie
 
-room-requires : tie.Need-room-requires
-room-requires c κs = search needs
+marks-requires : tie.Need-marks-requires
+marks-requires c κs = search needs
 
 mul-end : tie.Need-mul-end
 mul-end c = search needs
@@ -21,12 +21,12 @@ array-borrow-prefix-work : tie.Need-array-borrow-prefix-work
 array-borrow-prefix-work c = search needs
 
 slice-aggregate-drop-changed : tie.Need-slice-aggregate-drop-changed
-slice-aggregate-drop-changed c = sym (length-take-le _ (c .before .before .before .before .before .room .result) (omega (arith, c .before .before .before .before .before .before .before .before .before .before .pre .0 .few)))
+slice-aggregate-drop-changed c = sym (length-take-le _ (c .before .before .before .before .before .marks .result) (omega (arith, c .before .before .before .before .before .before .before .before .before .before .pre .0 .few)))
 
 drop-changed-requires : tie.Need-drop-changed-requires
 drop-changed-requires c κs =
     let p = c .before .before .before .before .before .before .before .before .before .before .before .pre in
-    (p .0, p .1, omega (arith, p .0 .few, length-take-le (2 * c .before .before .before .before .before .before .before .before .before .before .before .args .n) (c .before .before .before .before .before .before .room .result) (omega (arith, p .0 .few))))
+    (p .0, p .1, omega (arith, p .0 .few, length-take-le (2 * c .before .before .before .before .before .before .before .before .before .before .before .args .atoms) (c .before .before .before .before .before .before .marks .result) (omega (arith, p .0 .few))))
 
 add-effects-requires : tie.Need-add-effects-requires
 add-effects-requires c κs = search needs
@@ -44,7 +44,7 @@ pub flag-guaranteed-spec : {M : Type 1} → statement M
 flag-guaranteed-spec =
     tie.close
     (tie.spec
-    room-requires
+    marks-requires
     mul-end
     flag-marked-requires
     array-borrow-prefix-work

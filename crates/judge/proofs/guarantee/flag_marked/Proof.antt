@@ -12,12 +12,12 @@ use Rattle.judge.proofs.guarantee.flag_marked.Statement.{statement}
 use Rattle.judge.proofs.guarantee.flag_marked.Tie as tie
 
 abbrev Inv-loop : tie.InvT-loop
-Inv-loop marks n flags₀ end l₀ flags l =
-    (l ≤ 2 * n) × (length flags ≡ 2 * n) × (length flags ≡ length flags₀)
-    × ((K : List ℕ) → Marked n marks K → (k : ℕ) → k < l → getD flags k 0 ≡ bit (has K k))
+Inv-loop marks atoms flags₀ end l₀ flags l =
+    (l ≤ 2 * atoms) × (length flags ≡ 2 * atoms) × (length flags ≡ length flags₀)
+    × ((K : List ℕ) → Marked atoms marks K → (k : ℕ) → k < l → getD flags k 0 ≡ bit (has K k))
 
 abbrev μ-loop : tie.MeasureT-loop
-μ-loop marks n flags₀ end l₀ flags l = 2 * n - l
+μ-loop marks atoms flags₀ end l₀ flags l = 2 * atoms - l
 
 mul-end : tie.Need-mul-end Inv-loop μ-loop
 mul-end c = omega (arith, c .before .before .pre .0)

@@ -24,8 +24,7 @@ judge-requires : tie.Need-judge-requires
 judge-requires c κs =
     let d = c .before .before in
     let a = start d .args in
-    let g = read-bulk (a .image .now) (a .clauses .now) _ (a .atoms) (a .operator) (a .marks .now) (a .fails .now) (start d .pre .0) (start d .pre .1) (d .operator-block .ensures) in
-    (g .given, g .judged, g .room, g .flagged)
+    read-bulk (a .image .now) (a .clauses .now) _ (a .atoms) (a .operator) (a .marks .now) (a .fails .now) (start d .pre .0) (start d .pre .1) (d .operator-block .ensures)
 
 same-length : tie.Need-same-length
 same-length c = search needs

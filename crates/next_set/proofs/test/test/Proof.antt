@@ -50,8 +50,8 @@ same-due l = l .loop .inv .5 ∙ l .before .before .before .clear2 .kept .0
 abbrev tested : Type 0
 tested = tie.After-test-operator Inv-loop μ-loop
 
-abbrev turn : tested → at-loop
-turn d = d .before .before .before .before .before .before
+abbrev loop-of : tested → at-loop
+loop-of d = d .before .before .before .before .before .before
 
 operators-requires : tie.Need-operators-requires Inv-loop μ-loop
 operators-requires c κs = c .before .before .before .before .before .before .pre .0 .read .task
@@ -95,10 +95,10 @@ loop-less c = search needs
 loop-again : tie.Need-loop-again Inv-loop μ-loop
 loop-again c =
     let d = c .before .before .before .before .before .before .before .before in
-    let l = turn d in
+    let l = loop-of d in
     let o = d .test-operator in
     let p = start l .pre in
-    (l .loop .inv .0, omega arith, o .kept .1 .1 .1 .1 .0 ∙ l .loop .inv .2, o .kept .1 .1 .1 .1 .1 .0 ∙ l .loop .inv .3, o .kept .1 .1 .1 .1 .1 .1 .0 ∙ l .loop .inv .4, o .kept .1 .1 .1 .1 .1 .1 .1 .0 ∙ l .loop .inv .5, tested-next (task l) (clauses l) (read-sizes _ _ _ (p .0 .read)) (start l .args .atoms) (l .loop .operator) (p .0 .read .atoms) (l .loop .failing) _ (l .loop .due) _ (l .loop .inv .6) (o .ensures) (o .kept .1 .1 .1 .1 .1 .1 .1 .0))
+    (l .loop .inv .0, omega arith, o .kept .1 .1 .1 .1 .0 ∙ l .loop .inv .2, o .kept .1 .1 .1 .1 .1 .0 ∙ l .loop .inv .3, o .kept .1 .1 .1 .1 .1 .1 .0 ∙ l .loop .inv .4, o .kept .1 .1 .1 .1 .1 .1 .1 .0 ∙ l .loop .inv .5, tested-next (task l) (clauses l) (read-sizes _ _ _ (p .0 .read)) (start l .args .atoms) (l .loop .operator) (p .0 .read .counted) (l .loop .failing) _ (l .loop .due) _ (l .loop .inv .6) (o .ensures) (o .kept .1 .1 .1 .1 .1 .1 .1 .0))
 
 same-length : tie.Need-same-length Inv-loop μ-loop
 same-length c = c .before .loop .inv .2

@@ -79,9 +79,7 @@ slice-aggregate-judge-guaranteed : tie.Need-slice-aggregate-judge-guaranteed
 slice-aggregate-judge-guaranteed c = sym (length-take-le (size c) (local c) (fits c))
 
 judge-guaranteed-requires : tie.Need-judge-guaranteed-requires
-judge-guaranteed-requires c κs =
-    let g = start c .pre .0 in
-    (g .given, g .judged, g .room, g .flagged, length-take-le (size c) (local c) (fits c))
+judge-guaranteed-requires c κs = (start c .pre .0, length-take-le (size c) (local c) (fits c))
 
 same-length : tie.Need-same-length
 same-length c = search needs

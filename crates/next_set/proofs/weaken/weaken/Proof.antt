@@ -52,17 +52,17 @@ left-at i =
 abbrev done : Type 0
 done = tie.After-weaken-operators Inv-loop μ-loop
 
-abbrev turn : done → tie.In-loop Inv-loop μ-loop
-turn d = d .before .before .before .before
+abbrev loop-of : done → tie.In-loop Inv-loop μ-loop
+loop-of d = d .before .before .before .before
 
-same-marks : (d : done) → length (d .weaken-operators .last .1 .1 .1 .1 .1 .0) ≡ length (start (turn d .before) .args .marks .now)
-same-marks d = d .weaken-operators .kept .1 .1 .1 .1 .1 .0 ∙ turn d .before .loop .inv .2
+same-marks : (d : done) → length (d .weaken-operators .last .1 .1 .1 .1 .1 .0) ≡ length (start (loop-of d .before) .args .marks .now)
+same-marks d = d .weaken-operators .kept .1 .1 .1 .1 .1 .0 ∙ loop-of d .before .loop .inv .2
 
-same-fails : (d : done) → length (d .weaken-operators .last .1 .1 .1 .1 .1 .1 .0) ≡ length (start (turn d .before) .args .fails .now)
-same-fails d = d .weaken-operators .kept .1 .1 .1 .1 .1 .1 .0 ∙ turn d .before .loop .inv .3
+same-fails : (d : done) → length (d .weaken-operators .last .1 .1 .1 .1 .1 .1 .0) ≡ length (start (loop-of d .before) .args .fails .now)
+same-fails d = d .weaken-operators .kept .1 .1 .1 .1 .1 .1 .0 ∙ loop-of d .before .loop .inv .3
 
-same-work : (d : done) → length (d .weaken-operators .last .1 .1 .1 .1 .1 .1 .1 .0) ≡ length (start (turn d .before) .args .work .now)
-same-work d = d .weaken-operators .kept .1 .1 .1 .1 .1 .1 .1 .0 ∙ turn d .before .loop .inv .4
+same-work : (d : done) → length (d .weaken-operators .last .1 .1 .1 .1 .1 .1 .1 .0) ≡ length (start (loop-of d .before) .args .work .now)
+same-work d = d .weaken-operators .kept .1 .1 .1 .1 .1 .1 .1 .0 ∙ loop-of d .before .loop .inv .4
 
 loop-holds : tie.Need-loop-holds Inv-loop μ-loop
 unfolding addedFrom
@@ -99,8 +99,8 @@ same-length-3 c = same-work (c .before .before .before .before .before .before .
 returns : tie.Need-returns Inv-loop μ-loop
 returns c =
     let d = c .before .before .before .before .before .before .before .before in
-    let l = turn d .before in
-    pending-full (start l .args .rows) _ _ (l .loop .taken) (l .loop .work) (l .loop .inv .5) _ _ (left-at (turn d)) _ (d .weaken-operators .result) (d .weaken-operators .ensures) (c .enum-told .given .1)
+    let l = loop-of d .before in
+    pending-full (start l .args .rows) _ _ (l .loop .taken) (l .loop .work) (l .loop .inv .5) _ _ (left-at (loop-of d)) _ (d .weaken-operators .result) (d .weaken-operators .ensures) (c .enum-told .given .1)
 
 enum-known-built : tie.Need-enum-known-built Inv-loop μ-loop
 enum-known-built c = c .match .keys2
@@ -114,9 +114,9 @@ loop-less c = search needs
 loop-again : tie.Need-loop-again Inv-loop μ-loop
 loop-again c =
     let d = c .before .before .before .before .before .before .before .before .before in
-    let l = turn d .before in
+    let l = loop-of d .before in
     let built = c .before .built .given in
-    (omega arith, omega arith, same-marks d, same-fails d, same-work d, pending-on (start l .args .rows) _ _ (l .loop .taken) (l .loop .work) (l .loop .inv .5) _ _ (left-at (turn d)) _ (d .weaken-operators .result) (d .weaken-operators .ensures) (built .0 .0) (built .1))
+    (omega arith, omega arith, same-marks d, same-fails d, same-work d, pending-on (start l .args .rows) _ _ (l .loop .taken) (l .loop .work) (l .loop .inv .5) _ _ (left-at (loop-of d)) _ (d .weaken-operators .result) (d .weaken-operators .ensures) (built .0 .0) (built .1))
 
 same-length-4 : tie.Need-same-length-4 Inv-loop μ-loop
 same-length-4 c = c .before .loop .inv .2

@@ -85,7 +85,7 @@ returns-2 c =
     let t : Task = taskOf (a .image .now) in
     subst (λ (o : Operator). Holds (a .rows) (e .weaken-under .result) (e .weaken-under .last .1 .1 .1 .1 .1 .1 .0) (putAll (a .rows) (addedBy t (clausesOf (a .clauses .now)) (a .k) o) (some (held (a .count) (a .work .now)))))
     (d .operator-block .ensures .operator)
-    (e .weaken-under .ensures t (sym (begun d .pre .0 .tested .given .read .atoms)))
+    (e .weaken-under .ensures t (sym (begun d .pre .0 .tested .given .read .counted)))
 
 pub weaken-operator-spec : {M : Type 1} → statement M
 weaken-operator-spec =

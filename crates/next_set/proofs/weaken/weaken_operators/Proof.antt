@@ -57,17 +57,17 @@ left-at i =
 abbrev done : Type 0
 done = tie.After-weaken-operator Inv-loop μ-loop
 
-abbrev turn : done → tie.In-loop Inv-loop μ-loop
-turn d = d .before .before .before .before
+abbrev loop-of : done → tie.In-loop Inv-loop μ-loop
+loop-of d = d .before .before .before .before
 
-same-marks : (d : done) → length (d .weaken-operator .last .1 .1 .1 .1 .1 .1 .0) ≡ length (start (turn d .before) .args .marks .now)
-same-marks d = d .weaken-operator .kept .1 .1 .1 .1 .1 .1 .0 ∙ turn d .before .loop .inv .1
+same-marks : (d : done) → length (d .weaken-operator .last .1 .1 .1 .1 .1 .1 .0) ≡ length (start (loop-of d .before) .args .marks .now)
+same-marks d = d .weaken-operator .kept .1 .1 .1 .1 .1 .1 .0 ∙ loop-of d .before .loop .inv .1
 
-same-fails : (d : done) → length (d .weaken-operator .last .1 .1 .1 .1 .1 .1 .1 .0) ≡ length (start (turn d .before) .args .fails .now)
-same-fails d = d .weaken-operator .kept .1 .1 .1 .1 .1 .1 .1 .0 ∙ turn d .before .loop .inv .2
+same-fails : (d : done) → length (d .weaken-operator .last .1 .1 .1 .1 .1 .1 .1 .0) ≡ length (start (loop-of d .before) .args .fails .now)
+same-fails d = d .weaken-operator .kept .1 .1 .1 .1 .1 .1 .1 .0 ∙ loop-of d .before .loop .inv .2
 
-same-work : (d : done) → length (d .weaken-operator .last .1 .1 .1 .1 .1 .1 .1 .1 .0) ≡ length (start (turn d .before) .args .work .now)
-same-work d = d .weaken-operator .kept .1 .1 .1 .1 .1 .1 .1 .1 .0 ∙ turn d .before .loop .inv .3
+same-work : (d : done) → length (d .weaken-operator .last .1 .1 .1 .1 .1 .1 .1 .1 .0) ≡ length (start (loop-of d .before) .args .work .now)
+same-work d = d .weaken-operator .kept .1 .1 .1 .1 .1 .1 .1 .1 .0 ∙ loop-of d .before .loop .inv .3
 
 operators-requires : tie.Need-operators-requires Inv-loop μ-loop
 operators-requires c κs = c .before .before .before .before .before .before .pre .0 .tested .given .read .task
@@ -100,8 +100,8 @@ same-length-3 c = same-work (c .before .before .before .before .before .before .
 returns : tie.Need-returns Inv-loop μ-loop
 returns c =
     let d = c .before .before .before .before .before .before .before .before in
-    let l = turn d .before in
-    pending-full (start l .args .rows) _ _ (l .loop .taken) (l .loop .work) (l .loop .inv .4) _ _ (left-at (turn d)) _ (d .weaken-operator .result) (d .weaken-operator .ensures) (c .enum-told .given .1)
+    let l = loop-of d .before in
+    pending-full (start l .args .rows) _ _ (l .loop .taken) (l .loop .work) (l .loop .inv .4) _ _ (left-at (loop-of d)) _ (d .weaken-operator .result) (d .weaken-operator .ensures) (c .enum-told .given .1)
 
 enum-known-built : tie.Need-enum-known-built Inv-loop μ-loop
 enum-known-built c = c .match .keys2
@@ -115,9 +115,9 @@ loop-less c = search needs
 loop-again : tie.Need-loop-again Inv-loop μ-loop
 loop-again c =
     let d = c .before .before .before .before .before .before .before .before .before in
-    let l = turn d .before in
+    let l = loop-of d .before in
     let built = c .before .built .given in
-    (l .loop .inv .0, same-marks d, same-fails d, same-work d, pending-on (start l .args .rows) _ _ (l .loop .taken) (l .loop .work) (l .loop .inv .4) _ _ (left-at (turn d)) _ (d .weaken-operator .result) (d .weaken-operator .ensures) (built .0 .0) (built .1))
+    (l .loop .inv .0, same-marks d, same-fails d, same-work d, pending-on (start l .args .rows) _ _ (l .loop .taken) (l .loop .work) (l .loop .inv .4) _ _ (left-at (loop-of d)) _ (d .weaken-operator .result) (d .weaken-operator .ensures) (built .0 .0) (built .1))
 
 same-length-4 : tie.Need-same-length-4 Inv-loop μ-loop
 same-length-4 c = c .before .loop .inv .1
