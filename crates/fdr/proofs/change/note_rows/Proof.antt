@@ -16,8 +16,8 @@ use mathlib.Core.List.{List}
 use Prim.Native.Nat.{ℕ}
 use Rattle.fdr.specs.Change.{noted, noteRows}
 use Rattle.fdr.specs.Post.{NotedFor}
-use Rattle.fdr.proofs.ByRows.{for-turn, for-stop, for-same}
-use Rattle.fdr.proofs.Notes.{rows-stop, rows-turn, rows-end, low-row}
+use Rattle.fdr.proofs.ByRows.{for-next, for-stop, for-same}
+use Rattle.fdr.proofs.Notes.{rows-stop, rows-next, rows-end, low-row}
 use borrow.Author.Needs.{needs}
 use Rattle.fdr.proofs.change.note_rows.Statement.{statement}
 use Rattle.fdr.proofs.change.note_rows.Tie as tie
@@ -82,8 +82,8 @@ loop-again c =
       r .next,
       low-row mostAtoms _ _ _ (r .row) (l .inv .1) .1,
       n .kept .0 ∙ l .inv .2,
-      l .inv .3 ∙ rows-turn _ _ _ _ _ (r .row) _ refl _ (n .last .0) (ap (λ (b : Bool). noted b (n .last .0)) (sym (not-false _ (c .if1 .left))) ∙ n .ensures .0),
-      λ x f. l .inv .4 x (for-turn _ _ _ (r .row) _ _ _ (n .ensures .1) f),
+      l .inv .3 ∙ rows-next _ _ _ _ _ (r .row) _ refl _ (n .last .0) (ap (λ (b : Bool). noted b (n .last .0)) (sym (not-false _ (c .if1 .left))) ∙ n .ensures .0),
+      λ x f. l .inv .4 x (for-next _ _ _ (r .row) _ _ _ (n .ensures .1) f),
     )
 
 same-length-2 : tie.Need-same-length-2 Inv-loop μ-loop

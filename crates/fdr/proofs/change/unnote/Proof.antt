@@ -13,7 +13,7 @@ use Rattle.fdr_image.specs.Walk.{operatorIn, parsesAt, rowsAt}
 use Rattle.fdr_image.proofs.RowLaws.{rows-done}
 use Rattle.fdr.specs.Change.{unnoted}
 use Rattle.fdr.proofs.Notes.{low-row}
-use Rattle.fdr.proofs.ByRows.{unnoted-turn, unnoted-end}
+use Rattle.fdr.proofs.ByRows.{unnoted-next, unnoted-end}
 use borrow.Author.Needs.{needs}
 use Rattle.fdr.proofs.change.unnote.Statement.{statement}
 use Rattle.fdr.proofs.change.unnote.Tie as tie
@@ -59,7 +59,7 @@ loop-again : tie.Need-loop-again Inv-loop μ-loop
 loop-again c =
     let r = c .row .ensures in
     let l = c .before .before .loop in
-    (r .next, low-row mostAtoms _ _ _ (r .row) (l .inv .1) .1, simp length-set (l .inv .2), l .inv .3 ∙ unnoted-turn _ _ _ (r .row) (l .changes))
+    (r .next, low-row mostAtoms _ _ _ (r .row) (l .inv .1) .1, simp length-set (l .inv .2), l .inv .3 ∙ unnoted-next _ _ _ (r .row) (l .changes))
 
 same-length : tie.Need-same-length Inv-loop μ-loop
 same-length c = c .before .loop .inv .2

@@ -13,7 +13,7 @@ use Rattle.fdr_image.specs.Walk.{operatorIn, parsesAt, rowsAt}
 use Rattle.fdr_image.proofs.RowLaws.{rows-done}
 use Rattle.fdr.specs.Change.{written}
 use Rattle.fdr.proofs.Notes.{low-row}
-use Rattle.fdr.proofs.ByRows.{written-turn, written-end}
+use Rattle.fdr.proofs.ByRows.{written-next, written-end}
 use borrow.Author.Needs.{needs}
 use Rattle.fdr.proofs.change.write.Statement.{statement}
 use Rattle.fdr.proofs.change.write.Tie as tie
@@ -84,7 +84,7 @@ loop-again : tie.Need-loop-again Inv-loop μ-loop
 loop-again c =
     let r = c .before .before .before .row .ensures in
     let l = c .before .before .before .before .before .loop in
-    (r .next, low-row _ _ _ _ (r .row) (l .inv .1) .1, simp length-set (l .inv .2), l .inv .3 ∙ written-turn _ _ _ (r .row) _ _ (l .state) _ (c .new-value .ensures))
+    (r .next, low-row _ _ _ _ (r .row) (l .inv .1) .1, simp length-set (l .inv .2), l .inv .3 ∙ written-next _ _ _ (r .row) _ _ (l .state) _ (c .new-value .ensures))
 
 same-length : tie.Need-same-length Inv-loop μ-loop
 same-length c = c .before .loop .inv .2
