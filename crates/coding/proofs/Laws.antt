@@ -9,6 +9,7 @@ use lib.Dec.{eqb}
 use lib.ListN.{length, getD, drop, set, length-set, length-map, length-replicate, drop-of-length-le}
 use lib.Seq.{getD-set-same, getD-set-other, ext-getD}
 use borrow.Author.Tests.{eq-eqb, ne-eqb, eqb-true, eqb-false}
+use Rattle.definitions.specs.Literal.{mostAtoms}
 use Rattle.definitions.specs.Lists.{all, range, below}
 use Rattle.definitions.specs.Groups.{Place}
 use Rattle.definitions.specs.Fdr.{FdrTask, domainAt}
@@ -132,7 +133,7 @@ two-fail t s v (suc n) x xs h e = rw (e, codable)
 
 -- ---- the walk over the atoms: what is noted of those before a, and the true values of those from a on
 pub record Walked (t : FdrTask) (s : List ℕ) (a : ℕ) (m : List ℕ) : Type 0 where
-  pub size : length m ≡ 1024
+  pub size : length m ≡ mostAtoms
   pub low : (v : ℕ) → getD m v 0 ≤ 65536
   pub all-values : (v : ℕ) → trueValues v (t .atoms) s ≡ valuesOf (getD m v 0) ++ trueValues v (drop a (t .atoms)) (drop a s)
 
@@ -140,13 +141,13 @@ pub walked-none : (t : FdrTask) (s m : List ℕ) → m ≡ noneFound → Walked 
 unfolding noneFound valuesOf
 walked-none t s m e =
     record {
-      size = ap length e ∙ length-replicate {A = ℕ} 1024 0;
+      size = ap length e ∙ length-replicate {A = ℕ} mostAtoms 0;
       low = λ v. let z = at v in omega arith;
       all-values = λ v. rw (at v);
     }
   where
     at : (v : ℕ) → getD m v 0 ≡ 0
-    at v = ap (λ (l : List ℕ). getD l v 0) e ∙ zero-at v 1024
+    at v = ap (λ (l : List ℕ). getD l v 0) e ∙ zero-at v mostAtoms
 
 module _ (t : FdrTask) (s : List ℕ) (a : ℕ) (m : List ℕ) (w : Walked t s a m) where
   walked-all : length s ≤ a → (v : ℕ) → trueValues v (t .atoms) s ≡ valuesOf (getD m v 0)

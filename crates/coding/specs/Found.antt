@@ -4,19 +4,20 @@ use mathlib.Core.List.{List, [], _∷_}
 use mathlib.Core.Bool.{Bool, true, false, cond, _&&_}
 use lib.Dec.{eqb}
 use lib.ListN.{getD, replicate}
+use Rattle.definitions.specs.Literal.{mostAtoms}
 use Rattle.definitions.specs.Groups.{Place}
 use Rattle.definitions.specs.Fdr.{FdrTask, domainAt}
 
--- of each of 1,024 variables: 0 that no true atom is met, x + 1 that one of value x is
+-- of each variable, of which there are at most as many as atoms: 0 that no true atom is met, x + 1 that one of value x is
 unfoldable pub noneFound : List ℕ
-noneFound = replicate 1024 0
+noneFound = replicate mostAtoms 0
 
 -- the values that a noted number stands for
 unfoldable pub valuesOf : ℕ → List ℕ
 valuesOf zero = []
 valuesOf (suc x) = x ∷ []
 
--- the true values of variable u, those of the atoms behind an atom of variable v, value x and byte b being xs
+-- the true values of variable u, those of the atoms after an atom of variable v, value x and byte b being xs
 unfoldable pub withAtom : ℕ → ℕ → ℕ → ℕ → List ℕ → List ℕ
 withAtom u v x b xs = elim (eqb v u && eqb b 1) [ true ↦ x ∷ xs | false ↦ xs ]
 

@@ -4,15 +4,10 @@ ghost use mathlib.Core.List.{map};
 ghost use Prim.Native.Nat.{_≤_, _<_};
 ghost use lib.ListN.{length, getD};
 ghost use Rattle.definitions.specs.Lists.{all, below};
+ghost use Rattle.definitions.specs.Literal.{mostAtoms};
 ghost use Rattle.fdr_image.specs.Reads.{fdrOf, ReadsFdr};
-ghost use Rattle.coding.specs.Found.{noneFound, codableAt, valueAt};
+ghost use Rattle.coding.specs.Found.{codableAt, valueAt};
 ghost use Rattle.coding.specs.Post.{Finds, Noted, Found, Valued, Writes};
-
-pub fn room() -> [usize; 1024]
-    ensures { λ r. ⌜ r ≡ noneFound ⌝ }
-{
-    [0usize; 1024]
-}
 
 // Notes the value of an atom if its byte says that it is true. False if the variable has a true atom already.
 fn note(values: &mut [usize], variable: usize, value: usize, byte: u8) -> bool
@@ -60,7 +55,7 @@ fn is_codable(image: &[u16], noted: usize, variable: usize) -> bool
 
 // Whether all variables can be coded, where no two true atoms are of one variable.
 pub fn are_codable(image: &[u16], values: &[usize]) -> bool
-    requires { ⌜ ReadsFdr (now image) × (length (now values) ≡ 1024) ⌝ }
+    requires { ⌜ ReadsFdr (now image) × (length (now values) ≡ mostAtoms) ⌝ }
     ensures { λ r. ⌜ r ≡ all (λ v. codableAt (fdrOf (now (image .entry))) (getD (now (values .entry)) v 0) v) (below (length (fdrOf (now (image .entry)) .domains))) ⌝ }
 {
     let variables = fdr_image::variables(image);

@@ -6,42 +6,44 @@ ghost use Rattle.definitions.specs.Coding.{fromAtoms, fromAtomsCall, toAtomsCal
 ghost use Rattle.answer.specs.Answer.{verdictAnswer};
 ghost use Rattle.fdr_image.specs.Reads.{fdrOf};
 ghost use Rattle.coding.specs.Post.{Encodes};
+use answer::Refusal;
+use answer::Verdict;
 
 mod found; // found.rt: the values of the true atoms
 mod atom; // atom.rt: the truth of atoms in a finite-domain state
 
 // Codes a task's state from atoms: question 23. The target is written only where no variable is refused.
-fn encode_read(image: &[u16], state: &[u8], target: &mut [u16]) -> answer::Verdict
+fn encode_read(image: &[u16], state: &[u8], target: &mut [u16]) -> Verdict
     requires { ⌜ Encodes (now image) (now state) (length (now target)) ⌝ }
     ensures { λ r. ⌜ outcome (verdictAnswer r) (now (target .exit)) ≡ becomes (now (target .entry)) (fromAtoms (fdrOf (now (image .entry))) (now (state .entry))) ⌝ }
 {
-    let mut values = found::room();
+    let mut values = [0usize; literal::MOST_ATOMS];
     let single = found::find(image, state, &mut values);
     if !single {
-        return answer::refuse(answer::Refusal::NOT_CODABLE);
+        return answer::refuse(Refusal::NOT_CODABLE);
     }
     let codable = found::are_codable(image, &values);
     if !codable {
-        return answer::refuse(answer::Refusal::NOT_CODABLE);
+        return answer::refuse(Refusal::NOT_CODABLE);
     }
     found::write(image, &values, target);
-    answer::Verdict::Fine
+    Verdict::Fine
 }
 
 // Codes a task's state from atoms: the finite-domain state goes to the target.
-pub fn encode(image: &[u16], state: &[u8], target: &mut [u16]) -> answer::Verdict
+pub fn encode(image: &[u16], state: &[u8], target: &mut [u16]) -> Verdict
     ensures { λ r. ⌜ outcome (verdictAnswer r) (now (target .exit)) ≡ becomes (now (target .entry)) (fromAtomsCall (now (image .entry)) (now (state .entry)) (length (now (target .entry)))) ⌝ }
 {
     let reading = fdr_image::read(image);
     match reading {
-        answer::Verdict::Refused(f) => answer::Verdict::Refused(f),
-        answer::Verdict::Fine => {
+        Verdict::Refused(f) => Verdict::Refused(f),
+        Verdict::Fine => {
             let right = literal::is_state(state, fdr_image::atoms(image));
             if !right {
-                return answer::refuse(answer::Refusal::STATE);
+                return answer::refuse(Refusal::STATE);
             }
             if target.len() != fdr_image::variables(image) {
-                return answer::refuse(answer::Refusal::STATE);
+                return answer::refuse(Refusal::STATE);
             }
             encode_read(image, state, target)
         }
@@ -49,22 +51,22 @@ pub fn encode(image: &[u16], state: &[u8], target: &mut [u16]) -> answer::Verdic
 }
 
 // Codes a finite-domain state to atoms: the task's state goes to the target.
-pub fn decode(image: &[u16], state: &[u16], target: &mut [u8]) -> answer::Verdict
+pub fn decode(image: &[u16], state: &[u16], target: &mut [u8]) -> Verdict
     ensures { λ r. ⌜ outcome (verdictAnswer r) (now (target .exit)) ≡ becomes (now (target .entry)) (toAtomsCall (now (image .entry)) (now (state .entry)) (length (now (target .entry)))) ⌝ }
 {
     let reading = fdr_image::read(image);
     match reading {
-        answer::Verdict::Refused(f) => answer::Verdict::Refused(f),
-        answer::Verdict::Fine => {
+        Verdict::Refused(f) => Verdict::Refused(f),
+        Verdict::Fine => {
             let right = fdr_image::is_state(image, state);
             if !right {
-                return answer::refuse(answer::Refusal::STATE);
+                return answer::refuse(Refusal::STATE);
             }
             if target.len() != fdr_image::atoms(image) {
-                return answer::refuse(answer::Refusal::STATE);
+                return answer::refuse(Refusal::STATE);
             }
             atom::write(image, state, target);
-            answer::Verdict::Fine
+            Verdict::Fine
         }
     }
 }

@@ -11,6 +11,7 @@ use lib.Dec.{eqb}
 use lib.ListN.{length, getD, length-replicate}
 use lib.Seq.{ext-getD}
 use borrow.Author.Tests.{eq-eqb, ne-eqb, eqb-true}
+use Rattle.definitions.specs.Literal.{mostAtoms}
 use Rattle.definitions.specs.Lists.{any, all, below}
 use Rattle.definitions.specs.Groups.{Domain}
 use Rattle.definitions.specs.Fdr.{FdrRow, FdrTask, noDomain, domainAt}
@@ -74,11 +75,11 @@ omitted-none c f g h e = rw (eq-eqb c 1 h, e)
 -- nothing is noted at first
 pub blank : (v : ℕ) → getD noChanges v 0 ≡ 0
 unfolding noChanges
-blank v = zero-at v 1024
+blank v = zero-at v mostAtoms
 
-pub blank-length : length noChanges ≡ 1024
+pub blank-length : length noChanges ≡ mostAtoms
 unfolding noChanges
-blank-length = length-replicate {A = ℕ} 1024 0
+blank-length = length-replicate {A = ℕ} mostAtoms 0
 
 clash-conflict : (rs : List FdrRow) → Clash rs → fdrConflict rs ≡ true
 unfolding fdrConflict
@@ -92,10 +93,10 @@ clash-of r q h =
     let p = and-left (eqb (r .variable) (q .variable) && isSet r) c h in
     (eqb-true (r .variable) (q .variable) (and-left (eqb (r .variable) (q .variable)) (isSet r) p), and-right (eqb (r .variable) (q .variable)) (isSet r) p, and-right (eqb (r .variable) (q .variable) && isSet r) c h)
 
-module _ (s : List ℕ) (rs : List FdrRow) (low : Rows 1024 rs) where
+module _ (s : List ℕ) (rs : List FdrRow) (low : Rows mostAtoms rs) where
   -- ---- conflict
   pub conflict-sets : noteRows s 0 rs noChanges ≡ none → fdrConflict rs ≡ true
-  conflict-sets e = go (sets-none s 1024 rs noChanges low blank-length e)
+  conflict-sets e = go (sets-none s mostAtoms rs noChanges low blank-length e)
     where
       go : Late rs noChanges ⊎ Clash rs → fdrConflict rs ≡ true
       go (inl l) = absurd (l .noted-before (blank (l .r .variable)))
@@ -103,9 +104,9 @@ module _ (s : List ℕ) (rs : List FdrRow) (low : Rows 1024 rs) where
 
   module _ (m : List ℕ) (em : noteRows s 0 rs noChanges ≡ some m) where
     sets : Sets rs noChanges m
-    sets = sets-some s 1024 rs noChanges m low blank-length em
+    sets = sets-some s mostAtoms rs noChanges m low blank-length em
 
-    m-length : length m ≡ 1024
+    m-length : length m ≡ mostAtoms
     m-length = sets .size ∙ blank-length
 
     -- what is noted is the value of the set
@@ -121,7 +122,7 @@ module _ (s : List ℕ) (rs : List FdrRow) (low : Rows 1024 rs) where
     conflict-clears e = go (setValue rs (x .r .variable)) refl
       where
         x : Refused rs m
-        x = clears-none s 1024 rs m low m-length e
+        x = clears-none s mostAtoms rs m low m-length e
 
         go : (o : Option ℕ) → setValue rs (x .r .variable) ≡ o → fdrConflict rs ≡ true
         go none p = absurd (let z = set-absent (x .r .variable) p in let y = x .set in omega arith)
@@ -134,9 +135,9 @@ module _ (s : List ℕ) (rs : List FdrRow) (low : Rows 1024 rs) where
 
     module _ (m′ : List ℕ) (em′ : noteRows s 1 rs m ≡ some m′) where
       clears : Clears s rs m m′
-      clears = clears-some s 1024 rs m m′ low m-length em′
+      clears = clears-some s mostAtoms rs m m′ low m-length em′
 
-      noted-length : length m′ ≡ 1024
+      noted-length : length m′ ≡ mostAtoms
       noted-length = clears .size ∙ m-length
 
       pub calm : fdrConflict rs ≡ false
@@ -217,7 +218,7 @@ module _ (s : List ℕ) (rs : List FdrRow) (low : Rows 1024 rs) where
             changed-at (t .domains) m′ 0 s v inside ∙ rw z (after-is t v) ∙ sym (table-at (fdrAfter t s rs) (length (t .domains)) v (omega arith)))
 
         -- each variable stays in its domain
-        pub changes-inside : (few : length (t .domains) ≤ 1024) (sizes : (v : ℕ) → v < length (t .domains) → 1 ≤ getD (t .domains) v noDomain .values)
+        pub changes-inside : (few : length (t .domains) ≤ mostAtoms) (sizes : (v : ℕ) → v < length (t .domains) → 1 ≤ getD (t .domains) v noDomain .values)
             (right : (r : FdrRow) → List·Memᴰ r rs → r .value < getD (t .domains) (r .variable) noDomain .values) → Changes (t .domains) m′
         changes-inside few sizes right =
             record { few = few; long = (let z = noted-length in omega arith); sizes = sizes; inside = λ v h. go v (setValue rs v) refl }

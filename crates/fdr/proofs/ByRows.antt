@@ -37,8 +37,8 @@ pub for-both : (rows : List FdrRow) (m m′ m″ : List ℕ) → NotedFor rows m
 for-both rows m m′ m″ p q = record { apart = λ w h. q .apart w h ∙ p .apart w h }
 
 module _ (rows rest : List FdrRow) (r : FdrRow) (er : rows ≡ r ∷ rest) where
-  pub for-turn : (m m′ x : List ℕ) → NotedAt (r .variable) m m′ → NotedFor rest m′ x → NotedFor rows m x
-  for-turn m m′ x one more =
+  pub for-next : (m m′ x : List ℕ) → NotedAt (r .variable) m m′ → NotedFor rest m′ x → NotedFor rows m x
+  for-next m m′ x one more =
       record {
         apart =
             λ w h.
@@ -48,7 +48,7 @@ module _ (rows rest : List FdrRow) (r : FdrRow) (er : rows ≡ r ∷ rest) where
       }
 
   pub for-stop : (m m′ : List ℕ) → NotedAt (r .variable) m m′ → NotedFor rows m m′
-  for-stop m m′ one = for-turn m m′ m′ one (for-same rest m′)
+  for-stop m m′ one = for-next m m′ m′ one (for-same rest m′)
 
   module _ (D : List Domain) (m : List ℕ) where
     module _ (b : Bool) (eb : b ≡ (eqb (getD m (r .variable) 0) 1 && eqb (getD D (r .variable) noDomain .none) 0)) where
@@ -60,11 +60,11 @@ module _ (rows rest : List FdrRow) (r : FdrRow) (er : rows ≡ r ∷ rest) where
       unfolding nonesIn all
       nones-on e = rw (er, ← eb, e)
 
-    pub written-turn : (s : List ℕ) (x : ℕ) → x ≡ become (getD D (r .variable) noDomain) (getD m (r .variable) 0) (getD s (r .variable) 0) → written D m rows s ≡ written D m rest (set s (r .variable) x)
-    written-turn s x ex = ap (λ (l : List FdrRow). written D m l s) er ∙ ap (λ (y : ℕ). written D m rest (set s (r .variable) y)) (sym ex)
+    pub written-next : (s : List ℕ) (x : ℕ) → x ≡ become (getD D (r .variable) noDomain) (getD m (r .variable) 0) (getD s (r .variable) 0) → written D m rows s ≡ written D m rest (set s (r .variable) x)
+    written-next s x ex = ap (λ (l : List FdrRow). written D m l s) er ∙ ap (λ (y : ℕ). written D m rest (set s (r .variable) y)) (sym ex)
 
-  pub unnoted-turn : (m : List ℕ) → unnoted rows m ≡ unnoted rest (set m (r .variable) 0)
-  unnoted-turn m = ap (λ (l : List FdrRow). unnoted l m) er
+  pub unnoted-next : (m : List ℕ) → unnoted rows m ≡ unnoted rest (set m (r .variable) 0)
+  unnoted-next m = ap (λ (l : List FdrRow). unnoted l m) er
 
 -- ---- their ends
 module _ (rows : List FdrRow) (er : rows ≡ []) where

@@ -110,9 +110,9 @@ module _ (s : List ℕ) (pass : ℕ) (rows rest : List FdrRow) (r : FdrRow) (er 
       go true e = ap (λ l. noteRows s pass l m) (kept true e) ∙ rw (← (rw (e, noteIf) at en), noteRows)
       go false e = absurd (noted-false m m′ (rw (e, noteIf) at en))
 
-  pub rows-turn : noted true m′ ≡ noteIf fires (noteRow s pass r m) m → noteRows s pass (keep (λ r. fdrAllTrue s (r .conditions)) rows) m ≡ noteRows s pass (keep (λ r. fdrAllTrue s (r .conditions)) rest) m′
+  pub rows-next : noted true m′ ≡ noteIf fires (noteRow s pass r m) m → noteRows s pass (keep (λ r. fdrAllTrue s (r .conditions)) rows) m ≡ noteRows s pass (keep (λ r. fdrAllTrue s (r .conditions)) rest) m′
   unfolding noteRows noteIf noted
-  rows-turn en = go fires refl
+  rows-next en = go fires refl
     where
       go : (b : Bool) → fires ≡ b → noteRows s pass (keep (λ r. fdrAllTrue s (r .conditions)) rows) m ≡ noteRows s pass (keep (λ r. fdrAllTrue s (r .conditions)) rest) m′
       go true e = ap (λ l. noteRows s pass l m) (kept true e) ∙ rw (← (rw (e, noteIf) at en), noteRows)

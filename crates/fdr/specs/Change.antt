@@ -5,18 +5,19 @@ use mathlib.Core.Bool.{Bool, true, false, not, cond, _&&_}
 use mathlib.Core.Option.{Option, none, some}
 use lib.Dec.{eqb}
 use lib.ListN.{length, getD, set, replicate}
+use Rattle.definitions.specs.Literal.{mostAtoms}
 use Rattle.definitions.specs.Lists.{any, all, below}
 use Rattle.definitions.specs.Answer.{Answer, finding, ask, _>>=_}
 use Rattle.definitions.specs.Groups.{Domain}
-use Rattle.definitions.specs.Fdr.{FdrRow, FdrTask, noDomain}
-use Rattle.definitions.specs.FdrStep.{fdrConflict, noneThere, fdrAfter}
+use Rattle.definitions.specs.Fdr.{FdrRow, FdrOperator, FdrTask, noDomain, fdrAllTrue}
+use Rattle.definitions.specs.FdrStep.{fdrFired, fdrConflict, noneThere, fdrAfter}
 use Rattle.fdr_image.specs.Walk.{kindOf}
 use Rattle.fdr_image.specs.declared.block.Kind.{Kind}
 use Rattle.fdr_image.specs.declared.block.Kind.the-variants.{Set, Clear, Other}
 
--- of each of 1,024 variables: 0 that it stays, 1 that it becomes none, x + 2 that it becomes x
+-- of each variable, of which there are at most as many as atoms: 0 that it stays, 1 that it becomes none, x + 2 that it becomes x
 unfoldable pub noChanges : List ℕ
-noChanges = replicate 1024 0
+noChanges = replicate mostAtoms 0
 
 -- what is noted, if the row is not in conflict with what was noted before
 unfoldable pub noted : Bool → List ℕ → Option (List ℕ)
@@ -55,6 +56,14 @@ unfoldable pub noteRows : List ℕ → ℕ → List FdrRow → List ℕ → Opti
 noteRows s pass [] m = some m
 noteRows s pass (r ∷ rs) m = elim (noteRow s pass r m) [ none ↦ none | some m′ ↦ noteRows s pass rs m′ ]
 
+-- the clears, after the sets
+unfoldable pub noteClears : List ℕ → List FdrRow → Option (List ℕ) → Option (List ℕ)
+noteClears s rs none = none
+noteClears s rs (some m) = noteRows s 1 rs m
+
+unfoldable pub noteFired : List ℕ → List FdrRow → List ℕ → Option (List ℕ)
+noteFired s rs m = noteClears s rs (noteRows s 0 rs m)
+
 -- what becomes of a variable of value x
 unfoldable pub become : Domain → ℕ → ℕ → ℕ
 become d zero x = x
@@ -72,16 +81,23 @@ nonesIn D m rs = all (λ r. not (eqb (getD m (r .variable) 0) 1 && eqb (getD D (
 -- the state with what is noted for the variables that the rows name
 abbrev pub written : List Domain → List ℕ → List FdrRow → List ℕ → List ℕ
 written D m [] s = s
-written D m (r ∷ rs) s = written D m rs (set s (r .variable) (become (getD D (r .variable) noDomain) (getD m (r .variable) 0) (getD s (r .variable) 0)))
+written D m (r ∷ rs) s =
+    written D m rs (set s (r .variable) (become (getD D (r .variable) noDomain) (getD m (r .variable) 0) (getD s (r .variable) 0)))
 
 -- nothing noted for the variables that the rows name
 abbrev pub unnoted : List FdrRow → List ℕ → List ℕ
 unnoted [] m = m
 unnoted (r ∷ rs) m = unnoted rs (set m (r .variable) 0)
 
--- questions 21 and 22, and the step, by the fired rows
+-- questions 21 and 22, and the step, by the rows that fired
 unfoldable pub applied : FdrTask → List ℕ → List FdrRow → Answer (List ℕ)
 applied t s rs = do
   _ ← ask 21 (not (fdrConflict rs))
   _ ← ask 22 (noneThere t s rs)
   finding (map (fdrAfter t s rs) (below (length (t .domains))))
+
+-- questions 20 to 22, and the step, by the operator
+unfoldable pub stepped : FdrTask → List ℕ → FdrOperator → Answer (List ℕ)
+stepped t s o = do
+  _ ← ask 20 (fdrAllTrue s (o .precondition))
+  applied t s (fdrFired s o)

@@ -6,34 +6,44 @@ use mathlib.Core.Path.{_≡_}
 use lib.Dec.{ltb}
 use lib.ListN.{length, getD}
 use Rattle.definitions.specs.Lists.{all}
-use Rattle.definitions.specs.Answer.{Answer, ask, _>>=_}
+use Rattle.definitions.specs.Literal.{mostAtoms}
 use Rattle.definitions.specs.Groups.{Domain}
-use Rattle.definitions.specs.Fdr.{FdrRow, noDomain}
+use Rattle.definitions.specs.Fdr.{FdrRow, FdrTask, noDomain, fdrAllTrue}
 use Rattle.definitions.specs.FdrImage.{readFdr, fdrOperatorRight}
-use Rattle.definitions.specs.FdrStep.{isFdrState}
+use Rattle.definitions.specs.FdrStep.{isFdrState, fdrStep}
+use Rattle.answer.specs.Reader.{Reader}
 use Rattle.fdr_image.specs.Reads.{fdrOf, ReadsFdr}
 use Rattle.fdr_image.specs.Walk.{blockParses, operatorIn}
-use Rattle.fdr.specs.Change.{named}
+use Rattle.fdr.specs.Change.{noChanges, named}
 
--- questions 17 and 18
-unfoldable pub stateAnswer : List ℕ → List ℕ → Answer (Unit {0})
-stateAnswer w s = readFdr w >>= λ t. ask 18 (isFdrState t s)
+-- re-encoded images: question 17, their states (18) and steps (19 to 22)
+abbrev pub fdrReader : Reader FdrTask
+fdrReader =
+    record {
+      read = readFdr;
+      isState = isFdrState;
+      size = λ t. length (t .domains);
+      initial = λ t. t .initial;
+      step = fdrStep;
+      isMet = λ t s. fdrAllTrue s (t .goal);
+    }
 
 -- an image that reads as a re-encoded task, and a state of its length
 pub record Standing (w s : List ℕ) : Type 0 where
   pub reads : ReadsFdr w
   pub size : length s ≡ length (fdrOf w .domains)
 
--- besides, the block of an operator with right rows
-pub record Applying (w b s : List ℕ) : Type 0 where
+-- besides, the block of an operator with right rows, and changes that note nothing
+pub record Applying (w b s m : List ℕ) : Type 0 where
   pub standing : Standing w s
   pub parses : blockParses b ≡ true
   pub right : fdrOperatorRight (fdrOf w .domains) (operatorIn b) ≡ true
+  pub blank : m ≡ noChanges
 
--- a block that parses, whose rows have variables below n
-pub record LowBlock (n : ℕ) (b : List ℕ) : Type 0 where
+-- a block that parses, whose rows have variables below `most`
+pub record LowBlock (most : ℕ) (b : List ℕ) : Type 0 where
   pub parses : blockParses b ≡ true
-  pub low : all (λ r. ltb (r .variable) n) (operatorIn b .rows) ≡ true
+  pub low : all (λ r. ltb (r .variable) most) (operatorIn b .rows) ≡ true
 
 -- nothing is noted but for variable v
 pub record NotedAt (v : ℕ) (m m′ : List ℕ) : Type 0 where
@@ -51,7 +61,13 @@ pub record Changed (D : List Domain) (v change : ℕ) : Type 0 where
 
 -- what is noted for each variable lies in its domain
 pub record Changes (D : List Domain) (m : List ℕ) : Type 0 where
-  pub few : length D ≤ 1024
+  pub few : length D ≤ mostAtoms
   pub long : length D ≤ length m
   pub sizes : (v : ℕ) → v < length D → 1 ≤ getD D v noDomain .values
   pub inside : (v : ℕ) → v < length D → getD m v 0 < getD D v noDomain .values + 2
+
+-- what `write` asks: besides, a state of the length of the domains
+pub record Writes (D : List Domain) (b m s : List ℕ) : Type 0 where
+  pub block : LowBlock (length D) b
+  pub changes : Changes D m
+  pub size : length s ≡ length D

@@ -6,12 +6,13 @@ ghost use mathlib.Core.Bool.{_&&_};
 ghost use Prim.Native.Nat.{_+_, _<_};
 ghost use lib.Dec.{eqb};
 ghost use lib.ListN.{length, getD};
+ghost use Rattle.definitions.specs.Literal.{mostAtoms};
 ghost use Rattle.definitions.specs.Fdr.{noDomain, fdrAllTrue};
 ghost use Rattle.definitions.specs.FdrImage.{domainsIn, literalsIn};
 ghost use Rattle.definitions.specs.FdrStep.{fdrFired};
 ghost use Rattle.fdr_image.specs.Walk.{kindOf, operatorIn};
-ghost use Rattle.fdr.specs.Change.{noChanges, noted, noteSet, noteClear, noteKind, noteWords, noteIf, noteRows, become, nonesIn, written, unnoted};
-ghost use Rattle.fdr.specs.Post.{LowBlock, Changed, Changes, NotedAt, NotedFor};
+ghost use Rattle.fdr.specs.Change.{noted, noteSet, noteClear, noteKind, noteWords, noteIf, noteRows, noteFired, become, nonesIn, written, unnoted};
+ghost use Rattle.fdr.specs.Post.{LowBlock, Changed, Changes, Writes, NotedAt, NotedFor};
 
 // What becomes of a variable: it stays, it becomes none, or it becomes the value x, noted as x more than `FIRST_VALUE`.
 const STAYS: usize = 0;
@@ -21,15 +22,9 @@ const TO_NONE: usize = 1;
 const FIRST_VALUE: usize = 2;
 
 // The kinds of the rows that a pass over the rows notes.
-pub const SETS: u16 = 0;
+const SETS: u16 = 0;
 
-pub const CLEARS: u16 = 1;
-
-pub fn room() -> [usize; 1024]
-    ensures { λ r. ⌜ r ≡ noChanges ⌝ }
-{
-    [0usize; 1024]
-}
+const CLEARS: u16 = 1;
 
 // Notes a set. False if the variable is set to another value.
 fn note_set(changes: &mut [usize], variable: usize, value: usize) -> bool
@@ -101,9 +96,9 @@ fn note_row(
     note_kind(changes, state, kind, variable, value)
 }
 
-// Notes the rows of one kind that fire in a state: first the sets, then the clears. False at a conflict.
-pub fn note_rows(block: &[u16], state: &[u16], pass: u16, changes: &mut [usize]) -> bool
-    requires { ⌜ LowBlock 1024 (now block) × (length (now changes) ≡ 1024) ⌝ }
+// Notes the rows of one kind that fire in a state. False at a conflict.
+fn note_rows(block: &[u16], state: &[u16], pass: u16, changes: &mut [usize]) -> bool
+    requires { ⌜ LowBlock mostAtoms (now block) × (length (now changes) ≡ mostAtoms) ⌝ }
     ensures { λ r. ⌜ (noted r (now (changes .exit)) ≡ noteRows (now (state .entry)) pass (fdrFired (now (state .entry)) (operatorIn (now (block .entry)))) (now (changes .entry))) × NotedFor (operatorIn (now (block .entry)) .rows) (now (changes .entry)) (now (changes .exit)) ⌝ }
 {
     let head = fdr_image::block::head(block);
@@ -126,6 +121,18 @@ pub fn note_rows(block: &[u16], state: &[u16], pass: u16, changes: &mut [usize])
         left -= 1;
     }
     true
+}
+
+// Notes the rows that fire in a state. False at a conflict.
+pub fn note(block: &[u16], state: &[u16], changes: &mut [usize]) -> bool
+    requires { ⌜ LowBlock mostAtoms (now block) × (length (now changes) ≡ mostAtoms) ⌝ }
+    ensures { λ r. ⌜ (noted r (now (changes .exit)) ≡ noteFired (now (state .entry)) (fdrFired (now (state .entry)) (operatorIn (now (block .entry)))) (now (changes .entry))) × NotedFor (operatorIn (now (block .entry)) .rows) (now (changes .entry)) (now (changes .exit)) ⌝ }
+{
+    let agree = note_rows(block, state, SETS, changes);
+    if !agree {
+        return false;
+    }
+    note_rows(block, state, CLEARS, changes)
 }
 
 // Whether a variable becomes none, which is omitted.
@@ -176,7 +183,7 @@ fn new_value(domains: &[u16], change: usize, variable: usize, old: u16) -> u16
 
 // Writes the change of the variables that the rows name into the state. A variable named twice is written twice, with the same value.
 pub fn write(block: &[u16], domains: &[u16], changes: &[usize], state: &mut [u16])
-    requires { ⌜ LowBlock (length (domainsIn (now domains))) (now block) × (Changes (domainsIn (now domains)) (now changes) × (length (now state) ≡ length (domainsIn (now domains)))) ⌝ }
+    requires { ⌜ Writes (domainsIn (now domains)) (now block) (now changes) (now state) ⌝ }
     ensures { λ _. ⌜ now (state .exit) ≡ written (domainsIn (now (domains .entry))) (now (changes .entry)) (operatorIn (now (block .entry)) .rows) (now (state .entry)) ⌝ }
 {
     let head = fdr_image::block::head(block);
@@ -193,7 +200,7 @@ pub fn write(block: &[u16], domains: &[u16], changes: &[usize], state: &mut [u16
 
 // Clears what is noted for the variables that the rows name.
 pub fn unnote(block: &[u16], changes: &mut [usize])
-    requires { ⌜ LowBlock 1024 (now block) × (length (now changes) ≡ 1024) ⌝ }
+    requires { ⌜ LowBlock mostAtoms (now block) × (length (now changes) ≡ mostAtoms) ⌝ }
     ensures { λ _. ⌜ now (changes .exit) ≡ unnoted (operatorIn (now (block .entry)) .rows) (now (changes .entry)) ⌝ }
 {
     let head = fdr_image::block::head(block);

@@ -189,19 +189,19 @@ block-some D b h = some-right D (fdrOperatorOf b) h
 
 -- ---- counts
 module _ (w : List ℕ) (h : countsRight w ≡ true) where
-  n : ℕ
-  n = getD w 0 0
+  variables : ℕ
+  variables = getD w 0 0
 
-  m : ℕ
-  m = getD w 1 0
+  operators : ℕ
+  operators = getD w 1 0
 
   pub few-variables : getD w 0 0 ≤ mostAtoms
-  unfolding countsRight n m
-  few-variables = leb-true n mostAtoms (and-right (leb (length w) mostFdrImage && leb 1 n) (leb n mostAtoms) (and-left (leb (length w) mostFdrImage && leb 1 n && leb n mostAtoms) (leb m mostOperators) h))
+  unfolding countsRight variables operators
+  few-variables = leb-true variables mostAtoms (and-right (leb (length w) mostFdrImage && leb 1 variables) (leb variables mostAtoms) (and-left (leb (length w) mostFdrImage && leb 1 variables && leb variables mostAtoms) (leb operators mostOperators) h))
 
   pub few-operators : getD w 1 0 ≤ mostOperators
-  unfolding countsRight n m
-  few-operators = leb-true m mostOperators (and-right (leb (length w) mostFdrImage && leb 1 n && leb n mostAtoms) (leb m mostOperators) h)
+  unfolding countsRight variables operators
+  few-operators = leb-true operators mostOperators (and-right (leb (length w) mostFdrImage && leb 1 variables && leb variables mostAtoms) (leb operators mostOperators) h)
 
 pub domains-count : (n : ℕ) (d : List ℕ) → domainsRight n d ≡ true → length (domainsIn d) ≡ n
 unfolding domainsRight

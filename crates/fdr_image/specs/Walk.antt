@@ -17,7 +17,7 @@ use Rattle.fdr_image.specs.declared.block.Kind.the-variants.{Set, Clear,
 
 -- ---- pairs of words
 abbrev pub domain : ℕ → ℕ → Domain
-domain n f = record { values = n; none = f }
+domain k f = record { values = k; none = f }
 
 abbrev pub place : ℕ → ℕ → Place
 place v x = record { variable = v; value = x }
@@ -103,7 +103,7 @@ unfoldable pub countsRight : List ℕ → Bool
 countsRight w = leb (length w) mostFdrImage && leb 1 (getD w 0 0) && leb (getD w 0 0) mostAtoms && leb (getD w 1 0) mostOperators
 
 unfoldable pub domainsRight : ℕ → List ℕ → Bool
-domainsRight n d = eqb (length d) (2 * n) && all (λ d. leb (d .none) 1) (domainsIn d)
+domainsRight variables d = eqb (length d) (2 * variables) && all (λ d. leb (d .none) 1) (domainsIn d)
 
 unfoldable pub atomsRight : List Domain → List ℕ → Bool
 atomsRight D a =

@@ -24,8 +24,8 @@ use Rattle.state.specs.Marks.{markFired, bothMarked, conflictIn, makeTru
 
 -- ---- marking
 -- one row of the walk, and the end
-pub fired-turn : (s : List ℕ) (rows rest : List Row) (r : Row) (t : Bool) (m m′ : List ℕ) → rows ≡ r ∷ rest → t ≡ fires s r → m′ ≡ markIf t m (r .effect) → markFired s rows m ≡ markFired s rest m′
-fired-turn s rows rest r t m m′ er et em = rw (er, em, et)
+pub fired-next : (s : List ℕ) (rows rest : List Row) (r : Row) (t : Bool) (m m′ : List ℕ) → rows ≡ r ∷ rest → t ≡ fires s r → m′ ≡ markIf t m (r .effect) → markFired s rows m ≡ markFired s rest m′
+fired-next s rows rest r t m m′ er et em = rw (er, em, et)
 
 pub fired-end : (s : List ℕ) (rows : List Row) (m : List ℕ) → rows ≡ [] → markFired s rows m ≡ m
 fired-end s rows m e = rw e
@@ -75,11 +75,11 @@ module _ (m : List ℕ) (rows rest : List Row) (r : Row) (er : rows ≡ r ∷ re
   unfolding conflictIn any
   conflict-on b eb e = rw (er, ← eb, e)
 
-  pub changed-turn : (s s′ : List ℕ) (b : Bool) → b ≡ has m (r .effect) → s′ ≡ makeTrue b s (r .effect) → changed m rows s ≡ changed m rest s′
-  changed-turn s s′ b eb es = rw (er, es, eb)
+  pub changed-next : (s s′ : List ℕ) (b : Bool) → b ≡ has m (r .effect) → s′ ≡ makeTrue b s (r .effect) → changed m rows s ≡ changed m rest s′
+  changed-next s s′ b eb es = rw (er, es, eb)
 
-  pub unmarked-turn : (m′ : List ℕ) → m′ ≡ set m (r .effect) 0 → unmarked rows m ≡ unmarked rest m′
-  unmarked-turn m′ em = rw (er, em)
+  pub unmarked-next : (m′ : List ℕ) → m′ ≡ set m (r .effect) 0 → unmarked rows m ≡ unmarked rest m′
+  unmarked-next m′ em = rw (er, em)
 
 module _ (m : List ℕ) (rows : List Row) (er : rows ≡ []) where
   pub conflict-end : conflictIn m rows ≡ false

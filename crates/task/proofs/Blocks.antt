@@ -65,44 +65,44 @@ module _ (b : List ℕ) (p k k′ : ℕ) (more : k ≡ suc k′) where
 
 -- ---- questions 6 and 7
 -- the rows that are left decide
-module _ (n i : ℕ) (ok : Bool) (b : List ℕ) (p k k′ : ℕ) (more : k ≡ suc k′) where
-  pub verdict-short : length b - p < 2 → refused (refusalAt 6 i 0) ≡ rowsVerdict n i ok (rowsOf k (drop p b))
+module _ (atoms i : ℕ) (ok : Bool) (b : List ℕ) (p k k′ : ℕ) (more : k ≡ suc k′) where
+  pub verdict-short : length b - p < 2 → refused (refusalAt 6 i 0) ≡ rowsVerdict atoms i ok (rowsOf k (drop p b))
   unfolding rowsVerdict refuse
   verdict-short h = rw (rows-short b p k k′ more h)
 
-  pub verdict-over : (c : ℕ) → c ≡ getD b (p + 1) 0 → p + 2 ≤ length b → length b - (p + 2) < c → refused (refusalAt 6 i 0) ≡ rowsVerdict n i ok (rowsOf k (drop p b))
+  pub verdict-over : (c : ℕ) → c ≡ getD b (p + 1) 0 → p + 2 ≤ length b → length b - (p + 2) < c → refused (refusalAt 6 i 0) ≡ rowsVerdict atoms i ok (rowsOf k (drop p b))
   unfolding rowsVerdict refuse
   verdict-over c ec two h = rw (rows-over b p k k′ more (getD b p 0) c refl ec two h)
 
-verdict-row : (n i : ℕ) (ok : Bool) (r : Row) (q : Option (List Row)) → rowsVerdict n i ok (withRow r q) ≡ rowsVerdict n i (ok && rowRight n r) q
+verdict-row : (atoms i : ℕ) (ok : Bool) (r : Row) (q : Option (List Row)) → rowsVerdict atoms i ok (withRow r q) ≡ rowsVerdict atoms i (ok && rowRight atoms r) q
 unfolding rowsVerdict withRow all
-verdict-row n i ok r none = refl
-verdict-row n i ok r (some rs) = ap (askAt 7 i) (sym (and-assoc ok (rowRight n r) (all (rowRight n) rs)))
+verdict-row atoms i ok r none = refl
+verdict-row atoms i ok r (some rs) = ap (askAt 7 i) (sym (and-assoc ok (rowRight atoms r) (all (rowRight atoms) rs)))
 
 -- one row of the walk, with the code's own values
-pub verdict-turn : (n i : ℕ) (b : List ℕ) (p k : ℕ) (right ok right′ : Bool) (e c : ℕ)
+pub verdict-next : (atoms i : ℕ) (b : List ℕ) (p k : ℕ) (right ok right′ : Bool) (e c : ℕ)
     → e ≡ getD b p 0 → c ≡ getD b (p + 1) 0 → 0 < k → p + 2 ≤ length b → c ≤ length b - (p + 2)
-    → ok ≡ rowRight n (row e (take (p + 2 + c - (p + 2)) (drop (p + 2) b))) → right′ ≡ (right && ok)
-    → rowsVerdict n i right (rowsOf k (drop p b)) ≡ rowsVerdict n i right′ (rowsOf (k - 1) (drop (p + 2 + c) b))
-verdict-turn n i b p k right ok right′ e c ee ec more two fits eo er =
+    → ok ≡ rowRight atoms (row e (take (p + 2 + c - (p + 2)) (drop (p + 2) b))) → right′ ≡ (right && ok)
+    → rowsVerdict atoms i right (rowsOf k (drop p b)) ≡ rowsVerdict atoms i right′ (rowsOf (k - 1) (drop (p + 2 + c) b))
+verdict-next atoms i b p k right ok right′ e c ee ec more two fits eo er =
     let more′ : k ≡ suc (k - 1) = omega arith in
     let q = rowsOf (k - 1) (drop (p + 2 + c) b) in
-    let eo′ : ok ≡ rowRight n (row e (take c (drop (p + 2) b))) =
-    eo ∙ ap (λ (j : ℕ). rowRight n (row e (take j (drop (p + 2) b)))) (add-sub-cancel-left (p + 2) c) in
-    ap (rowsVerdict n i right) (rows-on b p k (k - 1) more′ e c ee ec two fits)
-    ∙ verdict-row n i right (row e (take c (drop (p + 2) b))) q
-    ∙ ap (λ (t : Bool). rowsVerdict n i t q) (sym (er ∙ ap (λ (t : Bool). right && t) eo′))
+    let eo′ : ok ≡ rowRight atoms (row e (take c (drop (p + 2) b))) =
+    eo ∙ ap (λ (j : ℕ). rowRight atoms (row e (take j (drop (p + 2) b)))) (add-sub-cancel-left (p + 2) c) in
+    ap (rowsVerdict atoms i right) (rows-on b p k (k - 1) more′ e c ee ec two fits)
+    ∙ verdict-row atoms i right (row e (take c (drop (p + 2) b))) q
+    ∙ ap (λ (t : Bool). rowsVerdict atoms i t q) (sym (er ∙ ap (λ (t : Bool). right && t) eo′))
 
-module _ (n i : ℕ) (ok : Bool) (b : List ℕ) (p k : ℕ) (done : k ≡ 0) where
-  pub verdict-left : p < length b → refused (refusalAt 6 i 0) ≡ rowsVerdict n i ok (rowsOf k (drop p b))
+module _ (atoms i : ℕ) (ok : Bool) (b : List ℕ) (p k : ℕ) (done : k ≡ 0) where
+  pub verdict-left : p < length b → refused (refusalAt 6 i 0) ≡ rowsVerdict atoms i ok (rowsOf k (drop p b))
   unfolding rowsVerdict rowsOf refuse
   verdict-left h = rw (done, drop-cons b p 0 h)
 
-  pub verdict-right : length b ≤ p → ok ≡ true → finding tt ≡ rowsVerdict n i ok (rowsOf k (drop p b))
+  pub verdict-right : length b ≤ p → ok ≡ true → finding tt ≡ rowsVerdict atoms i ok (rowsOf k (drop p b))
   unfolding rowsVerdict rowsOf askAt all
   verdict-right h e = rw (done, e, drop-of-length-le b {i = p} h)
 
-  pub verdict-wrong : length b ≤ p → ok ≡ false → refused (refusalAt 7 i 0) ≡ rowsVerdict n i ok (rowsOf k (drop p b))
+  pub verdict-wrong : length b ≤ p → ok ≡ false → refused (refusalAt 7 i 0) ≡ rowsVerdict atoms i ok (rowsOf k (drop p b))
   unfolding rowsVerdict rowsOf askAt all
   verdict-wrong h e = rw (done, e, drop-of-length-le b {i = p} h)
 
@@ -146,26 +146,26 @@ block-parse (x ∷ xs) c k ec h ek =
     ap (λ (y : ℕ). operatorOf (y ∷ xs)) (sym ec) ∙ rest-there c xs (omega arith) ∙ rw (add-two, ek′)
 
 -- questions 6 and 7 of a block, by its operator
-verdict-none : (n i : ℕ) (b : List ℕ) → operatorOf b ≡ none → verdict (readOperator n i b) ≡ refused (refusalAt 6 i 0)
+verdict-none : (atoms i : ℕ) (b : List ℕ) → operatorOf b ≡ none → verdict (readOperator atoms i b) ≡ refused (refusalAt 6 i 0)
 unfolding verdict readOperator refuse
-verdict-none n i b e = rw (e, readOperator)
+verdict-none atoms i b e = rw (e, readOperator)
 
-verdict-some : (n i : ℕ) (b : List ℕ) (o : Operator) → operatorOf b ≡ some o → verdict (readOperator n i b) ≡ askAt 7 i (operatorRight n o)
+verdict-some : (atoms i : ℕ) (b : List ℕ) (o : Operator) → operatorOf b ≡ some o → verdict (readOperator atoms i b) ≡ askAt 7 i (operatorRight atoms o)
 unfolding verdict readOperator askAt _>>=_
-verdict-some n i b o e = rw (e, readOperator) (go (operatorRight n o))
+verdict-some atoms i b o e = rw (e, readOperator) (go (operatorRight atoms o))
   where
     go : (t : Bool) → verdict (askAt 7 i t >>= λ _. finding o) ≡ askAt 7 i t
     go true = refl
     go false = refl
 
-pub block-6 : (n i : ℕ) (b : List ℕ) → length b ≤ getD b 0 0 + 1 → refused (refusalAt 6 i 0) ≡ verdict (readOperator n i b)
-block-6 n i b h = sym (verdict-none n i b (block-short b h))
+pub block-6 : (atoms i : ℕ) (b : List ℕ) → length b ≤ getD b 0 0 + 1 → refused (refusalAt 6 i 0) ≡ verdict (readOperator atoms i b)
+block-6 atoms i b h = sym (verdict-none atoms i b (block-short b h))
 
-pub block-rest : (n i : ℕ) (b : List ℕ) (c k : ℕ) (first : Bool) (r : Answer (Unit {0}))
-    → c ≡ getD b 0 0 → c + 1 < length b → first ≡ literalList n (take (c + 1 - 1) (drop 1 b)) → k ≡ getD b (c + 1) 0
-    → r ≡ rowsVerdict n i first (rowsOf k (drop (c + 1 + 1) b)) → r ≡ verdict (readOperator n i b)
+pub block-rest : (atoms i : ℕ) (b : List ℕ) (c k : ℕ) (first : Bool) (r : Answer (Unit {0}))
+    → c ≡ getD b 0 0 → c + 1 < length b → first ≡ literalList atoms (take (c + 1 - 1) (drop 1 b)) → k ≡ getD b (c + 1) 0
+    → r ≡ rowsVerdict atoms i first (rowsOf k (drop (c + 1 + 1) b)) → r ≡ verdict (readOperator atoms i b)
 unfolding rowsVerdict withPrecondition operatorRight refuse
-block-rest n i b c k first r ec h ef ek er = er ∙ rw (e₂, ef, e₁) (go (rowsOf k (drop (c + 2) b)) refl)
+block-rest atoms i b c k first r ec h ef ek er = er ∙ rw (e₂, ef, e₁) (go (rowsOf k (drop (c + 2) b)) refl)
   where
     e₁ : c + 1 - 1 ≡ c
     e₁ = omega arith
@@ -176,9 +176,9 @@ block-rest n i b c k first r ec h ef ek er = er ∙ rw (e₂, ef, e₁) (go (row
     parse : operatorOf b ≡ withPrecondition (take c (drop 1 b)) (rowsOf k (drop (c + 2) b))
     parse = block-parse b c k ec h ek
 
-    go : (q : Option (List Row)) → rowsOf k (drop (c + 2) b) ≡ q → rowsVerdict n i (literalList n (take c (drop 1 b))) q ≡ verdict (readOperator n i b)
-    go none e = sym (verdict-none n i b (parse ∙ ap (withPrecondition (take c (drop 1 b))) e))
-    go (some rs) e = sym (verdict-some n i b (record { precondition = take c (drop 1 b); rows = rs }) (parse ∙ ap (withPrecondition (take c (drop 1 b))) e))
+    go : (q : Option (List Row)) → rowsOf k (drop (c + 2) b) ≡ q → rowsVerdict atoms i (literalList atoms (take c (drop 1 b))) q ≡ verdict (readOperator atoms i b)
+    go none e = sym (verdict-none atoms i b (parse ∙ ap (withPrecondition (take c (drop 1 b))) e))
+    go (some rs) e = sym (verdict-some atoms i b (record { precondition = take c (drop 1 b); rows = rs }) (parse ∙ ap (withPrecondition (take c (drop 1 b))) e))
 
 -- ---- a block that parses
 some-row : (r : Row) (q : Option (List Row)) → someRows (withRow r q) ≡ someRows q
@@ -283,23 +283,23 @@ rows-none b p k e = rw e (go (drop p b))
     go (x ∷ l) = refl
 
 -- questions 6 and 7 are answered yes
-pub operator-found : (n i : ℕ) (b : List ℕ) (o : Operator) → readOperator n i b ≡ finding o → operatorOf b ≡ some o
+pub operator-found : (atoms i : ℕ) (b : List ℕ) (o : Operator) → readOperator atoms i b ≡ finding o → operatorOf b ≡ some o
 unfolding readOperator refuse askAt _>>=_
-operator-found n i b o e = go (operatorOf b) refl
+operator-found atoms i b o e = go (operatorOf b) refl
   where
     go : (q : Option Operator) → operatorOf b ≡ q → operatorOf b ≡ some o
     go none h = absurd (let z : _≡_ {A = ℕ} 0 1 = cc (rw (h, readOperator) at e) in omega arith)
-    go (some p) h = h ∙ ap some (at-7 (operatorRight n p) (rw (h, readOperator) at e))
+    go (some p) h = h ∙ ap some (at-7 (operatorRight atoms p) (rw (h, readOperator) at e))
       where
         at-7 : (t : Bool) → (askAt 7 i t >>= λ _. finding p) ≡ finding o → p ≡ o
         at-7 true f = cc
         at-7 false f = absurd (let z : _≡_ {A = ℕ} 0 1 = cc in omega arith)
 
 -- a row's literals, by the code's tests
-pub row-high : (n e : ℕ) (cs : List ℕ) → 2 * n ≤ e → false ≡ rowRight n (row e cs)
+pub row-high : (atoms e : ℕ) (cs : List ℕ) → 2 * atoms ≤ e → false ≡ rowRight atoms (row e cs)
 unfolding rowRight
-row-high n e cs h = rw (le-ltb e (2 * n) h)
+row-high atoms e cs h = rw (le-ltb e (2 * atoms) h)
 
-pub row-low : (n e : ℕ) (cs : List ℕ) → e < 2 * n → literalList n cs ≡ rowRight n (row e cs)
+pub row-low : (atoms e : ℕ) (cs : List ℕ) → e < 2 * atoms → literalList atoms cs ≡ rowRight atoms (row e cs)
 unfolding rowRight
-row-low n e cs h = rw (lt-ltb e (2 * n) h)
+row-low atoms e cs h = rw (lt-ltb e (2 * atoms) h)

@@ -78,18 +78,18 @@ unfolding verdict _>>=_
 verdict-stop (finding a) k r e = absurd (not-finding (sym e))
 verdict-stop (refused q) k r e = e
 
-module _ (n : ℕ) (w b : List ℕ) (i k k′ : ℕ) (more : k ≡ suc k′) (eb : b ≡ part w (i + 2)) where
-  pub operators-refused : (r : Refusal) → refused r ≡ verdict (readOperator n i b) → refused r ≡ verdict (readOperators n w i k)
+module _ (atoms : ℕ) (w b : List ℕ) (i k k′ : ℕ) (more : k ≡ suc k′) (eb : b ≡ part w (i + 2)) where
+  pub operators-refused : (r : Refusal) → refused r ≡ verdict (readOperator atoms i b) → refused r ≡ verdict (readOperators atoms w i k)
   unfolding readOperators
-  operators-refused r e = rw more (sym (verdict-stop (readOperator n i (part w (i + 2))) _ r (rw eb at (sym e))))
+  operators-refused r e = rw more (sym (verdict-stop (readOperator atoms i (part w (i + 2))) _ r (rw eb at (sym e))))
 
-  pub operators-on : finding tt ≡ verdict (readOperator n i b) → verdict (readOperators n w i k) ≡ verdict (readOperators n w (i + 1) k′)
+  pub operators-on : finding tt ≡ verdict (readOperator atoms i b) → verdict (readOperators atoms w i k) ≡ verdict (readOperators atoms w (i + 1) k′)
   unfolding readOperators
-  operators-on e = rw (more, add-one) (verdict-then (readOperator n i (part w (i + 2))) (readOperators n w (suc i) k′) _ (rw eb at (sym e)))
+  operators-on e = rw (more, add-one) (verdict-then (readOperator atoms i (part w (i + 2))) (readOperators atoms w (suc i) k′) _ (rw eb at (sym e)))
 
-pub operators-end : (n : ℕ) (w : List ℕ) (i k : ℕ) → k ≡ 0 → finding tt ≡ verdict (readOperators n w i k)
+pub operators-end : (atoms : ℕ) (w : List ℕ) (i k : ℕ) → k ≡ 0 → finding tt ≡ verdict (readOperators atoms w i k)
 unfolding readOperators verdict
-operators-end n w i k e = rw e
+operators-end atoms w i k e = rw e
 
 -- ---- the questions in order
 verdict-asked : {A : Type 0} (q : ℕ) (b : Bool) (k : Answer A) → verdict (ask q b >>= λ _. k) ≡ (ask q b >>= λ _. verdict k)
@@ -160,22 +160,22 @@ unfolding taskOf
 reads w e = record { found = found-is (readTask w) (sym e) }
 
 -- operators from operator i on, as they were read
-operators-read : (n : ℕ) (w : List ℕ) (k i : ℕ) (os : List Operator) → readOperators n w i k ≡ finding os → (length os ≡ k) × ((j : ℕ) → j < k → readOperator n (i + j) (part w (i + j + 2)) ≡ finding (getD os j noOperator))
+operators-read : (atoms : ℕ) (w : List ℕ) (k i : ℕ) (os : List Operator) → readOperators atoms w i k ≡ finding os → (length os ≡ k) × ((j : ℕ) → j < k → readOperator atoms (i + j) (part w (i + j + 2)) ≡ finding (getD os j noOperator))
 unfolding readOperators
-operators-read n w zero i os e = (ap length (sym (same-finding [] os e)), λ j h. absurd (omega arith))
-operators-read n w (suc k) i os e =
-    let p = bind-of (readOperator n i (part w (i + 2))) (λ o. readOperators n w (suc i) k >>= λ os. finding (o ∷ os)) os e in
-    let q = bind-of (readOperators n w (suc i) k) (λ os. finding (p .0 ∷ os)) os (p .2) in
-    let rest = operators-read n w k (suc i) (q .0) (q .1) in
-    subst (λ (z : List Operator). (length z ≡ suc k) × ((j : ℕ) → j < suc k → readOperator n (i + j) (part w (i + j + 2)) ≡ finding (getD z j noOperator)))
+operators-read atoms w zero i os e = (ap length (sym (same-finding [] os e)), λ j h. absurd (omega arith))
+operators-read atoms w (suc k) i os e =
+    let p = bind-of (readOperator atoms i (part w (i + 2))) (λ o. readOperators atoms w (suc i) k >>= λ os. finding (o ∷ os)) os e in
+    let q = bind-of (readOperators atoms w (suc i) k) (λ os. finding (p .0 ∷ os)) os (p .2) in
+    let rest = operators-read atoms w k (suc i) (q .0) (q .1) in
+    subst (λ (z : List Operator). (length z ≡ suc k) × ((j : ℕ) → j < suc k → readOperator atoms (i + j) (part w (i + j + 2)) ≡ finding (getD z j noOperator)))
     (same-finding (p .0 ∷ q .0) os (q .2))
     (ap suc (rest .0), at (p .0) (q .0) (p .1) (rest .1))
   where
-    at : (o : Operator) (rs : List Operator) → readOperator n i (part w (i + 2)) ≡ finding o → ((j : ℕ) → j < k → readOperator n (suc i + j) (part w (suc i + j + 2)) ≡ finding (getD rs j noOperator)) → (j : ℕ) → j < suc k → readOperator n (i + j) (part w (i + j + 2)) ≡ finding (getD (o ∷ rs) j noOperator)
+    at : (o : Operator) (rs : List Operator) → readOperator atoms i (part w (i + 2)) ≡ finding o → ((j : ℕ) → j < k → readOperator atoms (suc i + j) (part w (suc i + j + 2)) ≡ finding (getD rs j noOperator)) → (j : ℕ) → j < suc k → readOperator atoms (i + j) (part w (i + j + 2)) ≡ finding (getD (o ∷ rs) j noOperator)
     at o rs h t zero l = let z : i + 0 ≡ i = omega arith in rw z h
     at o rs h t (suc j) l = let z : i + suc j ≡ suc i + j = omega arith in rw z (t j (omega arith))
 
--- what it tells, by the words of the image
+-- what is known of it, by the words of the image
 pub record TaskRead (w : List ℕ) (t : Task) : Type 0 where
   pub room : 6 ≤ length w
   pub atoms : t .atoms ≡ getD w 0 0
@@ -192,17 +192,17 @@ pub record TaskRead (w : List ℕ) (t : Task) : Type 0 where
 pub task-read : (w : List ℕ) → Reads w → TaskRead w (taskOf w)
 unfolding readTask sizeRight countsRight ask operatorAt
 task-read w r =
-    let n = getD w 0 0 in
-    let m = getD w 1 0 in
+    let atoms = getD w 0 0 in
+    let operators = getD w 1 0 in
     let t = taskOf w in
     let q1 = bind-of (askAt 1 0 (sizeRight w)) _ t (r .found) in
     let q2 = bind-of (askAt 2 0 (countsRight w)) _ t (q1 .2) in
-    let q3 = bind-of (askAt 3 0 (directory w (m + 2))) _ t (q2 .2) in
-    let q4 = bind-of (askAt 4 0 (ascending (part w 0) && allBelow n (part w 0))) _ t (q3 .2) in
-    let q5 = bind-of (askAt 5 0 (literalList n (part w 1))) _ t (q4 .2) in
-    let q6 = bind-of (readOperators n w 0 m) (λ os. finding (record { atoms = n; initial = part w 0; goal = part w 1; operators = os })) t (q5 .2) in
-    let x : Task = record { atoms = n; initial = part w 0; goal = part w 1; operators = q6 .0 } in
-    let ops = operators-read n w m 0 (q6 .0) (q6 .1) in
+    let q3 = bind-of (askAt 3 0 (directory w (operators + 2))) _ t (q2 .2) in
+    let q4 = bind-of (askAt 4 0 (ascending (part w 0) && allBelow atoms (part w 0))) _ t (q3 .2) in
+    let q5 = bind-of (askAt 5 0 (literalList atoms (part w 1))) _ t (q4 .2) in
+    let q6 = bind-of (readOperators atoms w 0 operators) (λ os. finding (record { atoms = atoms; initial = part w 0; goal = part w 1; operators = os })) t (q5 .2) in
+    let x : Task = record { atoms = atoms; initial = part w 0; goal = part w 1; operators = q6 .0 } in
+    let ops = operators-read atoms w operators 0 (q6 .0) (q6 .1) in
     let c = ask-of 2 0 (countsRight w) (q2 .0) (q2 .1) in
     subst (λ (z : Task). TaskRead w z) (same-finding x t (q6 .2))
     (record {
@@ -210,15 +210,15 @@ task-read w r =
       atoms = refl;
       few = counts-atoms w c;
       count = ops .0;
-      few-operators = let z = counts-operators w c in let y : length (q6 .0) ≡ m = ops .0 in omega arith;
-      directory = ask-of 3 0 (directory w (m + 2)) (q3 .0) (q3 .1);
+      few-operators = let z = counts-operators w c in let y : length (q6 .0) ≡ operators = ops .0 in omega arith;
+      directory = ask-of 3 0 (directory w (operators + 2)) (q3 .0) (q3 .1);
       initial = refl;
-      initial-right = ask-of 4 0 (ascending (part w 0) && allBelow n (part w 0)) (q4 .0) (q4 .1);
+      initial-right = ask-of 4 0 (ascending (part w 0) && allBelow atoms (part w 0)) (q4 .0) (q4 .1);
       goal = refl;
-      goal-right = ask-of 5 0 (literalList n (part w 1)) (q5 .0) (q5 .1);
+      goal-right = ask-of 5 0 (literalList atoms (part w 1)) (q5 .0) (q5 .1);
       operator = λ i h.
           let z : 0 + i ≡ i = omega arith in
-          let y : length (q6 .0) ≡ m = ops .0 in
+          let y : length (q6 .0) ≡ operators = ops .0 in
           rw z at (ops .1 i (omega arith));
     })
 

@@ -1,9 +1,26 @@
-use mathlib.Core.Path.{sym, ap, _∙_}
+-- `fdr::goal_met`: the questions up to 18, then the test of the goal.
+use mathlib.Core.Path.{_≡_, sym, ap, _∙_}
+use Rattle.definitions.specs.Answer.{finding}
+use Rattle.definitions.specs.Fdr.{fdrAllTrue}
+use Rattle.definitions.specs.FdrStep.{goalFdr}
 use Rattle.answer.specs.Answer.{placed, verdictAnswer}
-use Rattle.fdr.proofs.Calls.{standing, goal-rest, goal-refused}
+use Rattle.answer.specs.Reader.{stateAnswer}
+use Rattle.answer.proofs.ReaderCalls.{goal-rest, goal-refused}
+use Rattle.fdr.specs.Post.{fdrReader}
+use Rattle.fdr.proofs.Calls.{standing}
 use borrow.Author.Needs.{needs}
 use Rattle.fdr.proofs.goal_met.Statement.{statement}
 use Rattle.fdr.proofs.goal_met.Tie as tie
+
+-- where the image and the state were read, and the start
+abbrev read : tie.After-enum-told → tie.After-read-state
+read c = c .before .before
+
+abbrev start : tie.After-read-state → tie.Start
+start c = c .before .before .before
+
+fine : (c : tie.After-enum-told) → let s = start (read c) .args in finding tt ≡ stateAnswer fdrReader (s .image .now) (s .state .now)
+fine c = ap verdictAnswer (sym (c .enum-told .given .1)) ∙ read c .read-state .ensures
 
 read-state-requires : tie.Need-read-state-requires
 read-state-requires c κs = search needs
@@ -15,7 +32,7 @@ enum-told : tie.Need-enum-told
 enum-told c = search needs
 
 goal-requires : tie.Need-goal-requires
-goal-requires c κs = standing _ _ (ap verdictAnswer (sym (c .enum-told .given .1)) ∙ c .before .before .read-state .ensures) .reads
+goal-requires c κs = standing _ _ (fine c) .reads
 
 all-true-requires : tie.Need-all-true-requires
 all-true-requires c κs = search needs
@@ -24,17 +41,19 @@ whether-requires : tie.Need-whether-requires
 whether-requires c κs = search needs
 
 returns : tie.Need-returns
+unfolding goalFdr
 returns c =
     let f = c .before .reading .given in
-    goal-refused _ _ (placed (f .0 .0)) (ap verdictAnswer (sym (f .1)) ∙ c .before .before .before .read-state .ensures)
+    goal-refused fdrReader _ _ (placed (f .0 .0)) (ap verdictAnswer (sym (f .1)) ∙ c .before .before .before .read-state .ensures)
 
 returns-2 : tie.Need-returns-2
+unfolding goalFdr
 returns-2 c =
     let t = c .before in
     let g = t .before in
-    let m = g .before in
+    let y = fine (g .before) in
     c .whether .ensures
-    ∙ goal-rest _ _ (ap verdictAnswer (sym (m .enum-told .given .1)) ∙ m .before .before .read-state .ensures) _ _ (g .goal .ensures) (t .all-true .ensures)
+    ∙ goal-rest fdrReader _ _ y _ (standing _ _ y .reads .found) _ (t .all-true .ensures ∙ ap (fdrAllTrue _) (g .goal .ensures))
 
 pub goal-met-spec : {M : Type 1} → statement M
 goal-met-spec =

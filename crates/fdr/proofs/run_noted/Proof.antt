@@ -1,27 +1,55 @@
 -- `fdr::run_noted`: the run of the whole list is that of what is left of it, from the state so far.
-use Prim.Native.Nat.{_≤_, _-_}
+use Prim.Native.Nat.{_-_}
 use mathlib.Core.Path.{_≡_, refl, sym, ap, _∙_}
-use native.Mathlib.Omega.{arith}
-use lib.ListN.{length, drop}
-use Rattle.definitions.specs.Answer.{outcome}
-use Rattle.definitions.specs.StepLists.{runFrom, refusedAfter}
+use lib.ListN.{length, getD}
+use Rattle.definitions.specs.Answer.{outcome, becomes}
+use Rattle.definitions.specs.StepLists.{refusedAfter}
 use Rattle.definitions.specs.FdrStep.{fdrStep}
-use Rattle.definitions.proofs.StepLists.{run-on, run-stop, run-end}
 use Rattle.answer.specs.Answer.{placed, verdictAnswer}
 use Rattle.answer.specs.declared.Verdict.{Verdict}
+use Rattle.answer.proofs.Laws.{outcome-of}
+use Rattle.answer.proofs.ReaderCalls.{Running, running-start, running-on, running-stop, running-end}
 use Rattle.fdr_image.specs.Reads.{fdrOf}
 use borrow.Author.Needs.{needs}
 use Rattle.fdr.proofs.run_noted.Statement.{statement}
 use Rattle.fdr.proofs.run_noted.Tie as tie
 
 abbrev Inv-loop : tie.InvT-loop
-Inv-loop image state₀ list changes₀ steps₀ state changes steps = (steps ≤ length list) × (length state ≡ length state₀) × (changes ≡ changes₀) × (runFrom (fdrStep (fdrOf image)) state₀ 0 list ≡ runFrom (fdrStep (fdrOf image)) state steps (drop steps list))
+Inv-loop image state₀ list changes₀ steps₀ state changes steps = Running (fdrStep (fdrOf image)) list state₀ state steps × (changes ≡ changes₀)
 
 abbrev μ-loop : tie.MeasureT-loop
 μ-loop image state₀ list changes₀ steps₀ state changes steps = length list - steps
 
+-- the loop and the start, at a step, and where its answer is looked at
+abbrev at-slice : tie.At-loop Inv-loop μ-loop → tie.After-slice-known Inv-loop μ-loop
+at-slice c = c .before .before .before
+
+abbrev start : tie.At-loop Inv-loop μ-loop → tie.Start Inv-loop μ-loop
+start c = at-slice c .before .before
+
+abbrev at-step-noted-arg : tie.After-step-noted Inv-loop μ-loop → tie.After-step-noted-arg Inv-loop μ-loop
+at-step-noted-arg c = c .before .before .before
+
+abbrev in-of : tie.After-step-noted Inv-loop μ-loop → tie.In-loop Inv-loop μ-loop
+in-of c = at-step-noted-arg c .before
+
+abbrev at-state : tie.After-slice-known4 Inv-loop μ-loop → tie.After-state Inv-loop μ-loop
+at-state c = c .before .before .before
+
+abbrev made : tie.After-slice-known4 Inv-loop μ-loop → tie.After-step-noted Inv-loop μ-loop
+made c = at-state c .before
+
+-- the outcome of the step, by its answer
+of-step :
+    (d : tie.After-step-noted Inv-loop μ-loop) (v : Verdict) → d .step-noted .result ≡ v
+    → let l = in-of d .before in
+    let s = start l .args in
+    outcome (verdictAnswer v) (d .step-noted .last .1 .0)
+    ≡ becomes (l .loop .state) (fdrStep (fdrOf (s .image .now)) (l .loop .state) (getD (s .list .now) (l .loop .steps) 0))
+of-step d v e = outcome-of _ _ _ _ (ap verdictAnswer (sym e)) (d .step-noted .ensures .0)
+
 loop-holds : tie.Need-loop-holds Inv-loop μ-loop
-loop-holds c = (omega arith, refl, refl, refl)
+loop-holds c = (running-start _ _ _, refl)
 
 mul-step-noted : tie.Need-mul-step-noted Inv-loop μ-loop
 mul-step-noted c = search needs
@@ -31,29 +59,30 @@ shared-slice-read-step-noted c = search needs
 
 step-noted-requires : tie.Need-step-noted-requires Inv-loop μ-loop
 step-noted-requires c κs =
-    let l = c .before .before .before .before .loop in
-    let st = c .before .before .before .before .before .before .before .before .before in
-    (record { reads = st .pre .0 .reads; size = l .inv .1 ∙ st .pre .0 .size }, l .inv .2 ∙ st .pre .1)
+    let l = c .before .before .before .before in
+    let s = start l in
+    (record { reads = s .pre .0 .reads; size = l .loop .inv .0 .size ∙ s .pre .0 .size }, l .loop .inv .1 ∙ s .pre .1)
 
 enum-known-stepped : tie.Need-enum-known-stepped Inv-loop μ-loop
 enum-known-stepped c = search needs
 
 same-length : tie.Need-same-length Inv-loop μ-loop
-same-length c = search needs
+same-length c =
+    let d = made (c .before .before .before) in
+    d .step-noted .kept .1 .0 ∙ in-of d .before .loop .inv .0 .size
 
 same-length-2 : tie.Need-same-length-2 Inv-loop μ-loop
-same-length-2 c = ap length (c .before .before .before .before .before .before .before .step-noted .ensures .1 ∙ c .before .before .before .before .before .before .before .before .before .before .before .before .loop .inv .2)
+same-length-2 c =
+    let d = made (c .before .before .before) in
+    ap length (d .step-noted .ensures .1 ∙ in-of d .before .loop .inv .1)
 
 returns : tie.Need-returns Inv-loop μ-loop
 unfolding refusedAfter
 returns c =
-    let l = c .before .before .before .before .before .before .before .before .before .before .before .before .loop in
-    let a = c .before .before .before .before .before .before .before .step-noted in
+    let d = made (c .before .before .before) in
+    let i = in-of d in
     let f = c .before .stepped .given in
-    let st = c .before .before .before .before .before .before .before .before .before .before .before .before .before .before .before .before .before in
-    run-stop (fdrStep (fdrOf (st .args .image .now))) (l .state) (a .last .1 .0) (l .steps) (l .steps) _ (st .args .list .now) (c .before .before .before .before .before .before .before .before .before .before .before .loop-test .taken) refl (placed (f .0 .0))
-    (ap (λ (v : Verdict). outcome (verdictAnswer v) (a .last .1 .0)) (sym (f .1)) ∙ a .ensures .0)
-    ∙ sym (l .inv .3)
+    running-stop _ _ _ _ _ (i .before .loop .inv .0) _ _ (i .loop-test .taken) refl (placed (f .0 .0)) (of-step d _ (f .1))
 
 enum-told : tie.Need-enum-told Inv-loop μ-loop
 enum-told c = search needs
@@ -66,29 +95,20 @@ loop-less c = search needs
 
 loop-again : tie.Need-loop-again Inv-loop μ-loop
 loop-again c =
-    let l = c .before .before .before .before .before .before .before .before .before .before .before .loop in
-    let a = c .before .before .before .before .before .before .step-noted in
-    let f = c .enum-told .given in
-    let st = c .before .before .before .before .before .before .before .before .before .before .before .before .before .before .before .before in (
-      omega arith,
-      a .kept .1 .0 ∙ l .inv .1,
-      a .ensures .1 ∙ l .inv .2,
-      l .inv .3
-          ∙ run-on (fdrStep (fdrOf (st .args .image .now))) (l .state) (a .last .1 .0) (l .steps) (l .steps) _ (st .args .list .now) (c .before .before .before .before .before .before .before .before .before .before .loop-test .taken) refl
-          (ap (λ (v : Verdict). outcome (verdictAnswer v) (a .last .1 .0)) (sym (f .1)) ∙ a .ensures .0),
+    let d = made (c .before .before) in
+    let i = in-of d in (
+      running-on _ _ _ _ _ (i .before .loop .inv .0) _ _ (i .loop-test .taken) refl (d .step-noted .kept .1 .0) (of-step d _ (c .enum-told .given .1)),
+      d .step-noted .ensures .1 ∙ i .before .loop .inv .1,
     )
 
 same-length-3 : tie.Need-same-length-3 Inv-loop μ-loop
-same-length-3 c = search needs
+same-length-3 c = c .before .loop .inv .0 .size
 
 same-length-4 : tie.Need-same-length-4 Inv-loop μ-loop
-same-length-4 c = ap length (c .before .loop .inv .2)
+same-length-4 c = ap length (c .before .loop .inv .1)
 
 returns-2 : tie.Need-returns-2 Inv-loop μ-loop
-returns-2 c =
-    let l = c .before .loop in
-    let st = c .before .before .before .before .before .before in
-    run-end (fdrStep (fdrOf (st .args .image .now))) (l .state) (l .steps) (st .args .list .now) (l .steps) (c .loop-test .left) ∙ sym (l .inv .3)
+returns-2 c = running-end _ _ _ _ _ (c .before .loop .inv .0) (c .loop-test .left)
 
 pub run-noted-spec : {M : Type 1} → statement M
 run-noted-spec =

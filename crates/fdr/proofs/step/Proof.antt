@@ -1,9 +1,28 @@
-use mathlib.Core.Path.{sym, ap, _∙_}
+-- `fdr::step`: the questions up to 18, then the step.
+use mathlib.Core.Path.{_≡_, sym, ap, _∙_}
+use Rattle.definitions.specs.Answer.{finding}
+use Rattle.definitions.specs.FdrStep.{stepFdr}
 use Rattle.answer.specs.Answer.{placed, verdictAnswer}
-use Rattle.fdr.proofs.Calls.{standing, step-rest, step-refused}
+use Rattle.answer.specs.Reader.{stateAnswer}
+use Rattle.answer.proofs.ReaderCalls.{step-rest, step-refused}
+use Rattle.fdr.specs.Post.{fdrReader}
+use Rattle.fdr.proofs.Calls.{standing}
 use borrow.Author.Needs.{needs}
 use Rattle.fdr.proofs.step.Statement.{statement}
 use Rattle.fdr.proofs.step.Tie as tie
+
+-- where the image and the state were read, and the start
+abbrev read : tie.After-enum-told → tie.After-read-state
+read c = c .before .before
+
+abbrev at-shared-slice : tie.After-read-state → tie.After-shared-slice-known
+at-shared-slice c = c .before .before .before
+
+abbrev start : tie.After-read-state → tie.Start
+start c = at-shared-slice c .before
+
+fine : (c : tie.After-enum-told) → let s = start (read c) .args in finding tt ≡ stateAnswer fdrReader (s .image .now) (s .state .now)
+fine c = ap verdictAnswer (sym (c .enum-told .given .1)) ∙ read c .read-state .ensures
 
 read-state-requires : tie.Need-read-state-requires
 read-state-requires c κs = search needs
@@ -15,19 +34,26 @@ enum-told : tie.Need-enum-told
 enum-told c = search needs
 
 step-read-requires : tie.Need-step-read-requires
-step-read-requires c κs = standing _ _ (ap verdictAnswer (sym (c .before .enum-told .given .1)) ∙ c .before .before .before .read-state .ensures)
+step-read-requires c κs = standing _ _ (fine (c .before))
 
 same-length : tie.Need-same-length
 same-length c = search needs
 
 returns : tie.Need-returns
-returns c = step-refused _ _ (placed (c .before .reading .given .0 .0)) (ap verdictAnswer (sym (c .before .reading .given .1)) ∙ c .before .before .before .read-state .ensures) _
+unfolding stepFdr
+returns c =
+    let f = c .before .reading .given in
+    step-refused fdrReader _ _ (placed (f .0 .0)) (ap verdictAnswer (sym (f .1)) ∙ c .before .before .before .read-state .ensures) _
 
 same-length-2 : tie.Need-same-length-2
 same-length-2 c = search needs
 
 returns-2 : tie.Need-returns-2
-returns-2 c = c .before .before .step-read .ensures ∙ step-rest _ _ (ap verdictAnswer (sym (c .before .before .before .before .enum-told .given .1)) ∙ c .before .before .before .before .before .before .read-state .ensures) _
+unfolding stepFdr
+returns-2 c =
+    let d = c .before .before in
+    let y = fine (d .before .before) in
+    d .step-read .ensures ∙ step-rest fdrReader _ _ y _ (standing _ _ y .reads .found) _
 
 pub step-spec : {M : Type 1} → statement M
 step-spec =

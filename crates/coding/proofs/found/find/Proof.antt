@@ -17,28 +17,58 @@ Inv-loop image state values₀ a₀ values a = (a ≤ length state) × (length v
 abbrev μ-loop : tie.MeasureT-loop
 μ-loop image state values₀ a₀ values a = length state - a
 
+-- where an atom was noted: its value, its variable, the loop, and the start
+abbrev noted-of : tie.After-slice-known2 Inv-loop μ-loop → tie.After-note Inv-loop μ-loop
+noted-of c = c .before .before
+
+abbrev value-of : tie.After-note Inv-loop μ-loop → tie.After-atom-value Inv-loop μ-loop
+value-of c = c .before .before .before
+
+abbrev at-shared-slice : tie.At-loop Inv-loop μ-loop → tie.After-shared-slice-known Inv-loop μ-loop
+at-shared-slice c = c .before .before .before
+
+abbrev start : tie.At-loop Inv-loop μ-loop → tie.Start Inv-loop μ-loop
+start c = at-shared-slice c .before
+
 loop-holds : tie.Need-loop-holds Inv-loop μ-loop
 loop-holds c = (omega arith, refl, walked-none _ _ _ (c .before .before .before .pre .empty))
 
 atom-variable-requires : tie.Need-atom-variable-requires Inv-loop μ-loop
-atom-variable-requires c κs = (c .before .before .before .before .before .pre .reads, omega (arith, c .before .before .before .before .before .pre .source))
+atom-variable-requires c κs =
+    let s = start (c .before) in
+    (s .pre .reads, omega (arith, s .pre .source))
 
 atom-value-requires : tie.Need-atom-value-requires Inv-loop μ-loop
-atom-value-requires c κs = (c .before .before .before .before .before .before .pre .reads, omega (arith, c .before .before .before .before .before .before .pre .source))
+atom-value-requires c κs =
+    let s = start (c .before .before) in
+    (s .pre .reads, omega (arith, s .pre .source))
 
 shared-slice-read-note : tie.Need-shared-slice-read-note Inv-loop μ-loop
 shared-slice-read-note c = search needs
 
 note-requires : tie.Need-note-requires Inv-loop μ-loop
 note-requires c κs =
-    let few = variables-are _ (c .before .before .before .before .before .before .before .before .before .pre .reads) in
-    (omega (arith, few .0, few .1, c .before .before .before .atom-variable .ensures .1, c .before .before .before .before .before .loop .inv .2 .size), c .before .before .atom-value .ensures .1)
+    let x = c .before .before in
+    let v = x .before in
+    let l = v .before .before in
+    let few = variables-are _ (start l .pre .reads) in
+    (omega (arith, few .0, few .1, v .atom-variable .ensures .1, l .loop .inv .2 .size), x .atom-value .ensures .1)
 
 same-length : tie.Need-same-length Inv-loop μ-loop
-same-length c = c .before .before .before .note .ensures .size ∙ c .before .before .before .before .before .before .before .before .before .loop .inv .1
+same-length c =
+    let k = noted-of (c .before) in
+    let l = value-of k .before .before .before in
+    k .note .ensures .size ∙ l .loop .inv .1
 
 returns : tie.Need-returns Inv-loop μ-loop
-returns c = found-two _ _ (c .before .before .before .before .before .before .before .before .before .loop .a) _ (c .before .before .before .before .before .before .before .before .before .loop .inv .2) (c .before .before .before .before .before .before .before .before .loop-test .taken) (c .before .before .before .before .before .before .before .before .before .before .before .before .before .pre .source) _ _ _ (c .before .before .before .before .before .before .before .atom-variable .ensures .0) (c .before .before .before .before .before .before .atom-value .ensures .0) refl (c .before .before .before .before .before .before .before .atom-variable .ensures .1) _ _ (c .before .before .before .note .ensures) (not-true _ (c .if1 .taken))
+returns c =
+    let k = noted-of (c .before) in
+    let x = value-of k in
+    let v = x .before in
+    let i = v .before in
+    let l = i .before in
+    found-two _ _ (l .loop .a) _ (l .loop .inv .2) (i .loop-test .taken) (start l .pre .source) _ _ _
+    (v .atom-variable .ensures .0) (x .atom-value .ensures .0) refl (v .atom-variable .ensures .1) _ _ (k .note .ensures) (not-true _ (c .if1 .taken))
 
 add-a : tie.Need-add-a Inv-loop μ-loop
 add-a c = search needs
@@ -47,7 +77,17 @@ loop-less : tie.Need-loop-less Inv-loop μ-loop
 loop-less c = search needs
 
 loop-again : tie.Need-loop-again Inv-loop μ-loop
-loop-again c = (omega arith, c .before .before .before .note .ensures .size ∙ c .before .before .before .before .before .before .before .before .before .loop .inv .1, walked-on _ _ (c .before .before .before .before .before .before .before .before .before .loop .a) _ (c .before .before .before .before .before .before .before .before .before .loop .inv .2) (c .before .before .before .before .before .before .before .before .loop-test .taken) (c .before .before .before .before .before .before .before .before .before .before .before .before .before .pre .source) _ _ _ (c .before .before .before .before .before .before .before .atom-variable .ensures .0) (c .before .before .before .before .before .before .atom-value .ensures .0) refl _ _ (c .before .before .before .note .ensures) (not-false _ (c .if1 .left)))
+loop-again c =
+    let k = noted-of (c .before) in
+    let x = value-of k in
+    let v = x .before in
+    let i = v .before in
+    let l = i .before in (
+      omega arith,
+      k .note .ensures .size ∙ l .loop .inv .1,
+      walked-on _ _ (l .loop .a) _ (l .loop .inv .2) (i .loop-test .taken) (start l .pre .source) _ _ _
+          (v .atom-variable .ensures .0) (x .atom-value .ensures .0) refl _ _ (k .note .ensures) (not-false _ (c .if1 .left)),
+    )
 
 same-length-2 : tie.Need-same-length-2 Inv-loop μ-loop
 same-length-2 c = c .before .loop .inv .1

@@ -6,6 +6,7 @@ use native.Mathlib.Omega.{arith}
 use lib.Dec.{ltb}
 use lib.ListN.{length}
 use borrow.Author.Tests.{not-true, not-false}
+use Rattle.definitions.specs.Literal.{mostAtoms}
 use Rattle.definitions.specs.Lists.{all, keep}
 use Rattle.definitions.specs.Fdr.{fdrAllTrue}
 use Rattle.definitions.specs.FdrStep.{fdrFired}
@@ -15,14 +16,14 @@ use mathlib.Core.List.{List}
 use Prim.Native.Nat.{ℕ}
 use Rattle.fdr.specs.Change.{noted, noteRows}
 use Rattle.fdr.specs.Post.{NotedFor}
-use Rattle.fdr.proofs.ByRows.{for-turn, for-stop, for-same}
-use Rattle.fdr.proofs.Notes.{rows-stop, rows-turn, rows-end, low-row}
+use Rattle.fdr.proofs.ByRows.{for-next, for-stop, for-same}
+use Rattle.fdr.proofs.Notes.{rows-stop, rows-next, rows-end, low-row}
 use borrow.Author.Needs.{needs}
 use Rattle.fdr.proofs.change.note_rows.Statement.{statement}
 use Rattle.fdr.proofs.change.note_rows.Tie as tie
 
 abbrev Inv-loop : tie.InvT-loop
-Inv-loop block state pass changes₀ at₀ left₀ changes at left = (parsesAt block at left ≡ true) × (all (λ r. ltb (r .variable) 1024) (rowsAt block at left) ≡ true) × (length changes ≡ length changes₀) × (noteRows state pass (fdrFired state (operatorIn block)) changes₀ ≡ noteRows state pass (keep (λ r. fdrAllTrue state (r .conditions)) (rowsAt block at left)) changes) × ((x : List ℕ) → NotedFor (rowsAt block at left) changes x → NotedFor (operatorIn block .rows) changes₀ x)
+Inv-loop block state pass changes₀ at₀ left₀ changes at left = (parsesAt block at left ≡ true) × (all (λ r. ltb (r .variable) mostAtoms) (rowsAt block at left) ≡ true) × (length changes ≡ length changes₀) × (noteRows state pass (fdrFired state (operatorIn block)) changes₀ ≡ noteRows state pass (keep (λ r. fdrAllTrue state (r .conditions)) (rowsAt block at left)) changes) × ((x : List ℕ) → NotedFor (rowsAt block at left) changes x → NotedFor (operatorIn block .rows) changes₀ x)
 
 abbrev μ-loop : tie.MeasureT-loop
 μ-loop block state pass changes₀ at₀ left₀ changes at left = left
@@ -55,7 +56,7 @@ part-conditions-end : tie.Need-part-conditions-end Inv-loop μ-loop
 part-conditions-end c = search needs
 
 note-row-requires : tie.Need-note-row-requires Inv-loop μ-loop
-note-row-requires c κs = (omega (arith, c .before .before .before .before .loop .inv .2, c .before .before .before .before .before .before .before .before .before .before .pre .1, low-row 1024 _ _ _ (c .before .before .row .ensures .row) (c .before .before .before .before .loop .inv .1) .0), c .before .before .row .ensures .word)
+note-row-requires c κs = (omega (arith, c .before .before .before .before .loop .inv .2, c .before .before .before .before .before .before .before .before .before .before .pre .1, low-row mostAtoms _ _ _ (c .before .before .row .ensures .row) (c .before .before .before .before .loop .inv .1) .0), c .before .before .row .ensures .word)
 
 same-length : tie.Need-same-length Inv-loop μ-loop
 same-length c = search needs
@@ -79,10 +80,10 @@ loop-again c =
     let r = c .before .before .before .before .before .before .row .ensures in
     let n = c .before .before .before .note-row in (
       r .next,
-      low-row 1024 _ _ _ (r .row) (l .inv .1) .1,
+      low-row mostAtoms _ _ _ (r .row) (l .inv .1) .1,
       n .kept .0 ∙ l .inv .2,
-      l .inv .3 ∙ rows-turn _ _ _ _ _ (r .row) _ refl _ (n .last .0) (ap (λ (b : Bool). noted b (n .last .0)) (sym (not-false _ (c .if1 .left))) ∙ n .ensures .0),
-      λ x f. l .inv .4 x (for-turn _ _ _ (r .row) _ _ _ (n .ensures .1) f),
+      l .inv .3 ∙ rows-next _ _ _ _ _ (r .row) _ refl _ (n .last .0) (ap (λ (b : Bool). noted b (n .last .0)) (sym (not-false _ (c .if1 .left))) ∙ n .ensures .0),
+      λ x f. l .inv .4 x (for-next _ _ _ (r .row) _ _ _ (n .ensures .1) f),
     )
 
 same-length-2 : tie.Need-same-length-2 Inv-loop μ-loop

@@ -6,19 +6,20 @@ use mathlib.Core.List.{List}
 use native.Mathlib.Omega.{arith}
 use lib.Dec.{ltb}
 use lib.ListN.{length, length-set}
+use Rattle.definitions.specs.Literal.{mostAtoms}
 use Rattle.definitions.specs.Lists.{all}
 use Rattle.definitions.specs.Fdr.{FdrRow}
 use Rattle.fdr_image.specs.Walk.{operatorIn, parsesAt, rowsAt}
 use Rattle.fdr_image.proofs.RowLaws.{rows-done}
 use Rattle.fdr.specs.Change.{unnoted}
 use Rattle.fdr.proofs.Notes.{low-row}
-use Rattle.fdr.proofs.ByRows.{unnoted-turn, unnoted-end}
+use Rattle.fdr.proofs.ByRows.{unnoted-next, unnoted-end}
 use borrow.Author.Needs.{needs}
 use Rattle.fdr.proofs.change.unnote.Statement.{statement}
 use Rattle.fdr.proofs.change.unnote.Tie as tie
 
 abbrev Inv-loop : tie.InvT-loop
-Inv-loop block changes₀ at₀ left₀ changes at left = (parsesAt block at left ≡ true) × (all (λ r. ltb (r .variable) 1024) (rowsAt block at left) ≡ true) × (length changes ≡ length changes₀) × (unnoted (operatorIn block .rows) changes₀ ≡ unnoted (rowsAt block at left) changes)
+Inv-loop block changes₀ at₀ left₀ changes at left = (parsesAt block at left ≡ true) × (all (λ r. ltb (r .variable) mostAtoms) (rowsAt block at left) ≡ true) × (length changes ≡ length changes₀) × (unnoted (operatorIn block .rows) changes₀ ≡ unnoted (rowsAt block at left) changes)
 
 abbrev μ-loop : tie.MeasureT-loop
 μ-loop block changes₀ at₀ left₀ changes at left = left
@@ -40,12 +41,12 @@ row-requires c κs = (c .before .loop .inv .0, c .loop-test .taken)
 
 mul-changes : tie.Need-mul-changes Inv-loop μ-loop
 mul-changes c =
-    let z = low-row 1024 _ _ _ (c .row .ensures .row) (c .before .before .loop .inv .1) .0 in
+    let z = low-row mostAtoms _ _ _ (c .row .ensures .row) (c .before .before .loop .inv .1) .0 in
     omega (arith, z)
 
 slice-write-changes : tie.Need-slice-write-changes Inv-loop μ-loop
 slice-write-changes c =
-    let z = low-row 1024 _ _ _ (c .row .ensures .row) (c .before .before .loop .inv .1) .0 in
+    let z = low-row mostAtoms _ _ _ (c .row .ensures .row) (c .before .before .loop .inv .1) .0 in
     omega (arith, z, c .before .before .before .before .before .before .before .pre .1, c .before .before .loop .inv .2)
 
 sub-left : tie.Need-sub-left Inv-loop μ-loop
@@ -58,7 +59,7 @@ loop-again : tie.Need-loop-again Inv-loop μ-loop
 loop-again c =
     let r = c .row .ensures in
     let l = c .before .before .loop in
-    (r .next, low-row 1024 _ _ _ (r .row) (l .inv .1) .1, simp length-set (l .inv .2), l .inv .3 ∙ unnoted-turn _ _ _ (r .row) (l .changes))
+    (r .next, low-row mostAtoms _ _ _ (r .row) (l .inv .1) .1, simp length-set (l .inv .2), l .inv .3 ∙ unnoted-next _ _ _ (r .row) (l .changes))
 
 same-length : tie.Need-same-length Inv-loop μ-loop
 same-length c = c .before .loop .inv .2

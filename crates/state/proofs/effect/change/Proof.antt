@@ -8,7 +8,7 @@ use Rattle.definitions.specs.Image.{Row}
 use Rattle.task.specs.Walk.{operatorIn, parsesAt, rowsAt}
 use Rattle.task.proofs.Blocks.{rows-none}
 use Rattle.state.specs.Marks.{changed}
-use Rattle.state.proofs.Marks.{changed-turn, changed-end}
+use Rattle.state.proofs.Marks.{changed-next, changed-end}
 use borrow.Author.Needs.{needs}
 use Rattle.state.proofs.effect.change.Statement.{statement}
 use Rattle.state.proofs.effect.change.Tie as tie
@@ -72,7 +72,7 @@ loop-again c =
     let l = loop-of r in (
       m .make-true .kept .1 .0 ∙ l .loop .inv .0,
       r .row .ensures .next,
-      l .loop .inv .2 ∙ changed-turn _ _ _ _ (r .row .ensures .row) _ _ _ (m .before .before .has .ensures) (m .make-true .ensures),
+      l .loop .inv .2 ∙ changed-next _ _ _ _ (r .row .ensures .row) _ _ _ (m .before .before .has .ensures) (m .make-true .ensures),
     )
 
 same-length : tie.Need-same-length Inv-loop μ-loop

@@ -10,7 +10,7 @@ use Rattle.definitions.specs.Step.{fires}
 use Rattle.task.specs.Walk.{operatorIn, parsesAt, rowsAt}
 use Rattle.task.proofs.Blocks.{rows-none}
 use Rattle.state.specs.Marks.{markFired}
-use Rattle.state.proofs.Marks.{fired-turn, fired-end}
+use Rattle.state.proofs.Marks.{fired-next, fired-end}
 use borrow.Author.Needs.{needs}
 use Rattle.state.proofs.effect.mark_fired.Statement.{statement}
 use Rattle.state.proofs.effect.mark_fired.Tie as tie
@@ -65,7 +65,7 @@ unfolding fires
 loop-again c =
     let l = c .before .before .before .before .before .before .before .before .loop in
     let r = c .before .before .before .before .before .before .row .ensures in
-    (omega (arith, c .before .before .mark-if .kept .1 .0), (r .next, l .inv .1 .1 ∙ fired-turn _ _ _ _ _ _ _ (r .row) (c .before .before .before .before .all-true .ensures) (c .before .before .mark-if .ensures)))
+    (omega (arith, c .before .before .mark-if .kept .1 .0), (r .next, l .inv .1 .1 ∙ fired-next _ _ _ _ _ _ _ (r .row) (c .before .before .before .before .all-true .ensures) (c .before .before .mark-if .ensures)))
 
 same-length : tie.Need-same-length Inv-loop μ-loop
 same-length c = c .before .loop .inv .0

@@ -8,7 +8,7 @@ use Rattle.definitions.specs.Image.{Row}
 use Rattle.task.specs.Walk.{operatorIn, parsesAt, rowsAt}
 use Rattle.task.proofs.Blocks.{rows-none}
 use Rattle.state.specs.Marks.{unmarked}
-use Rattle.state.proofs.Marks.{unmarked-turn, unmarked-end}
+use Rattle.state.proofs.Marks.{unmarked-next, unmarked-end}
 use borrow.Author.Needs.{needs}
 use Rattle.state.proofs.effect.unmark.Statement.{statement}
 use Rattle.state.proofs.effect.unmark.Tie as tie
@@ -47,7 +47,7 @@ loop-again : tie.Need-loop-again Inv-loop μ-loop
 loop-again c =
     let l = c .before .before .before .before .before .before .loop in
     let r = c .before .before .before .before .row .ensures in
-    (omega (arith, c .before .before .put .kept .0), (r .next, l .inv .1 .1 ∙ unmarked-turn _ _ _ _ (r .row) _ (c .before .before .put .ensures)))
+    (omega (arith, c .before .before .put .kept .0), (r .next, l .inv .1 .1 ∙ unmarked-next _ _ _ _ (r .row) _ (c .before .before .put .ensures)))
 
 same-length : tie.Need-same-length Inv-loop μ-loop
 same-length c = c .before .loop .inv .0

@@ -6,7 +6,7 @@ use borrow.Author.Tests.{not-true, not-false}
 use lib.ListN.{length, drop}
 use Rattle.definitions.specs.Image.{rowsOf}
 use Rattle.task.specs.Walk.{rowsVerdict}
-use Rattle.task.proofs.Blocks.{verdict-short, verdict-over, verdict-turn, verdict-left, verdict-right, verdict-wrong}
+use Rattle.task.proofs.Blocks.{verdict-short, verdict-over, verdict-next, verdict-left, verdict-right, verdict-wrong}
 use borrow.Author.Needs.{needs}
 use Rattle.task.proofs.block.check_rows.Statement.{statement}
 use Rattle.task.proofs.block.check_rows.Tie as tie
@@ -126,7 +126,7 @@ loop-again c =
     let l = loop-of f in (
       omega arith,
       l .loop .inv .1
-          ∙ verdict-turn _ _ (start l .args .block .now) (l .loop .at) (l .loop .left) (l .loop .right) _ _ _ _
+          ∙ verdict-next _ _ (start l .args .block .now) (l .loop .at) (l .loop .left) (l .loop .right) _ _ _ _
           (f .wide .ensures .0) (w .wide2 .ensures .0) (omega arith) (omega arith) (e .if2 .left) (c .before .is-row .ensures) (c .both .ensures),
     )
 
