@@ -1,7 +1,7 @@
 // The answers of the calls: a finding, or a refusal with its number and places.
 ghost use mathlib.Core.Path.{_≡_};
 ghost use Rattle.definitions.specs.Answer.{finding, refused};
-ghost use Rattle.answer.specs.Answer.{refusalAt, verdictAnswer, testAnswer};
+ghost use Rattle.answer.specs.Answer.{refusalAt, verdictAnswer, testAnswer, countAnswer};
 
 // A refusal: the number of the question that was answered no, and two places, zero unless named.
 pub struct Refusal {
@@ -92,6 +92,17 @@ pub fn refuse_at(number: u16, first: usize) -> Verdict
     Verdict::Refused(Refusal {
         number: number,
         first: first,
+        second: 0,
+    })
+}
+
+// The refusal of a question by a call whose finding is a number, with both places zero.
+pub fn refuse_count(number: u16) -> Counted
+    ensures { λ r. ⌜ countAnswer r ≡ refused (refusalAt number 0 0) ⌝ }
+{
+    Counted::Refused(Refusal {
+        number: number,
+        first: 0,
         second: 0,
     })
 }

@@ -16,7 +16,8 @@ use Rattle.definitions.specs.Image.{Task, readTask}
 use Rattle.definitions.specs.Clauses.{width, mostRows, clauseWords, readClauses}
 use Rattle.definitions.specs.Checker.{check, accept, Accepted}
 use Rattle.definitions.specs.Synthesis.{Found, Made, synthesis, synthesisCall, madeOf, bufferAfter}
-use Rattle.definitions.specs.Card.{wordsOf, cardAnswer, card, foundText, refusedText}
+use Rattle.definitions.specs.Literal.{mostAtoms, mostLiterals}
+use Rattle.definitions.specs.Card.{wordsOf, mostInput, cardAnswer, card, foundText, refusedText}
 use Rattle.definitions.proofs.AnswerLaws.{bind-of, same-finding, not-finding}
 use Rattle.definitions.proofs.ReadLaws.{read-right}
 use Rattle.definitions.proofs.Accepts.{Finish, synthesis-accepted}
@@ -26,10 +27,10 @@ use Rattle.clause.proofs.RowLaws.{clauses-length}
 use Rattle.clause.proofs.ReadLaws.{read-are, read-of, read-whole, read-few}
 use Rattle.clause.proofs.ReadLaws as reading
 use Rattle.clause.proofs.ClauseLaws.{clause-good, clause-below}
-use Rattle.groups.specs.Writing.{Wrote}
-use Rattle.groups.proofs.Writes.{wrote-front}
-use Rattle.card.specs.Text.{findingOf, isInput, wordsText}
-use Rattle.card.specs.Room.{mostText}
+use Rattle.writing.specs.Writing.{Wrote}
+use Rattle.writing.proofs.Writes.{wrote-front}
+use Rattle.card.specs.Text.{findingOf, isInput, inputAnswer, wordsText}
+use Rattle.card.specs.Room.{mostText, mostWords}
 use Rattle.card.proofs.Size.{refusal-size, found-size}
 
 -- ---- room for the text of clauses that are read
@@ -40,7 +41,7 @@ read-rows N w c =
     let f = read-few N w c in
     omega arith
 
-pub read-size : (N : ℕ) (w : List ℕ) (r : ℕ) → ClausesRead N w → N ≤ 1024 → length (foundText N (findingOf (clausesOf w) r)) ≤ mostText
+pub read-size : (N : ℕ) (w : List ℕ) (r : ℕ) → ClausesRead N w → N ≤ mostAtoms → length (foundText N (findingOf (clausesOf w) r)) ≤ mostText
 read-size N w r c few =
     let right = reading.read-right N w c in
     found-size N (clausesOf w) r few (read-rows N w c) (λ f m. clause-good N w right f m .most) (λ f m l k. let h = clause-below N w right f m l k in omega arith)
@@ -75,7 +76,7 @@ found-is x C r p q = rw (← p, ← q)
 
 -- the clauses of a finding are read from their words
 module _ (img : List ℕ) (n limit words work marks : ℕ) where
-  clauses-read : (x : Found) → synthesis img n limit words work marks ≡ finding x → (readClauses (getD img 0 0) (clauseWords (x .clauses)) ≡ finding (x .clauses)) × (getD img 0 0 ≤ 1024)
+  clauses-read : (x : Found) → synthesis img n limit words work marks ≡ finding x → (readClauses (getD img 0 0) (clauseWords (x .clauses)) ≡ finding (x .clauses)) × (getD img 0 0 ≤ mostAtoms)
   unfolding check ask
   clauses-read x e =
       let f = synthesis-accepted img n limit words work marks x e in
@@ -106,7 +107,7 @@ module _ (img : List ℕ) (n limit : ℕ) (old : List ℕ) (work marks : ℕ) wh
     pub answered : answer ≡ finding (findingOf (clausesOf (take (width * rows) buf)) rounds)
     pub read : ClausesRead (getD img 0 0) (take (width * rows) buf)
     pub room : width * rows ≤ length buf
-    pub few : getD img 0 0 ≤ 1024
+    pub few : getD img 0 0 ≤ mostAtoms
 
   pub made-found : (rows rounds : ℕ) (buf : List ℕ) → outcome (finding (record { rows = rows; rounds = rounds })) buf ≡ synthesisCall img n limit old work marks → FoundRows buf rows rounds
   unfolding synthesisCall bufferAfter outcome
@@ -130,11 +131,11 @@ module _ (img : List ℕ) (n limit : ℕ) (old : List ℕ) (work marks : ℕ) wh
       }
 
 -- ---- the card
-text-refused : (w : List ℕ) (p : paper.Refusal) → synthesis (drop 2 w) (getD w 0 0) (getD w 1 0) (width * mostRows) (width * mostRows) 2048 ≡ refused p → wordsText w ≡ refusedText p
+text-refused : (w : List ℕ) (p : paper.Refusal) → inputAnswer w ≡ refused p → wordsText w ≡ refusedText p
 unfolding wordsText
 text-refused w p e = rw (e, wordsText)
 
-text-found : (w : List ℕ) (x : Found) → synthesis (drop 2 w) (getD w 0 0) (getD w 1 0) (width * mostRows) (width * mostRows) 2048 ≡ finding x → wordsText w ≡ foundText (getD w 2 0) x
+text-found : (w : List ℕ) (x : Found) → inputAnswer w ≡ finding x → wordsText w ≡ foundText (getD w 2 0) x
 unfolding wordsText
 text-found w x e = rw (e, wordsText)
 
@@ -155,18 +156,18 @@ module _ (bs : List ℕ) where
   card-words e = rw (e, card, cardAnswer)
 
 -- ---- room for the card
-answer-size : (w : List ℕ) (x : Found) → synthesis (drop 2 w) (getD w 0 0) (getD w 1 0) (width * mostRows) (width * mostRows) 2048 ≡ finding x → length (foundText (getD w 2 0) x) ≤ mostText
+answer-size : (w : List ℕ) (x : Found) → inputAnswer w ≡ finding x → length (foundText (getD w 2 0) x) ≤ mostText
 answer-size w x e =
     let N = getD w 2 0 in
     let cw = clauseWords (x .clauses) in
-    let r = rw (getD-drop 2 w 0 0) at (clauses-read (drop 2 w) (getD w 0 0) (getD w 1 0) (width * mostRows) (width * mostRows) 2048 x e) in
+    let r = rw (getD-drop 2 w 0 0) at (clauses-read (drop 2 w) (getD w 0 0) (getD w 1 0) (width * mostRows) (width * mostRows) mostLiterals x e) in
     let s = read-size N cw (x .rounds) (read-of N cw (x .clauses) (r .0)) (r .1) in
     rw (found-is x (clausesOf cw) (x .rounds) (read-are N cw (x .clauses) (r .0)) refl) s
 
 words-size : (w : List ℕ) → length (wordsText w) ≤ mostText
-words-size w = go (synthesis (drop 2 w) (getD w 0 0) (getD w 1 0) (width * mostRows) (width * mostRows) 2048) refl
+words-size w = go (inputAnswer w) refl
   where
-    go : (a : Answer Found) → synthesis (drop 2 w) (getD w 0 0) (getD w 1 0) (width * mostRows) (width * mostRows) 2048 ≡ a → length (wordsText w) ≤ mostText
+    go : (a : Answer Found) → inputAnswer w ≡ a → length (wordsText w) ≤ mostText
     go (finding x) e = rw (text-found w x e) (answer-size w x e)
     go (refused r) e = rw (text-refused w r e) (refusal-size r)
 
@@ -177,26 +178,26 @@ card-size bs = go (isInput bs) refl
     go true e = rw (card-words bs e) (words-size (wordsOf bs))
     go false e = rw (card-short bs e) (refusal-size (refusalAt 1 0 0))
 
--- the card stands at the start of the room, and what is behind it stays
+-- the card stands at the start of the room, and what is after it stays
 pub card-front : (bs old new : List ℕ) (end : ℕ) → mostText ≤ length old → Wrote old 0 (card bs) new end → (new ≡ card bs ++ drop end old) × (end ≡ length (card bs))
 card-front bs old new end room w =
     let s = card-size bs in
     let e : end ≡ length (card bs) = (let n = w .next in omega arith) in
-    (rw e (wrote-front old (card bs) new end (omega arith) w), e)
+    (rw e (wrote-front (omega arith) w), e)
 
 -- the rows of a finding in the buffer for words with n atoms, and the text
 pub record WordsFound (w : List ℕ) (n : ℕ) (buf : List ℕ) (k r : ℕ) : Type 0 where
   pub text : wordsText w ≡ foundText n (findingOf (clausesOf (take (width * k) buf)) r)
   pub read : ClausesRead n (take (width * k) buf)
   pub room : width * k ≤ length buf
-  pub few : n ≤ 1024
+  pub few : n ≤ mostAtoms
 
 -- the words of an input, the number of atoms in them, and the buffers that the synthesis is lent
-module _ (w old : List ℕ) (n work marks : ℕ) (atoms : n ≡ getD w 2 0) (rows : length old ≡ width * mostRows) (worked : work ≡ width * mostRows) (marked : marks ≡ 2048) where
+module _ (w old : List ℕ) (n work marks : ℕ) (atoms : n ≡ getD w 2 0) (rows : length old ≡ width * mostRows) (worked : work ≡ width * mostRows) (marked : marks ≡ mostLiterals) where
   same-image : take (length w - 2) (drop 2 w) ≡ drop 2 w
   same-image = let d = length-drop 2 w in take-all (length w - 2) (drop 2 w) (omega arith)
 
-  same-call : synthesis (drop 2 w) (getD w 0 0) (getD w 1 0) (width * mostRows) (width * mostRows) 2048 ≡ synthesis (take (length w - 2) (drop 2 w)) (getD w 0 0) (getD w 1 0) (length old) work marks
+  same-call : inputAnswer w ≡ synthesis (take (length w - 2) (drop 2 w)) (getD w 0 0) (getD w 1 0) (length old) work marks
   same-call = rw (same-image, rows, worked, marked)
 
   same-atoms : getD (take (length w - 2) (drop 2 w)) 0 0 ≡ n
@@ -226,13 +227,13 @@ module _ (bs : List ℕ) where
   pub input-odd : 4 ≤ length bs → (length bs % 2 ≡ 0 → ⊥) → false ≡ isInput bs
   input-odd h k = rw (le-leb 4 (length bs) h, ne-eqb (length bs % 2) 0 k)
 
-  pub input-even : 4 ≤ length bs → length bs % 2 ≡ 0 → leb (length bs) 16388 ≡ isInput bs
+  pub input-even : 4 ≤ length bs → length bs % 2 ≡ 0 → leb (length bs) mostInput ≡ isInput bs
   input-even h k = rw (le-leb 4 (length bs) h, eq-eqb (length bs % 2) 0 k)
 
-  pub input-size : isInput bs ≡ true → (4 ≤ length bs) × (length bs ≤ 16388)
+  pub input-size : isInput bs ≡ true → (4 ≤ length bs) × (length bs ≤ mostInput)
   input-size e =
-      let l = and-left (leb 4 (length bs) && eqb (length bs % 2) 0) (leb (length bs) 16388) e in
-      (leb-true 4 (length bs) (and-left (leb 4 (length bs)) (eqb (length bs % 2) 0) l), leb-true (length bs) 16388 (and-right (leb 4 (length bs) && eqb (length bs % 2) 0) (leb (length bs) 16388) e))
+      let l = and-left (leb 4 (length bs) && eqb (length bs % 2) 0) (leb (length bs) mostInput) e in
+      (leb-true 4 (length bs) (and-left (leb 4 (length bs)) (eqb (length bs % 2) 0) l), leb-true (length bs) mostInput (and-right (leb 4 (length bs) && eqb (length bs % 2) 0) (leb (length bs) mostInput) e))
 
 -- ---- the input's words
 words-length : (bs : List ℕ) → length (wordsOf bs) ≡ length bs / 2
@@ -242,7 +243,7 @@ words-length (x ∷ []) = refl
 words-length (x ∷ (y ∷ bs)) = let h = words-length bs in omega arith
 
 -- the words of an input, written into room for the most
-module _ (bs old new : List ℕ) (end : ℕ) (input : isInput bs ≡ true) (size : length old ≡ 8194) (wrote : Wrote old 0 (wordsOf bs) new end) where
+module _ (bs old new : List ℕ) (end : ℕ) (input : isInput bs ≡ true) (size : length old ≡ mostWords) (wrote : Wrote old 0 (wordsOf bs) new end) where
   pub words-inside : (2 ≤ end) × (end ≤ length new)
   words-inside =
       let i = input-size bs input in
@@ -259,5 +260,5 @@ module _ (bs old new : List ℕ) (end : ℕ) (input : isInput bs ≡ true) (size
       let hi = i .1 in
       let l = words-length bs in
       let e : end ≡ length (wordsOf bs) = (let n = wrote .next in omega arith) in
-      let f = wrote-front old (wordsOf bs) new end (omega arith) wrote in
+      let f = wrote-front (omega arith) wrote in
       rw (e, f) (take-append-seam (wordsOf bs) (drop (length (wordsOf bs)) old))

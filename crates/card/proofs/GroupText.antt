@@ -13,10 +13,10 @@ use Rattle.definitions.specs.Lists.{each, range, below, all}
 use Rattle.definitions.specs.Card.{decimal, noneWord, groupLine}
 use Rattle.definitions.specs.Groups.{mutex, join, groupsBelow, groups, noneOmitted, placeOf, Place}
 use Rattle.definitions.proofs.GroupLaws.{In, all-below, group-of}
-use Rattle.groups.specs.Join.{Joins, Placed, Grouped}
-use Rattle.groups.specs.Cover.{Covered}
-use Rattle.groups.proofs.Joining.{join-there, join-else, join-count, place-old, place-new}
-use Rattle.groups.proofs.Covering.{each-by}
+use Rattle.cover.specs.Join.{Joins, Placed, Grouped}
+use Rattle.cover.specs.Cover.{Covered}
+use Rattle.cover.proofs.Joining.{join-there, join-else, join-count, place-old, place-new}
+use Rattle.cover.proofs.Covering.{each-by}
 use Rattle.card.specs.Text.{separator, fieldsFrom, memberText, noneText, groupText, groupTexts}
 use Rattle.card.proofs.TextLaws.{line-fields}
 

@@ -15,7 +15,7 @@ use Rattle.definitions.proofs.Walks.{left-here, below-left}
 use Rattle.clause.specs.Rows.{clausesOf, rowCount}
 use Rattle.clause.proofs.RowLaws.{clauses-left, clauses-done}
 use Rattle.definitions.specs.Clauses.{clauseOf, rowAt}
-use Rattle.groups.proofs.Writes.{range-each, range-each-end}
+use Rattle.writing.proofs.Ranges.{range-each, range-each-end}
 use Rattle.card.specs.Text.{separator, fieldsFrom, memberText, noneText, groupText, groupTexts}
 use Rattle.card.proofs.TextLaws.{line-fields}
 
@@ -72,20 +72,3 @@ module _ (f : ℕ → List ℕ) (rest : List ℕ) (a n : ℕ) where
 pub groups-start : (ps ns : List ℕ) (n : ℕ) → groupTexts ps ns n ≡ each (λ v. groupText ps v (getD ns v 0)) (range 0 (n - 0))
 unfolding groupTexts
 groups-start ps ns n = below-left (each (λ v. groupText ps v (getD ns v 0))) n
-
--- ---- words of bytes
-module _ (bs : List ℕ) (i : ℕ) where
-  pub words-next : (x : ℕ) → 2 * i + 1 < length bs → x ≡ getD bs (2 * i) 0 + 256 * getD bs (2 * i + 1) 0 → wordsOf (drop (2 * i) bs) ≡ x ∷ wordsOf (drop (2 * (i + 1)) bs)
-  unfolding wordsOf
-  words-next x h e =
-      let p : 2 * (i + 1) ≡ 2 * i + 1 + 1 = omega arith in
-      rw (left-here bs (2 * i) 0 (getD bs (2 * i) 0) refl (omega arith), left-here bs (2 * i + 1) 0 (getD bs (2 * i + 1) 0) refl h, p, e)
-
-  pub words-end : length bs ≤ 2 * i + 1 → wordsOf (drop (2 * i) bs) ≡ []
-  unfolding wordsOf
-  words-end h = go (drop (2 * i) bs) (let d = length-drop (2 * i) bs in omega arith)
-    where
-      go : (l : List ℕ) → length l ≤ 1 → wordsOf l ≡ []
-      go [] q = refl
-      go (x ∷ []) q = refl
-      go (x ∷ (y ∷ l)) q = absurd (omega arith)

@@ -12,11 +12,9 @@ use borrow.Author.Tests.{eq-eqb, ne-eqb}
 use Rattle.definitions.specs.Answer.{Refusal}
 use Rattle.definitions.specs.Literal.{positive, atom}
 use Rattle.definitions.specs.Card.{digits, decimal, line, literalText, clauseLine, clausesWord, roundsWord, groupsWord, refusedWord, refusedText}
-use Rattle.groups.specs.Writing.{Wrote, Writing}
-use Rattle.groups.proofs.Writes.{wrote-both, write-start, write-same, write-part, write-end, write-room}
 use Rattle.card.specs.Text.{separator, fieldsFrom, signOf, countsLine, groupsLine}
 
--- fields behind the first are written alike
+-- fields after the first are written alike
 fields-on : (i j : ℕ) (xs : List (List ℕ)) → fieldsFrom (suc i) xs ≡ fieldsFrom (suc j) xs
 unfolding fieldsFrom separator
 fields-on i j [] = refl
@@ -38,9 +36,6 @@ pub separator-next : (i : ℕ) → (i ≡ 0 → ⊥) → separator i ≡ 32 ∷ 
 unfolding separator
 separator-next zero h = absurd (h refl)
 separator-next (suc i) h = refl
-
-pub wrote-nothing : (t : List ℕ) (at : ℕ) (words : List ℕ) → words ≡ [] → Wrote t at words t at
-wrote-nothing t at words e = record { target = rw e; next = (let h : length words ≡ 0 = rw e in omega arith) }
 
 -- ---- digits
 pub digits-one : (k n : ℕ) (rest : List ℕ) → n / 10 ≡ 0 → digits (suc k) n rest ≡ (48 + n % 10) ∷ rest
@@ -86,59 +81,30 @@ pub digits-cut : (room : List ℕ) (k n : ℕ) → length room ≡ 20 → drop k
 digits-cut room k n e h = let d = length-drop k room in let q : length (drop k room) ≤ 20 - k = omega arith in take-all (20 - k) (drop k room) q ∙ h
 
 -- ---- literals
-pub sign-plus : (l : ℕ) → l % 2 ≡ 0 → 43 ≡ signOf l
-unfolding signOf positive
-sign-plus l e = rw (eq-eqb (l % 2) 0 e)
+pub sign-plus : (l : ℕ) → positive l ≡ true → 43 ≡ signOf l
+unfolding signOf
+sign-plus l e = rw e
 
-pub sign-minus : (l : ℕ) → (l % 2 ≡ 0 → ⊥) → 45 ≡ signOf l
-unfolding signOf positive
-sign-minus l h = rw (ne-eqb (l % 2) 0 h)
+pub sign-minus : (l : ℕ) → positive l ≡ false → 45 ≡ signOf l
+unfolding signOf
+sign-minus l e = rw e
 
-pub literal-parts : (l s : ℕ) → s ≡ signOf l → literalText l ≡ (s ∷ []) ++ decimal (l / 2)
-unfolding literalText signOf atom
+pub literal-parts : (l s : ℕ) → s ≡ signOf l → literalText l ≡ (s ∷ []) ++ decimal (atom l)
+unfolding literalText signOf
 literal-parts l s e = rw e
 
--- ---- part after part
--- room for a part and for what comes behind it
-module _ (words a b t : List ℕ) (at : ℕ) (parts : words ≡ a ++ b) (room : at + length words ≤ length t) where
-  pub first-room : at + length a ≤ length t
-  first-room = let e = ap length parts in let p = length-append a b in omega arith
-
-  pub next-room : (mid : List ℕ) (to : ℕ) → Wrote t at a mid to → to + length b ≤ length mid
-  next-room mid to w =
-      let e = ap length parts in
-      let p = length-append a b in
-      let n = w .next in
-      let s : length mid ≡ length t = ap length (w .target) ∙ length-sets t at a in
-      omega arith
-
-  pub both : (mid new : List ℕ) (to end : ℕ) → Wrote t at a mid to → Wrote mid to b new end → Wrote t at words new end
-  both mid new to end v w = rw parts (wrote-both t at a b mid new to end v w)
-
--- what is to be written, said by its parts
-pub begin : (t : List ℕ) (at : ℕ) (words parts : List ℕ) → words ≡ parts → Writing t at words t at parts
-begin t at words parts e = write-same t at words t at words parts e (write-start t at words)
-
--- room for the first of the parts that are left
-pub part-room : (t : List ℕ) (start : ℕ) (words now′ : List ℕ) (at : ℕ) (a left : List ℕ) → Writing t start words now′ at (a ++ left) → start + length words ≤ length t → at + length a ≤ length now′
-part-room t start words now′ at a left w room =
-    let r = write-room t start words now′ at (a ++ left) w room in
-    let p = length-append a left in
-    omega arith
-
-pub groups-parts : (n : ℕ) → groupsLine n ≡ groupsWord ++ ((32 ∷ decimal n) ++ (10 ∷ []))
+-- ---- lines by their parts
+pub groups-parts : (n : ℕ) → groupsLine n ≡ (groupsWord ++ (32 ∷ decimal n)) ++ (10 ∷ [])
 unfolding groupsLine line
-groups-parts n = refl
+groups-parts n = simp append-assoc
 
-pub counts-parts : (n r : ℕ) → countsLine n r ≡ clausesWord ++ ((32 ∷ decimal n) ++ ((32 ∷ roundsWord) ++ ((32 ∷ decimal r) ++ (10 ∷ []))))
+pub counts-parts :
+    (n r : ℕ) → countsLine n r ≡ (clausesWord ++ (32 ∷ decimal n)) ++ (((32 ∷ roundsWord) ++ (32 ∷ decimal r)) ++ (10 ∷ []))
 unfolding countsLine line
-counts-parts n r = refl
+counts-parts n r = simp append-assoc
 
-pub refusal-parts : (f : Refusal) (q : ℕ) → q ≡ f .number → refusedText f ≡ refusedWord ++ ((32 ∷ decimal q) ++ ((32 ∷ decimal (f .first)) ++ ((32 ∷ decimal (f .second)) ++ (10 ∷ []))))
+pub refusal-parts :
+    (f : Refusal) (q : ℕ) → q ≡ f .number
+    → refusedText f ≡ (refusedWord ++ (32 ∷ decimal q)) ++ ((32 ∷ decimal (f .first)) ++ ((32 ∷ decimal (f .second)) ++ (10 ∷ [])))
 unfolding refusedText line
-refusal-parts f q e = rw e
-
--- the last part
-pub part-last : (t : List ℕ) (start : ℕ) (words now′ : List ℕ) (at : ℕ) (part after : List ℕ) (end : ℕ) → Writing t start words now′ at part → Wrote now′ at part after end → Wrote t start words after end
-part-last t start words now′ at part after end w e =
-    write-end t start words after end (write-part t start words now′ at part [] after end (write-same t start words now′ at part (part ++ []) (sym (append-nil part)) w) e)
+refusal-parts f q e = rw e (simp append-assoc)

@@ -5,13 +5,13 @@ use Prim.Native.Nat.{ℕ, zero, suc, _+_, _*_, _/_, _%_}
 use lib.Dec.{eqb, leb}
 use lib.ListN.{length, getD, drop}
 use Rattle.definitions.specs.Lists.{each, below}
-use Rattle.definitions.specs.Literal.{positive}
-use Rattle.definitions.specs.Answer.{finding, refused}
+use Rattle.definitions.specs.Literal.{mostLiterals, positive}
+use Rattle.definitions.specs.Answer.{Answer, finding, refused}
 use Rattle.definitions.specs.Clauses.{width, mostRows}
 use Rattle.definitions.specs.Synthesis.{Found, synthesis}
-use Rattle.definitions.specs.Card.{decimal, line, clausesWord, roundsWord, groupsWord, noneWord, foundText, refusedText}
+use Rattle.definitions.specs.Card.{decimal, line, clauseLine, clausesWord, roundsWord, groupsWord, noneWord, foundText, refusedText, mostInput}
 
--- what stands in front of field i of a line
+-- what stands before field i of a line
 unfoldable pub separator : ℕ → List ℕ
 separator zero = []
 separator (suc i) = 32 ∷ []
@@ -36,7 +36,7 @@ groupsLine groups = line (groupsWord ∷ decimal groups ∷ [])
 unfoldable pub memberText : List ℕ → ℕ → ℕ → List ℕ
 memberText ps v a = cond (eqb (getD ps (2 * a) 0) v) (separator (getD ps (2 * a + 1) 0) ++ decimal a) []
 
--- "none" behind the atoms, if it is a value
+-- "none" after the atoms, if it is a value
 unfoldable pub noneText : ℕ → List ℕ
 noneText none = cond (eqb none 0) [] (32 ∷ noneWord)
 
@@ -48,16 +48,26 @@ groupText ps v none = each (memberText ps v) (below (length ps / 2)) ++ (noneTex
 unfoldable pub groupTexts : List ℕ → List ℕ → ℕ → List ℕ
 groupTexts ps ns n = each (λ v. groupText ps v (getD ns v 0)) (below n)
 
+-- the number of groups, and their lines
+unfoldable pub coverText : List ℕ → List ℕ → ℕ → List ℕ
+coverText ps ns n = groupsLine n ++ groupTexts ps ns n
+
+-- a clause set that was found in r rounds
+unfoldable pub setText : List (List ℕ) → ℕ → List ℕ
+setText C r = countsLine (length C) r ++ each clauseLine C
+
 -- a finding
 abbrev pub findingOf : List (List ℕ) → ℕ → Found
 findingOf C r = record { clauses = C; rounds = r }
 
--- the input's bytes: four or more, even, at most 16,388
+-- the input's bytes: four or more, even, not too many
 abbrev pub isInput : List ℕ → Bool
-isInput bs = leb 4 (length bs) && eqb (length bs % 2) 0 && leb (length bs) 16388
+isInput bs = leb 4 (length bs) && eqb (length bs % 2) 0 && leb (length bs) mostInput
+
+-- the synthesis for the words of an input: n, limit, image
+abbrev pub inputAnswer : List ℕ → Answer Found
+inputAnswer w = synthesis (drop 2 w) (getD w 0 0) (getD w 1 0) (width * mostRows) (width * mostRows) mostLiterals
 
 -- the text of the words of an input
 unfoldable pub wordsText : List ℕ → List ℕ
-wordsText w =
-    elim (synthesis (drop 2 w) (getD w 0 0) (getD w 1 0) (width * mostRows) (width * mostRows) 2048)
-    [ finding x ↦ foundText (getD w 2 0) x | refused r ↦ refusedText r ]
+wordsText w = elim (inputAnswer w) [ finding x ↦ foundText (getD w 2 0) x | refused r ↦ refusedText r ]

@@ -3,8 +3,8 @@ ghost use mathlib.Core.Path.{_≡_};
 ghost use Prim.Native.Nat.{_+_, _*_, _≤_, _<_};
 ghost use lib.ListN.{length, getD};
 ghost use Rattle.definitions.specs.Lists.{each, below};
-ghost use Rattle.groups.specs.Writing.{Wrote};
-ghost use Rattle.card.specs.Text.{memberText, noneText, groupText, groupTexts};
+ghost use Rattle.writing.specs.Writing.{Wrote};
+ghost use Rattle.card.specs.Text.{memberText, noneText, groupText, groupTexts, coverText};
 
 // Writes an atom if it lies in group `v`. Its value says how many atoms stand before it.
 fn write_member(out: &mut [u8], at: usize, places: &[u16], v: usize, a: usize) -> usize
@@ -20,7 +20,7 @@ fn write_member(out: &mut [u8], at: usize, places: &[u16], v: usize, a: usize) -
     super::text::write_decimal(out, to, a)
 }
 
-// Writes "none" behind the atoms if it is a value of the group.
+// Writes "none" after the atoms if it is a value of the group.
 fn write_none(out: &mut [u8], at: usize, none: u16) -> usize
     requires { ⌜ at + length (noneText none) ≤ length (now out) ⌝ }
     ensures { λ r. ⌜ Wrote (now (out .entry)) at (noneText none) (now (out .exit)) r ⌝ }
@@ -28,7 +28,7 @@ fn write_none(out: &mut [u8], at: usize, none: u16) -> usize
     if none == 0 {
         return at;
     }
-    super::text::write_word(out, at, b" none")
+    writing::bytes(b" none", out, at)
 }
 
 // Writes the line of group `v`.
@@ -44,11 +44,11 @@ fn write_group(out: &mut [u8], at: usize, places: &[u16], v: usize, none: u16) -
         a += 1;
     }
     let end = write_none(out, to, none);
-    super::text::write_byte(out, end, b'\n')
+    writing::byte(b'\n', out, end)
 }
 
 // Writes the lines of `count` groups, of which `none` says whether none is a value.
-pub fn write_groups(out: &mut [u8], at: usize, places: &[u16], none: &[u16], count: usize) -> usize
+fn write_groups(out: &mut [u8], at: usize, places: &[u16], none: &[u16], count: usize) -> usize
     requires { ⌜ (count ≤ length (now none)) × (at + length (groupTexts (now places) (now none) count) ≤ length (now out)) ⌝ }
     ensures { λ r. ⌜ Wrote (now (out .entry)) at (groupTexts (now (places .entry)) (now (none .entry)) count) (now (out .exit)) r ⌝ }
 {
@@ -59,4 +59,13 @@ pub fn write_groups(out: &mut [u8], at: usize, places: &[u16], none: &[u16], cou
         v += 1;
     }
     to
+}
+
+// Writes the lines of a cover by `count` groups.
+pub fn write_cover(out: &mut [u8], at: usize, places: &[u16], none: &[u16], count: usize) -> usize
+    requires { ⌜ (count ≤ length (now none)) × (at + length (coverText (now places) (now none) count) ≤ length (now out)) ⌝ }
+    ensures { λ r. ⌜ Wrote (now (out .entry)) at (coverText (now (places .entry)) (now (none .entry)) count) (now (out .exit)) r ⌝ }
+{
+    let to = super::line::write_count(out, at, count);
+    write_groups(out, to, places, none, count)
 }

@@ -1,22 +1,32 @@
 // The lines of the card but those of groups.
+use literal::Literal;
 ghost use mathlib.Core.Path.{_≡_};
-ghost use mathlib.Core.List.{[], _∷_};
+ghost use mathlib.Core.List.{[], _∷_, _++_};
 ghost use Prim.Native.Nat.{_+_, _≤_, _<_};
 ghost use lib.ListN.{length};
 ghost use Rattle.definitions.specs.Lists.{each};
 ghost use Rattle.definitions.specs.Card.{decimal, clauseLine, refusedText, line};
 ghost use Rattle.answer.specs.Answer.{placed};
 ghost use Rattle.clause.specs.Rows.{clausesOf};
-ghost use Rattle.groups.specs.Writing.{Wrote};
-ghost use Rattle.card.specs.Text.{countsLine, groupsLine};
+ghost use Rattle.writing.specs.Writing.{Wrote};
+ghost use Rattle.card.specs.Text.{countsLine, setText, groupsLine};
 
-// Writes a number as a field behind another.
+// Writes a number as a field after another.
 fn write_number(out: &mut [u8], at: usize, n: usize) -> usize
     requires { ⌜ at + length (32 ∷ decimal n) ≤ length (now out) ⌝ }
     ensures { λ r. ⌜ Wrote (now (out .entry)) at (32 ∷ decimal n) (now (out .exit)) r ⌝ }
 {
-    let to = super::text::write_byte(out, at, b' ');
+    let to = writing::byte(b' ', out, at);
     super::text::write_decimal(out, to, n)
+}
+
+// Writes a word, and a number as the field after it.
+fn write_named(out: &mut [u8], at: usize, word: &[u8], n: usize) -> usize
+    requires { ⌜ at + length (now word ++ (32 ∷ decimal n)) ≤ length (now out) ⌝ }
+    ensures { λ r. ⌜ Wrote (now (out .entry)) at (now (word .entry) ++ (32 ∷ decimal n)) (now (out .exit)) r ⌝ }
+{
+    let to = writing::bytes(word, out, at);
+    write_number(out, to, n)
 }
 
 // Writes the line of a clause.
@@ -27,15 +37,16 @@ fn write_clause(out: &mut [u8], at: usize, literals: &[u16]) -> usize
     let mut to = at;
     let mut i: usize = 0;
     while i < literals.len() {
+        let l = literals[i];
         to = super::text::separate(out, to, i);
-        to = super::text::write_literal(out, to, literal::wide(literals[i]));
+        to = super::text::write_literal(out, to, Literal { code: l });
         i += 1;
     }
-    super::text::write_byte(out, to, b'\n')
+    writing::byte(b'\n', out, to)
 }
 
 // Writes the lines of all rows.
-pub fn write_clauses(out: &mut [u8], at: usize, clauses: &[u16]) -> usize
+fn write_clauses(out: &mut [u8], at: usize, clauses: &[u16]) -> usize
     requires { ⌜ at + length (each clauseLine (clausesOf (now clauses))) ≤ length (now out) ⌝ }
     ensures { λ r. ⌜ Wrote (now (out .entry)) at (each clauseLine (clausesOf (now (clauses .entry)))) (now (out .exit)) r ⌝ }
 {
@@ -55,23 +66,30 @@ pub fn write_refusal(out: &mut [u8], at: usize, f: answer::Refusal) -> usize
     requires { ⌜ at + length (refusedText (placed f)) ≤ length (now out) ⌝ }
     ensures { λ r. ⌜ Wrote (now (out .entry)) at (refusedText (placed f)) (now (out .exit)) r ⌝ }
 {
-    let named = super::text::write_word(out, at, b"refused");
-    let numbered = write_number(out, named, literal::wide(f.number));
-    let first = write_number(out, numbered, f.first);
-    let second = write_number(out, first, f.second);
-    super::text::write_byte(out, second, b'\n')
+    let number = literal::wide(f.number);
+    let first = write_named(out, at, b"refused", number);
+    let second = write_number(out, first, f.first);
+    let end = write_number(out, second, f.second);
+    writing::byte(b'\n', out, end)
 }
 
 // Writes the line of the numbers of clauses and rounds.
-pub fn write_counts(out: &mut [u8], at: usize, clauses: usize, rounds: usize) -> usize
+fn write_counts(out: &mut [u8], at: usize, clauses: usize, rounds: usize) -> usize
     requires { ⌜ at + length (countsLine clauses rounds) ≤ length (now out) ⌝ }
     ensures { λ r. ⌜ Wrote (now (out .entry)) at (countsLine clauses rounds) (now (out .exit)) r ⌝ }
 {
-    let named = super::text::write_word(out, at, b"clauses");
-    let counted = write_number(out, named, clauses);
-    let next = super::text::write_word(out, counted, b" rounds");
-    let end = write_number(out, next, rounds);
-    super::text::write_byte(out, end, b'\n')
+    let next = write_named(out, at, b"clauses", clauses);
+    let end = write_named(out, next, b" rounds", rounds);
+    writing::byte(b'\n', out, end)
+}
+
+// Writes the lines of a clause set that was found in a number of rounds.
+pub fn write_set(out: &mut [u8], at: usize, clauses: &[u16], rounds: usize) -> usize
+    requires { ⌜ at + length (setText (clausesOf (now clauses)) rounds) ≤ length (now out) ⌝ }
+    ensures { λ r. ⌜ Wrote (now (out .entry)) at (setText (clausesOf (now (clauses .entry))) rounds) (now (out .exit)) r ⌝ }
+{
+    let to = write_counts(out, at, clause::rows(clauses), rounds);
+    write_clauses(out, to, clauses)
 }
 
 // Writes the line of the number of groups.
@@ -79,7 +97,6 @@ pub fn write_count(out: &mut [u8], at: usize, groups: usize) -> usize
     requires { ⌜ at + length (groupsLine groups) ≤ length (now out) ⌝ }
     ensures { λ r. ⌜ Wrote (now (out .entry)) at (groupsLine groups) (now (out .exit)) r ⌝ }
 {
-    let named = super::text::write_word(out, at, b"groups");
-    let end = write_number(out, named, groups);
-    super::text::write_byte(out, end, b'\n')
+    let end = write_named(out, at, b"groups", groups);
+    writing::byte(b'\n', out, end)
 }

@@ -1,36 +1,14 @@
-// Writing of bytes into a lent buffer, from a place on. Each function gives the place behind the bytes that it wrote.
+// Numbers and literals written into a lent buffer, from a place on. Each function gives the place after the bytes that it wrote.
+use literal::Literal;
 ghost use mathlib.Core.Path.{_≡_};
 ghost use mathlib.Core.List.{[], _∷_};
 ghost use Prim.Native.Nat.{_+_, _%_, _≤_, _<_};
 ghost use lib.ListN.{length, drop};
 ghost use Rattle.definitions.specs.Card.{decimal, literalText};
-ghost use Rattle.groups.specs.Writing.{Wrote};
+ghost use Rattle.writing.specs.Writing.{Wrote};
 ghost use Rattle.card.specs.Text.{separator, signOf};
 
-pub fn write_byte(out: &mut [u8], at: usize, byte: u8) -> usize
-    requires { ⌜ at < length (now out) ⌝ }
-    ensures { λ r. ⌜ Wrote (now (out .entry)) at (byte ∷ []) (now (out .exit)) r ⌝ }
-{
-    out[at] = byte;
-    at + 1
-}
-
-// Writes the bytes of a word.
-pub fn write_word(out: &mut [u8], at: usize, word: &[u8]) -> usize
-    requires { ⌜ at + length (now word) ≤ length (now out) ⌝ }
-    ensures { λ r. ⌜ Wrote (now (out .entry)) at (now (word .entry)) (now (out .exit)) r ⌝ }
-{
-    let mut to = at;
-    let mut i: usize = 0;
-    while i < word.len() {
-        out[to] = word[i];
-        to += 1;
-        i += 1;
-    }
-    to
-}
-
-// Writes what stands in front of field `i` of a line: a space, save of the first.
+// Writes what stands before field `i` of a line: a space, but nothing before the first.
 pub fn separate(out: &mut [u8], at: usize, i: usize) -> usize
     requires { ⌜ at + length (separator i) ≤ length (now out) ⌝ }
     ensures { λ r. ⌜ Wrote (now (out .entry)) at (separator i) (now (out .exit)) r ⌝ }
@@ -38,7 +16,7 @@ pub fn separate(out: &mut [u8], at: usize, i: usize) -> usize
     if i == 0 {
         return at;
     }
-    write_byte(out, at, b' ')
+    writing::byte(b' ', out, at)
 }
 
 // The last digit of a number.
@@ -73,21 +51,21 @@ pub fn write_decimal(out: &mut [u8], at: usize, n: usize) -> usize
 {
     let mut room = [0u8; 20];
     let first = fill_digits(&mut room, n);
-    write_word(out, at, &room[first..])
+    writing::bytes(&room[first..], out, at)
 }
 
 // The sign of a literal.
-fn sign(l: usize) -> u8
-    ensures { λ r. ⌜ r ≡ signOf l ⌝ }
+fn sign(l: Literal) -> u8
+    ensures { λ r. ⌜ r ≡ signOf (l .code) ⌝ }
 {
-    if l % 2 == 0 { b'+' } else { b'-' }
+    if l.is_positive() { b'+' } else { b'-' }
 }
 
 // Writes a literal: its sign and atom.
-pub fn write_literal(out: &mut [u8], at: usize, l: usize) -> usize
-    requires { ⌜ at + length (literalText l) ≤ length (now out) ⌝ }
-    ensures { λ r. ⌜ Wrote (now (out .entry)) at (literalText l) (now (out .exit)) r ⌝ }
+pub fn write_literal(out: &mut [u8], at: usize, l: Literal) -> usize
+    requires { ⌜ at + length (literalText (l .code)) ≤ length (now out) ⌝ }
+    ensures { λ r. ⌜ Wrote (now (out .entry)) at (literalText (l .code)) (now (out .exit)) r ⌝ }
 {
-    let to = write_byte(out, at, sign(l));
-    write_decimal(out, to, l / 2)
+    let to = writing::byte(sign(l), out, at);
+    write_decimal(out, to, l.atom())
 }

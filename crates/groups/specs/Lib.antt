@@ -1,5 +1,1 @@
-pub mod Mutex
-pub mod Join
-pub mod None
-pub mod Writing
-pub mod Cover
+pub mod Groups

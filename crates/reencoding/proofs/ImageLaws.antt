@@ -26,14 +26,17 @@ use Rattle.task.specs.Walk.{row}
 use Rattle.task.proofs.Questions.{task-read, operator-right}
 use Rattle.clause.specs.Rows.{clausesOf}
 use Rattle.clause.proofs.ClauseLaws.{list-below}
-use Rattle.groups.specs.Join.{Placed}
-use Rattle.groups.specs.Cover.{Covered}
-use Rattle.groups.specs.Writing.{Wrote, domainBy}
-use Rattle.groups.proofs.Writes.{wrote-both, domains-size}
-use Rattle.groups.proofs.Joining.{variable-low}
-use Rattle.groups.proofs.Covering.{domains-are, places-are, fits-not, fits-done}
+use Rattle.cover.specs.Join.{Placed}
+use Rattle.cover.specs.Cover.{Covered}
+use Rattle.writing.specs.Writing.{Wrote}
+use Rattle.cover.specs.Domains.{domainBy}
+use Rattle.writing.proofs.Writes.{wrote-same, wrote-both}
+use Rattle.cover.proofs.DomainLaws.{domains-size}
+use Rattle.cover.proofs.Joining.{variable-low}
+use Rattle.cover.proofs.Covering.{domains-are, places-are}
+use Rattle.writing.proofs.Target.{fits-not, fits-done}
 use Rattle.checker.specs.Accepts.{Accepts}
-use Rattle.groups.proofs.Accepting.{call-refused, call-accepted}
+use Rattle.checker.proofs.Written.{call-refused, call-accepted}
 use Rattle.reencoding.specs.Words.{atomsOf, literalBy, literalsBy, countedBy, rowBy, rowsBy, operatorBy}
 use Rattle.reencoding.specs.Parts.{sum, wordsOf, lengthsOf, partsStart, imageSize, pairsOf, headerBy, lowered, operatorsBy, imageBy}
 use Rattle.reencoding.specs.Image.{Laid, encodeAnswer}
@@ -261,7 +264,7 @@ module _ (w : List ℕ) (rd : Reads w) (C : List (List ℕ)) (ps ss ns : List �
         let b = image-length in
         let e : size ≡ length (encodedImage t C) = omega arith in
         ap (λ (k : ℕ). outcome (finding k) new) e
-        ∙ fits-done (length (encodedImage t C)) (encodedImage t C) old (omega arith) new end (rw image-is wrote)
+        ∙ fits-done (length (encodedImage t C)) (encodedImage t C) old (omega arith) (wrote-same image-is wrote)
 
 -- ---- the call
 module _ (w c : List ℕ) (marks : ℕ) (old : List ℕ) where
@@ -318,8 +321,4 @@ module _ (w : List ℕ) (rd : Reads w) (ps ss ns : List ℕ) (n : ℕ) (lay : La
       let l = lowered ps (taskOf w .initial) (take n ss) in
       let g = literalsBy ps (taskOf w .goal) in
       let o = operatorsBy ps (taskOf w .operators) in
-      wrote-both t₀ 0 (headerBy n (taskOf w)) (d ++ (ps ++ (l ++ (g ++ o)))) t₁ t₆ e₁ e₆ w₁
-      (wrote-both t₁ e₁ d (ps ++ (l ++ (g ++ o))) t₂ t₆ e₂ e₆ w₂
-      (wrote-both t₂ e₂ ps (l ++ (g ++ o)) t₃ t₆ e₃ e₆ w₃
-      (wrote-both t₃ e₃ l (g ++ o) t₄ t₆ e₄ e₆ w₄
-      (wrote-both t₄ e₄ g o t₅ t₆ e₅ e₆ w₅ w₆))))
+      wrote-both w₁ (wrote-both w₂ (wrote-both w₃ (wrote-both w₄ (wrote-both w₅ w₆))))

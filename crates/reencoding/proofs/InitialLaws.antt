@@ -20,10 +20,10 @@ use Rattle.definitions.proofs.Walks.{left-here}
 use Rattle.definitions.proofs.GroupLaws.{in-mem, mem-in, all-below}
 use Rattle.definitions.proofs.PlaceLaws as places
 use Rattle.definitions.proofs.ListLaws.{getD-map-low}
-use Rattle.groups.specs.Join.{Placed}
-use Rattle.groups.specs.Cover.{Covered}
-use Rattle.groups.proofs.Joining.{at-variable, variable-at, variable-low}
-use Rattle.groups.specs.Writing.{Wrote}
+use Rattle.cover.specs.Join.{Placed}
+use Rattle.cover.specs.Cover.{Covered}
+use Rattle.cover.proofs.Joining.{at-variable, variable-at, variable-low}
+use Rattle.writing.specs.Writing.{Wrote}
 use Rattle.clause.proofs.ClauseLaws.{low-at}
 use Rattle.reencoding.specs.Words.{atomsOf}
 use Rattle.reencoding.specs.Parts.{lower, lowered}

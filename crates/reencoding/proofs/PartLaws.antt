@@ -17,8 +17,8 @@ use Rattle.task.specs.Reads.{taskOf, Reads}
 use Rattle.task.specs.Walk.{operatorIn}
 use Rattle.task.specs.Post.{BlockGiven}
 use Rattle.task.proofs.Questions.{operator-right}
-use Rattle.groups.specs.Writing.{Wrote}
-use Rattle.groups.proofs.Writes.{wrote-both}
+use Rattle.writing.specs.Writing.{Wrote}
+use Rattle.writing.proofs.Writes.{wrote-both}
 use Rattle.reencoding.specs.Words.{atomsOf, operatorBy}
 use Rattle.reencoding.specs.Parts.{sum, wordsOf, lengthsOf, partsStart, imageSize, pairsOf, headerBy, operatorsBy}
 use Rattle.reencoding.proofs.SizeLaws.{block-sized, operator-length}
@@ -145,13 +145,13 @@ module _ (n : ℕ) (t : Task) where
       rest = pairsOf (10 + 2 * m + 2 * n + 2 * a + n + 2 * g) (map wordsOf (t .operators))
 
       four : Wrote t₃ e₃ (((10 + 2 * m + 2 * n + 2 * a + n) ∷ 2 * g ∷ []) ++ rest) t₅ e₅
-      four = wrote-both t₃ e₃ ((10 + 2 * m + 2 * n + 2 * a + n) ∷ 2 * g ∷ []) rest t₄ t₅ e₄ e₅ w₄ w₅
+      four = wrote-both w₄ w₅
 
       three : Wrote t₂ e₂ ((10 + 2 * m + 2 * n + 2 * a) ∷ n ∷ (10 + 2 * m + 2 * n + 2 * a + n) ∷ 2 * g ∷ rest) t₅ e₅
-      three = wrote-both t₂ e₂ ((10 + 2 * m + 2 * n + 2 * a) ∷ n ∷ []) ((10 + 2 * m + 2 * n + 2 * a + n) ∷ 2 * g ∷ rest) t₃ t₅ e₃ e₅ w₃ four
+      three = wrote-both w₃ four
 
       two : Wrote t₁ e₁ ((10 + 2 * m + 2 * n) ∷ 2 * a ∷ (10 + 2 * m + 2 * n + 2 * a) ∷ n ∷ (10 + 2 * m + 2 * n + 2 * a + n) ∷ 2 * g ∷ rest) t₅ e₅
-      two = wrote-both t₁ e₁ ((10 + 2 * m + 2 * n) ∷ 2 * a ∷ []) ((10 + 2 * m + 2 * n + 2 * a) ∷ n ∷ (10 + 2 * m + 2 * n + 2 * a + n) ∷ 2 * g ∷ rest) t₂ t₅ e₂ e₅ w₂ three
+      two = wrote-both w₂ three
 
       all : Wrote (set (set t₀ 0 n) 1 m) 2 ((10 + 2 * m) ∷ 2 * n ∷ (10 + 2 * m + 2 * n) ∷ 2 * a ∷ (10 + 2 * m + 2 * n + 2 * a) ∷ n ∷ (10 + 2 * m + 2 * n + 2 * a + n) ∷ 2 * g ∷ rest) t₅ e₅
-      all = wrote-both (set (set t₀ 0 n) 1 m) 2 ((10 + 2 * m) ∷ 2 * n ∷ []) ((10 + 2 * m + 2 * n) ∷ 2 * a ∷ (10 + 2 * m + 2 * n + 2 * a) ∷ n ∷ (10 + 2 * m + 2 * n + 2 * a + n) ∷ 2 * g ∷ rest) t₁ t₅ e₁ e₅ w₁ two
+      all = wrote-both w₁ two

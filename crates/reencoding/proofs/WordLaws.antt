@@ -15,8 +15,8 @@ use Rattle.definitions.proofs.ListLaws.{and-left, and-right}
 use Rattle.definitions.proofs.Walks.{left-here}
 use Rattle.task.specs.Walk.{row}
 use Rattle.clause.proofs.ClauseLaws.{list-below}
-use Rattle.groups.specs.Writing.{Wrote, Writing}
-use Rattle.groups.proofs.Writes.{write-two, write-same}
+use Rattle.writing.specs.Writing.{Wrote, Writing}
+use Rattle.writing.proofs.Writes.{write-two, write-same}
 use Rattle.clause.proofs.ClauseLaws.{low-at}
 use Rattle.reencoding.specs.Words.{atomsOf, literalBy, literalsBy, countedBy, rowBy, rowsBy, operatorBy}
 

@@ -5,7 +5,7 @@ use lib.ListN.{length, getD, set, take}
 use Rattle.definitions.specs.Lists.{each, below}
 use Rattle.definitions.specs.Image.{Operator, Task}
 use Rattle.definitions.specs.Image.{operatorSize}
-use Rattle.groups.specs.Writing.{domainBy}
+use Rattle.cover.specs.Domains.{domainBy}
 use Rattle.reencoding.specs.Words.{literalsBy, operatorBy}
 
 unfoldable pub sum : List ℕ → ℕ

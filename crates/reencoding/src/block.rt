@@ -7,7 +7,7 @@ ghost use Rattle.definitions.specs.Lists.{all};
 ghost use Rattle.definitions.specs.Literal.{allBelow, literalList};
 ghost use Rattle.definitions.specs.Image.{rowRight, operatorRight};
 ghost use Rattle.task.specs.Walk.{row, blockParses, operatorIn, parsesAt, rowsAt};
-ghost use Rattle.groups.specs.Writing.{Wrote};
+ghost use Rattle.writing.specs.Writing.{Wrote};
 ghost use Rattle.reencoding.specs.Words.{atomsOf, literalsBy, countedBy, rowBy, rowsBy, operatorBy, Ready};
 
 // Writes literals: of each the variable, and twice the value, plus 1 if it is negated.

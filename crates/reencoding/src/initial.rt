@@ -4,7 +4,7 @@ ghost use mathlib.Core.Bool.{true};
 ghost use Prim.Native.Nat.{ℕ, _+_, _*_, _≤_, _<_};
 ghost use lib.ListN.{length, getD, take};
 ghost use Rattle.definitions.specs.Literal.{allBelow};
-ghost use Rattle.groups.specs.Writing.{Wrote};
+ghost use Rattle.writing.specs.Writing.{Wrote};
 ghost use Rattle.reencoding.specs.Words.{atomsOf};
 ghost use Rattle.reencoding.specs.Parts.{lower, lowered};
 
@@ -43,7 +43,7 @@ pub fn values(
     requires { ⌜ (allBelow (atomsOf (now places)) (now trues) ≡ true) × ((a : ℕ) → a < atomsOf (now places) → getD (now places) (2 * a) 0 < count) × (count ≤ length (now sizes)) × (at + count ≤ length (now target)) ⌝ }
     ensures { λ r. ⌜ Wrote (now (target .entry)) at (lowered (now (places .entry)) (now (trues .entry)) (take count (now (sizes .entry)))) (now (target .exit)) r ⌝ }
 {
-    let end = groups::write::copy(&sizes[..count], target, at);
+    let end = writing::words(&sizes[..count], target, at);
     lower_all(trues, places, &mut target[at..end]);
     end
 }

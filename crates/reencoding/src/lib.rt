@@ -8,8 +8,8 @@ ghost use Rattle.definitions.specs.Encoding.{encodeCall};
 ghost use Rattle.answer.specs.Answer.{countAnswer};
 ghost use Rattle.task.specs.Reads.{taskOf, Reads};
 ghost use Rattle.clause.specs.Rows.{clausesOf, ClausesRead};
-ghost use Rattle.groups.specs.Cover.{Room};
-ghost use Rattle.groups.specs.Writing.{Wrote};
+ghost use Rattle.cover.specs.Cover.{Room};
+ghost use Rattle.writing.specs.Writing.{Wrote};
 ghost use Rattle.reencoding.specs.Parts.{imageBy};
 ghost use Rattle.reencoding.specs.Image.{Laid, encodeAnswer};
 
@@ -30,8 +30,8 @@ fn write_image(
     ensures { λ r. ⌜ Wrote (now (target .entry)) 0 (imageBy (taskOf (now (image .entry))) (now (places .entry)) (now (sizes .entry)) (now (none .entry)) count) (now (target .exit)) r ⌝ }
 {
     let domains = parts::header(image, count, target);
-    let atoms = groups::write::domains(sizes, none, count, target, domains);
-    let values = groups::write::copy(places, target, atoms);
+    let atoms = cover::domains(sizes, none, count, target, domains);
+    let values = writing::words(places, target, atoms);
     let goal = initial::values(task::initial(image), places, sizes, count, target, values);
     let operators = block::literals(task::goal(image), places, target, goal);
     parts::operators(image, places, target, operators)
@@ -51,7 +51,7 @@ fn write_task(
     ensures { λ r. ⌜ outcome (countAnswer r) (now (target .exit)) ≡ written (now (target .entry)) (encodeAnswer (taskOf (now (image .entry))) (clausesOf (now (clauses .entry))) (length (now (target .entry)))) ⌝ }
 {
     let atoms = task::atoms(image);
-    let count = groups::cover(clauses, atoms, places, sizes, none);
+    let count = cover::cover(clauses, atoms, places, sizes, none);
     let words = parts::size(image, count);
     if target.len() < words {
         return answer::Counted::Refused(answer::Refusal {

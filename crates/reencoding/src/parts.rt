@@ -5,7 +5,7 @@ ghost use Prim.Native.Nat.{ℕ, _+_, _*_, _≤_, _<_};
 ghost use lib.ListN.{length, getD};
 ghost use Rattle.definitions.specs.Step.{operatorAt};
 ghost use Rattle.task.specs.Reads.{taskOf, Reads};
-ghost use Rattle.groups.specs.Writing.{Wrote};
+ghost use Rattle.writing.specs.Writing.{Wrote};
 ghost use Rattle.reencoding.specs.Words.{atomsOf, Ready};
 ghost use Rattle.reencoding.specs.Parts.{sum, wordsOf, imageSize, pairsOf, headerBy, operatorsBy};
 

@@ -44,6 +44,16 @@ module _ {t words new : List ℕ} {end : ℕ} where
 pub wrote-nothing : {t : List ℕ} {at : ℕ} {words : List ℕ} → words ≡ [] → Wrote t at words t at
 wrote-nothing {words = words} e = record { target = rw e; next = (let h : length words ≡ 0 = rw e in omega arith) }
 
+-- three words, and those after them
+pub wrote-three :
+    {t : List ℕ} {at x y z : ℕ} {ws new : List ℕ} {end : ℕ}
+    → Wrote (set (set (set t at x) (at + 1) y) (at + 2) z) (at + 3) ws new end → Wrote t at (x ∷ y ∷ z ∷ ws) new end
+wrote-three {at = at} w =
+    let a : at + 1 ≡ suc at = omega arith in
+    let b : at + 2 ≡ suc (suc at) = omega arith in
+    let c : at + 3 ≡ suc (suc (suc at)) = omega arith in
+    record { target = w .target ∙ rw (a, b, c); next = (let n = w .next in omega arith) }
+
 pub wrote-pair : (t : List ℕ) (at x y : ℕ) → Wrote t at (x ∷ y ∷ []) (set (set t at x) (at + 1) y) (at + 2)
 wrote-pair t at x y = record { target = rw add-one; next = refl }
 
@@ -92,9 +102,9 @@ module _ {t : List ℕ} {start : ℕ} {words now′ : List ℕ} {at : ℕ} where
       }
 
   pub write-part :
-      {part left after : List ℕ} {end : ℕ} → Wrote now′ at part after end → Writing t start words now′ at (part ++ left)
+      {part left after : List ℕ} {end : ℕ} → Writing t start words now′ at (part ++ left) → Wrote now′ at part after end
       → Writing t start words after end left
-  write-part {part = part} {left = left} e w =
+  write-part {part = part} {left = left} w e =
       record {
         target = w .target ∙ rw (e .target, e .next) (sets-append now′ at part left);
         place = (let p = w .place in let q = length-append part left in let n = e .next in omega arith);
@@ -104,9 +114,12 @@ module _ {t : List ℕ} {start : ℕ} {words now′ : List ℕ} {at : ℕ} where
   pub write-end : Writing t start words now′ at [] → Wrote t start words now′ at
   write-end w = record { target = sym (w .target); next = (let p = w .place in omega arith) }
 
-  -- what is left finds room, and so does its first part
+  -- what is left finds room, and so does its first word or part
   pub write-room : {left : List ℕ} → Writing t start words now′ at left → start + length words ≤ length t → at + length left ≤ length now′
   write-room w room = let p = w .place in let s = w .size in omega arith
+
+  pub word-room : {x : ℕ} {left : List ℕ} → Writing t start words now′ at (x ∷ left) → start + length words ≤ length t → at < length now′
+  word-room w room = let r = write-room w room in omega arith
 
   pub part-room :
       (part left : List ℕ) → Writing t start words now′ at (part ++ left) → start + length words ≤ length t
@@ -117,8 +130,11 @@ module _ {t : List ℕ} {start : ℕ} {words now′ : List ℕ} {at : ℕ} where
       omega arith
 
 module _ {t : List ℕ} {start : ℕ} {words now′ : List ℕ} {at : ℕ} where
-  pub write-two : {x y : ℕ} {left : List ℕ} → Writing t start words now′ at (x ∷ y ∷ left) → Writing t start words (set (set now′ at x) (at + 1) y) (at + 2) left
+  pub write-two :
+      {x y : ℕ} {left : List ℕ} → Writing t start words now′ at (x ∷ y ∷ left)
+      → Writing t start words (set (set now′ at x) (at + 1) y) (at + 2) left
   write-two w = let e : at + 2 ≡ at + 1 + 1 = omega arith in rw e (write-word (write-word w))
 
-  pub write-last : {part after : List ℕ} {end : ℕ} → Wrote now′ at part after end → Writing t start words now′ at part → Wrote t start words after end
-  write-last {part = part} e w = write-end (write-part e (write-same (sym (append-nil part)) w))
+  pub write-last :
+      {part after : List ℕ} {end : ℕ} → Writing t start words now′ at part → Wrote now′ at part after end → Wrote t start words after end
+  write-last {part = part} w e = write-end (write-part (write-same (sym (append-nil part)) w) e)

@@ -1,16 +1,52 @@
-use denote.Ref.{now}
+use Prim.Native.Nat.{ℕ, _≤_}
+use mathlib.Core.Bool.{true}
 use mathlib.Core.List.{List}
-use Prim.Native.Nat.{ℕ}
-use mathlib.Core.Path.{sym, _∙_, ap, subst}
+use mathlib.Core.Path.{_≡_, sym, _∙_, ap}
 use native.Mathlib.Omega.{arith}
+use lib.ListN.{length, take}
 use lib.Seq.{length-take-le}
 use borrow.Author.Tests.{not-true, not-false}
-use Rattle.groups.specs.Writing.{Wrote}
-use Rattle.card.specs.Text.{wordsText}
+use Rattle.definitions.specs.Card.{wordsOf}
+use Rattle.writing.proofs.Writes.{wrote-same}
+use Rattle.card.specs.Text.{isInput, wordsText}
 use Rattle.card.proofs.CardText.{card-short, card-words, input-size, words-inside, words-taken}
 use borrow.Author.Needs.{needs}
 use Rattle.card.proofs.write_input.Statement.{statement}
 use Rattle.card.proofs.write_input.Tie as tie
+
+abbrev start : tie.After-is-input → tie.Start
+start c = c .before .before .before
+
+abbrev bytes : tie.After-is-input → List ℕ
+bytes c = start c .args .input .now
+
+-- the bytes are refused
+abbrev refused : tie.After-write-refused → tie.After-write-refused-arg
+refused c = c .before
+
+-- the bytes are an input
+is-input : (e : tie.Else1) → isInput (bytes (e .before)) ≡ true
+is-input e = sym (e .before .is-input .ensures) ∙ not-false (e .before .is-input .result) (e .if1 .left)
+
+-- its words are written
+abbrev input : tie.After-words-of → tie.Else1
+input c = c .before .before .before
+
+abbrev room : tie.After-words-of → tie.After-word-room
+room c = c .before .before
+
+inside : (c : tie.After-words-of) → (2 ≤ c .words-of .result) × (c .words-of .result ≤ length (c .words-of .last .1 .0))
+inside c =
+    let r = room c .word-room in
+    words-inside (bytes (input c .before)) (r .result) (c .words-of .last .1 .0) (c .words-of .result) (is-input (input c)) (r .ensures) (c .words-of .ensures)
+
+taken : (c : tie.After-words-of) → take (c .words-of .result) (c .words-of .last .1 .0) ≡ wordsOf (bytes (input c .before))
+taken c =
+    let r = room c .word-room in
+    words-taken (bytes (input c .before)) (r .result) (c .words-of .last .1 .0) (c .words-of .result) (is-input (input c)) (r .ensures) (c .words-of .ensures)
+
+abbrev words : tie.After-write-card-arg → tie.After-words-of
+words c = c .before .before .before
 
 is-input-requires : tie.Need-is-input-requires
 is-input-requires c κs = search needs
@@ -23,8 +59,11 @@ same-length c = search needs
 
 returns : tie.Need-returns
 returns c =
-    let e = card-short (now (c .before .before .before .before .before .before .before .before .args .input)) (sym (c .before .before .before .before .before .is-input .ensures) ∙ not-true (c .before .before .before .before .before .is-input .result) (c .before .before .before .before .if1 .taken)) in
-    subst (λ (z : List ℕ). Wrote (now (c .before .before .before .before .before .before .before .before .args .out)) 0 z (c .before .before .write-refused .last .0) (c .before .before .write-refused .result)) (sym e) (c .before .before .write-refused .ensures)
+    let w = c .before .before in
+    let t = w .before .before in
+    let i = t .before in
+    let e = card-short (bytes i) (sym (i .is-input .ensures) ∙ not-true (i .is-input .result) (t .if1 .taken)) in
+    wrote-same e (w .write-refused .ensures)
 
 word-room-requires : tie.Need-word-room-requires
 word-room-requires c κs = search needs
@@ -34,33 +73,33 @@ slice-aggregate-words-of c = search needs
 
 words-of-requires : tie.Need-words-of-requires
 words-of-requires c κs =
-    let i = input-size (now (c .before .before .before .before .before .before .args .input)) (sym (c .before .before .before .is-input .ensures) ∙ not-false (c .before .before .before .is-input .result) (c .before .before .if1 .left)) in
-    let h = i .1 in
+    let e = c .before .before in
+    let most = input-size (bytes (e .before)) (is-input e) .1 in
     let s = c .before .word-room .ensures in
     omega arith
 
 array-share-prefix-words : tie.Need-array-share-prefix-words
-array-share-prefix-words c = words-inside (now (c .before .before .before .before .before .before .before .before .args .input)) (c .before .before .before .word-room .result) (c .before .words-of .last .1 .0) (c .before .words-of .result) (sym (c .before .before .before .before .before .is-input .ensures) ∙ not-false (c .before .before .before .before .before .is-input .result) (c .before .before .before .before .if1 .left)) (c .before .before .before .word-room .ensures) (c .before .words-of .ensures) .1
+array-share-prefix-words c = inside (c .before) .1
 
 slice-aggregate-write-card : tie.Need-slice-aggregate-write-card
-slice-aggregate-write-card c = sym (length-take-le _ _ (words-inside (now (c .before .before .before .before .before .before .before .before .before .args .input)) (c .before .before .before .before .word-room .result) (c .before .before .words-of .last .1 .0) (c .before .before .words-of .result) (sym (c .before .before .before .before .before .before .is-input .ensures) ∙ not-false (c .before .before .before .before .before .before .is-input .result) (c .before .before .before .before .before .if1 .left)) (c .before .before .before .before .word-room .ensures) (c .before .before .words-of .ensures) .1))
+slice-aggregate-write-card c = sym (length-take-le _ _ (inside (c .before .before) .1))
 
 write-card-requires : tie.Need-write-card-requires
 write-card-requires c κs =
-    let e = words-inside (now (c .before .before .before .before .before .before .before .before .before .before .args .input)) (c .before .before .before .before .before .word-room .result) (c .before .before .before .words-of .last .1 .0) (c .before .before .before .words-of .result) (sym (c .before .before .before .before .before .before .before .is-input .ensures) ∙ not-false (c .before .before .before .before .before .before .before .is-input .result) (c .before .before .before .before .before .before .if1 .left)) (c .before .before .before .before .before .word-room .ensures) (c .before .before .before .words-of .ensures) in
-    let lo = e .0 in
-    let t = length-take-le (c .before .before .before .words-of .result) (c .before .before .before .words-of .last .1 .0) (e .1) in
-    (omega arith, c .before .before .before .before .before .before .before .before .before .before .pre)
+    let d = words c in
+    let least = inside d .0 in
+    let t = length-take-le (d .words-of .result) (d .words-of .last .1 .0) (inside d .1) in
+    (omega arith, start (input d .before) .pre)
 
 same-length-2 : tie.Need-same-length-2
 same-length-2 c = search needs
 
 returns-2 : tie.Need-returns-2
 returns-2 c =
-    let a = c .before .before .before .before .before .before .before .before .before .before .before .before .before .args in
-    let i = sym (c .before .before .before .before .before .before .before .before .before .before .is-input .ensures) ∙ not-false (c .before .before .before .before .before .before .before .before .before .before .is-input .result) (c .before .before .before .before .before .before .before .before .before .if1 .left) in
-    let t = words-taken (now (a .input)) (c .before .before .before .before .before .before .before .before .word-room .result) (c .before .before .before .before .before .before .words-of .last .1 .0) (c .before .before .before .before .before .before .words-of .result) i (c .before .before .before .before .before .before .before .before .word-room .ensures) (c .before .before .before .before .before .before .words-of .ensures) in
-    subst (λ (z : List ℕ). Wrote (now (a .out)) 0 z (c .before .before .write-card .last .1 .0) (c .before .before .write-card .result)) (ap wordsText t ∙ sym (card-words (now (a .input)) i)) (c .before .before .write-card .ensures)
+    let w = c .before .before in
+    let d = words (w .before) in
+    let i = input d in
+    wrote-same (card-words (bytes (i .before)) (is-input i) ∙ ap wordsText (sym (taken d))) (w .write-card .ensures)
 
 pub write-input-spec : {M : Type 1} → statement M
 write-input-spec =

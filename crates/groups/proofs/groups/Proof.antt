@@ -3,12 +3,12 @@ use lib.ListN.{length}
 use Rattle.answer.specs.Answer.{placed, verdictAnswer}
 use Rattle.checker.specs.Accepts.{Accepts}
 use Rattle.checker.proofs.Accepting.{accepted}
-use Rattle.groups.proofs.Accepting.{groups-refused, groups-accepted}
+use Rattle.groups.proofs.Calls.{groups-refused, groups-accepted}
 use borrow.Author.Needs.{needs}
 use Rattle.groups.proofs.groups.Statement.{statement}
 use Rattle.groups.proofs.groups.Tie as tie
 
--- behind the checker: the start, with the task image, the clause words and the bytes of marks
+-- after the checker: the start, with the task image, the clause words and the bytes of marks
 abbrev lent : tie.After-accept → tie.After-slice-known
 lent d = d .before .before .before
 

@@ -3,11 +3,31 @@ use Prim.Native.Nat.{ℕ}
 use lib.ListN.{length}
 use Rattle.definitions.specs.Groups.{written}
 use Rattle.clause.specs.Rows.{clausesOf, ClausesRead}
-use Rattle.groups.specs.Cover.{groupsAnswer}
-use Rattle.groups.proofs.Covering.{noPlaces, noSizes, allNone, places-taken, room-start}
+use Rattle.cover.proofs.Covering.{noPlaces, noSizes, allNone, places-taken, room-start}
+use Rattle.groups.specs.Groups.{groupsAnswer}
 use borrow.Author.Needs.{needs}
 use Rattle.groups.proofs.groups_read.Statement.{statement}
 use Rattle.groups.proofs.groups_read.Tie as tie
+
+-- where the number of atoms is known
+abbrev lent : tie.After-atoms → tie.After-shared-slice-known2
+lent c = c .before .before
+
+abbrev start : tie.After-atoms → tie.Start
+start c = lent c .before .before
+
+-- after the groups are written
+abbrev arrays : tie.After-write-groups → tie.After-sizes
+arrays c = c .before .before .before
+
+abbrev counted : tie.After-write-groups → tie.After-atoms
+counted c = arrays c .before .before
+
+abbrev back : tie.After-slice-known2 → tie.After-sizes2
+back c = c .before .before .before
+
+abbrev wrote : tie.After-slice-known2 → tie.After-write-groups
+wrote c = back c .before .before
 
 atoms-requires : tie.Need-atoms-requires
 atoms-requires c κs = search needs
@@ -31,17 +51,23 @@ slice-aggregate-write-groups-3 c = search needs
 write-groups-requires : tie.Need-write-groups-requires
 unfolding noPlaces noSizes allNone
 write-groups-requires c κs =
-    let s = c .before .before .before .before .before .before .before .before in
-    let a = c .before .before .before .before .atoms in
-    (subst (λ (k : ℕ). ClausesRead k (s .args .clauses .now)) (sym (a .ensures .0)) (s .pre .1), room-start (a .result) (a .ensures .1))
+    let p = c .before .before .before in
+    let d = p .before in
+    let a = d .atoms in
+    let s = start d in
+    let rows = subst (λ (k : ℕ). ClausesRead k (s .args .clauses .now)) (sym (a .ensures .0)) (s .pre .1) in
+    (rows, room-start (a .result) (a .ensures .1))
 
 same-length : tie.Need-same-length
 same-length c = search needs
 
 returns : tie.Need-returns
 returns c =
-    let s = c .before .before .before .before .before .before .before .before .before .before .before .before .before .before in
-    c .before .before .before .before .before .write-groups .ensures ∙ ap (λ (k : ℕ). written (s .args .target .now) (groupsAnswer k (clausesOf (s .args .clauses .now)) (length (s .args .target .now)))) (c .before .before .before .before .before .before .before .before .before .before .atoms .ensures .0)
+    let w = wrote c in
+    let d = counted w in
+    let t = start d .args .target .now in
+    let C = clausesOf (start d .args .clauses .now) in
+    w .write-groups .ensures ∙ ap (λ (k : ℕ). written t (groupsAnswer k C (length t))) (d .atoms .ensures .0)
 
 pub groups-read-spec : {M : Type 1} → statement M
 groups-read-spec =

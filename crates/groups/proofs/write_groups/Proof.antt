@@ -1,11 +1,27 @@
+use Prim.Native.Nat.{_+_, _*_, _≤_}
 use mathlib.Core.Path.{_≡_, _∙_}
 use native.Mathlib.Omega.{arith}
-use Rattle.definitions.specs.Lists.{below}
-use Rattle.groups.proofs.Writes.{domains-size}
-use Rattle.groups.proofs.Covering.{groups-not, groups-done}
+use lib.ListN.{length}
+use Rattle.answer.proofs.Laws.{outcome-of}
+use Rattle.cover.proofs.Covering.{domained}
+use Rattle.groups.proofs.Calls.{groups-not, groups-done}
 use borrow.Author.Needs.{needs}
 use Rattle.groups.proofs.write_groups.Statement.{statement}
 use Rattle.groups.proofs.write_groups.Tie as tie
+
+-- after the atoms are grouped: where the target's length is asked
+abbrev sizes-back : tie.After-slice-known7 → tie.After-sizes
+sizes-back c = c .before .before .before
+
+abbrev covered : tie.After-slice-known7 → tie.After-cover
+covered c = sizes-back c .before .before .before
+
+-- where the target is long enough
+abbrev lent : tie.After-write-parts-arg4 → tie.After-write-parts-arg
+lent c = c .before .before .before
+
+abbrev fits : tie.After-write-parts-arg4 → tie.Else1
+fits c = lent c .before
 
 cover-requires : tie.Need-cover-requires
 cover-requires c κs = search needs
@@ -19,6 +35,9 @@ mul-if1-2 c = search needs
 add-if1 : tie.Need-add-if1
 add-if1 c = search needs
 
+refuse-count-requires : tie.Need-refuse-count-requires
+refuse-count-requires c κs = search needs
+
 same-length : tie.Need-same-length
 same-length c = search needs
 
@@ -29,28 +48,18 @@ same-length-3 : tie.Need-same-length-3
 same-length-3 c = search needs
 
 returns : tie.Need-returns
-returns c = groups-not _ _ _ _ _ _ (c .before .before .before .before .before .before .before .cover .ensures) _ (c .if1 .taken)
+returns c =
+    let t = c .before in
+    let not = groups-not _ _ _ _ _ _ (covered (t .before) .cover .ensures) _ (t .if1 .taken) in
+    outcome-of _ _ _ _ (c .refuse-count .ensures) not
 
-domains-requires : tie.Need-domains-requires
-domains-requires c κs =
-    let v = c .before .before .before .before .before .before .before .before .before .before .cover .ensures in
-    let g = v .grouped in
-    let few = v .few in
-    let t = c .before .before .before .if1 .left in
-    let h = g .few in
-    let a = v .sizes in
-    let b = v .nones in
-    (omega arith, omega arith, omega arith, (λ w. let s = g .small w in omega arith), v .flags)
-
-copy-requires : tie.Need-copy-requires
-unfolding below
-copy-requires c κs =
-    let v = c .before .before .before .before .before .before .before .before .before .before .before .before .before .before .before .cover .ensures in
-    let t = c .before .before .before .before .before .before .before .before .if1 .left in
-    let e = c .before .before .before .before .domains .ensures .next in
-    let k = c .before .before .before .before .domains .kept .1 .1 .0 in
-    let p = v .places in
-    omega (arith, domains-size (c .before .before .before .before .before .before .before .before .before .before .before .before .before .before .before .cover .last .1 .1 .1 .0) (c .before .before .before .before .before .before .before .before .before .before .before .before .before .before .before .cover .last .1 .1 .1 .1 .0) 0 (c .before .before .before .before .before .before .before .before .before .before .before .before .before .before .before .cover .result))
+write-parts-requires : tie.Need-write-parts-requires
+write-parts-requires c κs =
+    let e = fits c in
+    let v = covered (e .before) .cover .ensures in
+    let places = v .places in
+    let room = e .if1 .left in
+    (domained _ _ _ _ _ _ v, omega arith)
 
 same-length-4 : tie.Need-same-length-4
 same-length-4 c = search needs
@@ -66,8 +75,9 @@ same-length-7 c = search needs
 
 returns-2 : tie.Need-returns-2
 returns-2 c =
-    let b = c .before .before .before .before .before .before .before .before .before .before .before .before .before .before .before .before .before .before in
-    groups-done _ _ _ _ _ _ (b .cover .ensures) _ (c .before .before .before .before .before .before .before .before .before .before .before .if1 .left) _ _ _ _ (c .before .before .before .before .before .before .before .domains .ensures) (c .before .before .copy .ensures)
+    let w = c .before .before in
+    let e = fits (w .before) in
+    groups-done _ _ _ _ _ _ (covered (e .before) .cover .ensures) _ (e .if1 .left) (w .write-parts .ensures)
 
 pub write-groups-spec : {M : Type 1} → statement M
 write-groups-spec =
@@ -77,12 +87,12 @@ write-groups-spec =
     mul-if1
     mul-if1-2
     add-if1
+    refuse-count-requires
     same-length
     same-length-2
     same-length-3
     returns
-    domains-requires
-    copy-requires
+    write-parts-requires
     same-length-4
     same-length-5
     same-length-6

@@ -1,8 +1,8 @@
 use Prim.Native.Nat.{ℕ, _*_}
 use mathlib.Core.Path.{_≡_, sym, subst}
 use lib.ListN.{take}
-use Rattle.groups.specs.Cover.{Room}
-use Rattle.groups.proofs.Covering.{noPlaces, noSizes, allNone, places-taken, room-start}
+use Rattle.cover.specs.Cover.{Room}
+use Rattle.cover.proofs.Covering.{noPlaces, noSizes, allNone, places-taken, room-start}
 use borrow.Author.Needs.{needs}
 use Rattle.reencoding.proofs.reencode_read.Statement.{statement}
 use Rattle.reencoding.proofs.reencode_read.Tie as tie

@@ -6,7 +6,7 @@ use native.Mathlib.Omega.{arith}
 use lib.ListN.{length, getD, take}
 use Rattle.definitions.specs.Literal.{allBelow}
 use Rattle.task.specs.Reads.{taskOf}
-use Rattle.groups.specs.Writing.{Wrote}
+use Rattle.writing.specs.Writing.{Wrote}
 use Rattle.reencoding.specs.Words.{atomsOf, literalsBy}
 use Rattle.reencoding.specs.Parts.{lowered}
 use Rattle.reencoding.proofs.ImageLaws.{ends, atoms-of, image-wrote, goal-below, initial-below}
@@ -40,10 +40,10 @@ domains-requires c κs =
     let few = l .few in
     let ls = l .sizes in
     let ln = l .nones in
-    (omega arith, omega arith, omega arith, l .small, l .flags)
+    (record { sizes = omega arith; nones = omega arith; small = l .small; flags = l .flags }, omega arith)
 
-copy-requires : tie.Need-copy-requires
-copy-requires c κs =
+words-requires : tie.Need-words-requires
+words-requires c κs =
     let s = c .before .before .before .before .before .before .before .before .before .before .before .before .before .before in
     let e = ends _ (s .pre .0) _ _ _ _ (s .pre .1) in
     let e1 = e .header in
@@ -72,10 +72,10 @@ values-requires c κs =
     let l = s .pre .1 in
     let n1 = c .before .before .before .before .before .before .before .before .before .before .before .before .header .ensures .next in
     let n2 = c .before .before .before .before .before .before .before .before .domains .ensures .next in
-    let n3 = c .before .before .before .before .copy .ensures .next in
+    let n3 = c .before .before .before .before .words .ensures .next in
     let k1 = c .before .before .before .before .before .before .before .before .before .before .before .before .header .kept .1 .1 .0 in
     let k2 = c .before .before .before .before .before .before .before .before .domains .kept .1 .1 .1 .0 in
-    let k3 = c .before .before .before .before .copy .kept .1 .0 in
+    let k3 = c .before .before .before .before .words .kept .1 .0 in
     let few = l .few in
     let ls = l .sizes in
     let a = atoms-of _ (s .pre .0) _ _ _ _ l in
@@ -96,11 +96,11 @@ literals-requires c κs =
     let l = s .pre .1 in
     let n1 = c .before .before .before .before .before .before .before .before .before .before .before .before .before .before .before .before .before .header .ensures .next in
     let n2 = c .before .before .before .before .before .before .before .before .before .before .before .before .before .domains .ensures .next in
-    let n3 = c .before .before .before .before .before .before .before .before .before .copy .ensures .next in
+    let n3 = c .before .before .before .before .before .before .before .before .before .words .ensures .next in
     let n4 = (rw (c .before .before .before .before .before .before .initial .ensures) at (c .before .before .before .before .values .ensures)) .next in
     let k1 = c .before .before .before .before .before .before .before .before .before .before .before .before .before .before .before .before .before .header .kept .1 .1 .0 in
     let k2 = c .before .before .before .before .before .before .before .before .before .before .before .before .before .domains .kept .1 .1 .1 .0 in
-    let k3 = c .before .before .before .before .before .before .before .before .before .copy .kept .1 .0 in
+    let k3 = c .before .before .before .before .before .before .before .before .before .words .kept .1 .0 in
     let k4 = c .before .before .before .before .values .kept .1 .1 .1 .1 .0 in
     let a = atoms-of _ (s .pre .0) _ _ _ _ l in
     (record { low = l .low; room = rw (c .before .goal .ensures) (omega arith) }, rw (c .before .goal .ensures, ← a) (goal-below _ (s .pre .0)))
@@ -117,12 +117,12 @@ operators-requires c κs =
     let l = s .pre .1 in
     let n1 = c .before .before .before .before .before .before .before .before .before .before .before .before .before .before .before .before .before .before .before .before .before .header .ensures .next in
     let n2 = c .before .before .before .before .before .before .before .before .before .before .before .before .before .before .before .before .before .domains .ensures .next in
-    let n3 = c .before .before .before .before .before .before .before .before .before .before .before .before .before .copy .ensures .next in
+    let n3 = c .before .before .before .before .before .before .before .before .before .before .before .before .before .words .ensures .next in
     let n4 = (rw (c .before .before .before .before .before .before .before .before .before .before .initial .ensures) at (c .before .before .before .before .before .before .before .before .values .ensures)) .next in
     let n5 = (rw (c .before .before .before .before .before .goal .ensures) at (c .before .before .before .literals .ensures)) .next in
     let k1 = c .before .before .before .before .before .before .before .before .before .before .before .before .before .before .before .before .before .before .before .before .before .header .kept .1 .1 .0 in
     let k2 = c .before .before .before .before .before .before .before .before .before .before .before .before .before .before .before .before .before .domains .kept .1 .1 .1 .0 in
-    let k3 = c .before .before .before .before .before .before .before .before .before .before .before .before .before .copy .kept .1 .0 in
+    let k3 = c .before .before .before .before .before .before .before .before .before .before .before .before .before .words .kept .1 .0 in
     let k4 = c .before .before .before .before .before .before .before .before .values .kept .1 .1 .1 .1 .0 in
     let k5 = c .before .before .before .literals .kept .1 .1 .0 in
     (s .pre .0, atoms-of _ (s .pre .0) _ _ _ _ l, record { low = l .low; room = omega arith })
@@ -133,7 +133,7 @@ same-length c = search needs
 returns : tie.Need-returns
 returns c =
     let s = c .before .before .before .before .before .before .before .before .before .before .before .before .before .before .before .before .before .before .before .before .before .before .before .before .before .before .before .before .before .before .before in
-    image-wrote _ (s .pre .0) _ _ _ _ (s .pre .1) _ _ _ _ _ _ _ _ _ _ _ _ _ (c .before .before .before .before .before .before .before .before .before .before .before .before .before .before .before .before .before .before .before .before .before .before .before .before .header .ensures) (c .before .before .before .before .before .before .before .before .before .before .before .before .before .before .before .before .before .before .before .before .domains .ensures) (c .before .before .before .before .before .before .before .before .before .before .before .before .before .before .before .before .copy .ensures) (rw (c .before .before .before .before .before .before .before .before .before .before .before .before .before .initial .ensures) at (c .before .before .before .before .before .before .before .before .before .before .before .values .ensures)) (rw (c .before .before .before .before .before .before .before .before .goal .ensures) at (c .before .before .before .before .before .before .literals .ensures)) (c .before .before .operators .ensures)
+    image-wrote _ (s .pre .0) _ _ _ _ (s .pre .1) _ _ _ _ _ _ _ _ _ _ _ _ _ (c .before .before .before .before .before .before .before .before .before .before .before .before .before .before .before .before .before .before .before .before .before .before .before .before .header .ensures) (c .before .before .before .before .before .before .before .before .before .before .before .before .before .before .before .before .before .before .before .before .domains .ensures) (c .before .before .before .before .before .before .before .before .before .before .before .before .before .before .before .before .words .ensures) (rw (c .before .before .before .before .before .before .before .before .before .before .before .before .before .initial .ensures) at (c .before .before .before .before .before .before .before .before .before .before .before .values .ensures)) (rw (c .before .before .before .before .before .before .before .before .goal .ensures) at (c .before .before .before .before .before .before .literals .ensures)) (c .before .before .operators .ensures)
 
 pub write-image-spec : {M : Type 1} → statement M
 write-image-spec =
@@ -141,7 +141,7 @@ write-image-spec =
     (tie.spec
     header-requires
     domains-requires
-    copy-requires
+    words-requires
     initial-requires
     values-requires
     goal-requires

@@ -4,7 +4,7 @@ use native.Mathlib.Omega.{arith}
 use lib.ListN.{length}
 use Rattle.task.specs.Reads.{taskOf}
 use Rattle.clause.specs.Rows.{clausesOf, ClausesRead}
-use Rattle.groups.specs.Cover.{Room, Covered}
+use Rattle.cover.specs.Cover.{Room, Covered}
 use Rattle.reencoding.proofs.ImageLaws.{laid, image-length, encode-not, encode-done}
 use borrow.Author.Needs.{needs}
 use Rattle.reencoding.proofs.write_task.Statement.{statement}

@@ -1,100 +1,72 @@
-use Prim.Native.Nat.{_+_, _≤_}
+use Prim.Native.Nat.{ℕ, _+_, _≤_}
 use native.Mathlib.Omega.{arith}
-use mathlib.Core.Path.{_≡_, sym, _∙_}
-use mathlib.Core.List.{List, [], _∷_, _++_}
+use mathlib.Core.Path.{_≡_}
+use mathlib.Core.List.{List, _++_}
 use lib.ListN.{length}
-use Rattle.definitions.specs.Lists.{each}
-use Rattle.definitions.specs.Card.{clauseLine, foundText}
+use Rattle.definitions.specs.Card.{foundText}
 use Rattle.clause.specs.Rows.{clausesOf}
-use Rattle.clause.proofs.RowLaws.{clauses-length}
-use Rattle.groups.proofs.Writes.{write-part, write-room}
-use Rattle.card.specs.Text.{countsLine, groupsLine, groupTexts, findingOf}
-use Rattle.card.proofs.TextLaws.{begin, part-room, part-last}
+use Rattle.writing.proofs.Writes.{wrote-same, wrote-both, first-room, next-room}
+use Rattle.card.specs.Text.{setText, coverText, findingOf}
 use Rattle.card.proofs.FoundText.{found-parts}
 use borrow.Author.Needs.{needs}
 use Rattle.card.proofs.found.write_covered.Statement.{statement}
 use Rattle.card.proofs.found.write_covered.Tie as tie
 
+-- after the atoms are grouped: the text is that of the set and that of the cover
+abbrev arguments : tie.After-cover → tie.After-cover-arg
+arguments c = c .before .before .before
+
+abbrev lent : tie.After-cover → tie.After-slice-known2
+lent c = arguments c .before .before .before
+
+abbrev start : tie.After-cover → tie.Start
+start c = lent c .before .before .before
+
+abbrev set : tie.After-cover → List ℕ
+set c = setText (clausesOf (start c .args .clauses .now)) (start c .args .rounds)
+
+abbrev groups : tie.After-cover → List ℕ
+groups c = let g = c .cover in coverText (g .last .1 .1 .0) (g .last .1 .1 .1 .1 .0) (g .result)
+
+abbrev whole : tie.After-cover → List ℕ
+whole c = foundText (start c .args .atoms) (findingOf (clausesOf (start c .args .clauses .now)) (start c .args .rounds))
+
+parts : (c : tie.After-cover) → whole c ≡ set c ++ groups c
+parts c = found-parts _ _ _ _ _ _ (start c .args .rounds) (c .cover .ensures)
+
+room : (c : tie.After-cover) → 0 + length (whole c) ≤ length (start c .args .out .now)
+room c = let p = start c .pre .2 in omega arith
+
+abbrev sizes-back : tie.After-write-set-arg → tie.After-slice-known6
+sizes-back c = c .before .before .before
+
+abbrev back : tie.After-write-set-arg → tie.After-slice-known5
+back c = sizes-back c .before .before
+
+abbrev covered : tie.After-write-set-arg → tie.After-cover
+covered c = back c .before .before
+
+-- after the text of the set
+abbrev wrote : tie.After-write-cover-arg → tie.After-write-set
+wrote c = c .before .before .before
+
 cover-requires : tie.Need-cover-requires
 cover-requires c κs = search needs
 
-rows-requires : tie.Need-rows-requires
-rows-requires c κs = search needs
+write-set-requires : tie.Need-write-set-requires
+write-set-requires c κs =
+    let d = covered c in
+    first-room (whole d) (set d) (groups d) (start d .args .out .now) 0 (parts d) (room d)
 
-write-counts-requires : tie.Need-write-counts-requires
-write-counts-requires c κs =
-    let a = c .before .before .before .before .before .before .before .before .before .before .before .before .before .before .before .before .before .args in
-    let C = clausesOf (a .clauses .now) in
-    let g = c .before .before .before .before .before .before .before .before .cover in
-    let k = g .result in
-    let ps = g .last .1 .1 .0 in
-    let ss = g .last .1 .1 .1 .0 in
-    let ns = g .last .1 .1 .1 .1 .0 in
-    let m = c .before .rows .result in
-    let e : m ≡ length C = c .before .rows .ensures ∙ sym (clauses-length (a .clauses .now)) in
-    let t = a .out .now in
-    let p = c .before .before .before .before .before .before .before .before .before .before .before .before .before .before .before .before .before .pre .2 in
-    let room : 0 + length (foundText (a .n) (findingOf C (a .rounds))) ≤ length t = omega arith in
-    let w0 = begin t 0 (foundText (a .n) (findingOf C (a .rounds))) (countsLine m (a .rounds) ++ (each clauseLine C ++ (groupsLine k ++ groupTexts ps ns k))) (found-parts (a .n) C ps ss ns k m (a .rounds) (g .ensures) e) in
-    part-room t 0 (foundText (a .n) (findingOf C (a .rounds))) (t) (0) (countsLine m (a .rounds)) ((each clauseLine C ++ (groupsLine k ++ groupTexts ps ns k))) w0 room
-
-write-clauses-requires : tie.Need-write-clauses-requires
-write-clauses-requires c κs =
-    let a = c .before .before .before .before .before .before .before .before .before .before .before .before .before .before .before .before .before .before .before .before .before .args in
-    let C = clausesOf (a .clauses .now) in
-    let g = c .before .before .before .before .before .before .before .before .before .before .before .before .cover in
-    let k = g .result in
-    let ps = g .last .1 .1 .0 in
-    let ss = g .last .1 .1 .1 .0 in
-    let ns = g .last .1 .1 .1 .1 .0 in
-    let m = c .before .before .before .before .before .rows .result in
-    let e : m ≡ length C = c .before .before .before .before .before .rows .ensures ∙ sym (clauses-length (a .clauses .now)) in
-    let t = a .out .now in
-    let p = c .before .before .before .before .before .before .before .before .before .before .before .before .before .before .before .before .before .before .before .before .before .pre .2 in
-    let room : 0 + length (foundText (a .n) (findingOf C (a .rounds))) ≤ length t = omega arith in
-    let w0 = begin t 0 (foundText (a .n) (findingOf C (a .rounds))) (countsLine m (a .rounds) ++ (each clauseLine C ++ (groupsLine k ++ groupTexts ps ns k))) (found-parts (a .n) C ps ss ns k m (a .rounds) (g .ensures) e) in
-    let w1 = write-part t 0 (foundText (a .n) (findingOf C (a .rounds))) (t) (0) (countsLine m (a .rounds)) ((each clauseLine C ++ (groupsLine k ++ groupTexts ps ns k))) (c .before .before .before .write-counts .last .0) (c .before .before .before .write-counts .result) w0 (c .before .before .before .write-counts .ensures) in
-    part-room t 0 (foundText (a .n) (findingOf C (a .rounds))) (c .before .before .before .write-counts .last .0) (c .before .before .before .write-counts .result) (each clauseLine C) ((groupsLine k ++ groupTexts ps ns k)) w1 room
-
-write-count-requires : tie.Need-write-count-requires
-write-count-requires c κs =
-    let a = c .before .before .before .before .before .before .before .before .before .before .before .before .before .before .before .before .before .before .before .before .before .before .before .before .before .args in
-    let C = clausesOf (a .clauses .now) in
-    let g = c .before .before .before .before .before .before .before .before .before .before .before .before .before .before .before .before .cover in
-    let k = g .result in
-    let ps = g .last .1 .1 .0 in
-    let ss = g .last .1 .1 .1 .0 in
-    let ns = g .last .1 .1 .1 .1 .0 in
-    let m = c .before .before .before .before .before .before .before .before .before .rows .result in
-    let e : m ≡ length C = c .before .before .before .before .before .before .before .before .before .rows .ensures ∙ sym (clauses-length (a .clauses .now)) in
-    let t = a .out .now in
-    let p = c .before .before .before .before .before .before .before .before .before .before .before .before .before .before .before .before .before .before .before .before .before .before .before .before .before .pre .2 in
-    let room : 0 + length (foundText (a .n) (findingOf C (a .rounds))) ≤ length t = omega arith in
-    let w0 = begin t 0 (foundText (a .n) (findingOf C (a .rounds))) (countsLine m (a .rounds) ++ (each clauseLine C ++ (groupsLine k ++ groupTexts ps ns k))) (found-parts (a .n) C ps ss ns k m (a .rounds) (g .ensures) e) in
-    let w1 = write-part t 0 (foundText (a .n) (findingOf C (a .rounds))) (t) (0) (countsLine m (a .rounds)) ((each clauseLine C ++ (groupsLine k ++ groupTexts ps ns k))) (c .before .before .before .before .before .before .before .write-counts .last .0) (c .before .before .before .before .before .before .before .write-counts .result) w0 (c .before .before .before .before .before .before .before .write-counts .ensures) in
-    let w2 = write-part t 0 (foundText (a .n) (findingOf C (a .rounds))) (c .before .before .before .before .before .before .before .write-counts .last .0) (c .before .before .before .before .before .before .before .write-counts .result) (each clauseLine C) ((groupsLine k ++ groupTexts ps ns k)) (c .before .before .before .write-clauses .last .0) (c .before .before .before .write-clauses .result) w1 (c .before .before .before .write-clauses .ensures) in
-    part-room t 0 (foundText (a .n) (findingOf C (a .rounds))) (c .before .before .before .write-clauses .last .0) (c .before .before .before .write-clauses .result) (groupsLine k) (groupTexts ps ns k) w2 room
-
-write-groups-requires : tie.Need-write-groups-requires
-write-groups-requires c κs =
-    let a = c .before .before .before .before .before .before .before .before .before .before .before .before .before .before .before .before .before .before .before .before .before .before .before .before .before .before .before .before .before .before .before .args in
-    let C = clausesOf (a .clauses .now) in
-    let g = c .before .before .before .before .before .before .before .before .before .before .before .before .before .before .before .before .before .before .before .before .before .before .cover in
-    let k = g .result in
-    let ps = g .last .1 .1 .0 in
-    let ss = g .last .1 .1 .1 .0 in
-    let ns = g .last .1 .1 .1 .1 .0 in
-    let m = c .before .before .before .before .before .before .before .before .before .before .before .before .before .before .before .rows .result in
-    let e : m ≡ length C = c .before .before .before .before .before .before .before .before .before .before .before .before .before .before .before .rows .ensures ∙ sym (clauses-length (a .clauses .now)) in
-    let t = a .out .now in
-    let p = c .before .before .before .before .before .before .before .before .before .before .before .before .before .before .before .before .before .before .before .before .before .before .before .before .before .before .before .before .before .before .before .pre .2 in
-    let room : 0 + length (foundText (a .n) (findingOf C (a .rounds))) ≤ length t = omega arith in
-    let w0 = begin t 0 (foundText (a .n) (findingOf C (a .rounds))) (countsLine m (a .rounds) ++ (each clauseLine C ++ (groupsLine k ++ groupTexts ps ns k))) (found-parts (a .n) C ps ss ns k m (a .rounds) (g .ensures) e) in
-    let w1 = write-part t 0 (foundText (a .n) (findingOf C (a .rounds))) (t) (0) (countsLine m (a .rounds)) ((each clauseLine C ++ (groupsLine k ++ groupTexts ps ns k))) (c .before .before .before .before .before .before .before .before .before .before .before .before .before .write-counts .last .0) (c .before .before .before .before .before .before .before .before .before .before .before .before .before .write-counts .result) w0 (c .before .before .before .before .before .before .before .before .before .before .before .before .before .write-counts .ensures) in
-    let w2 = write-part t 0 (foundText (a .n) (findingOf C (a .rounds))) (c .before .before .before .before .before .before .before .before .before .before .before .before .before .write-counts .last .0) (c .before .before .before .before .before .before .before .before .before .before .before .before .before .write-counts .result) (each clauseLine C) ((groupsLine k ++ groupTexts ps ns k)) (c .before .before .before .before .before .before .before .before .before .write-clauses .last .0) (c .before .before .before .before .before .before .before .before .before .write-clauses .result) w1 (c .before .before .before .before .before .before .before .before .before .write-clauses .ensures) in
-    let w3 = write-part t 0 (foundText (a .n) (findingOf C (a .rounds))) (c .before .before .before .before .before .before .before .before .before .write-clauses .last .0) (c .before .before .before .before .before .before .before .before .before .write-clauses .result) (groupsLine k) (groupTexts ps ns k) (c .before .before .before .before .before .write-count .last .0) (c .before .before .before .before .before .write-count .result) w2 (c .before .before .before .before .before .write-count .ensures) in
-    let few = g .ensures .grouped .few in let q = g .ensures .few in let s = g .ensures .nones in
-    (omega arith, write-room t 0 (foundText (a .n) (findingOf C (a .rounds))) (c .before .before .before .before .before .write-count .last .0) (c .before .before .before .before .before .write-count .result) (groupTexts ps ns k) w3 room)
+write-cover-requires : tie.Need-write-cover-requires
+write-cover-requires c κs =
+    let w = wrote (c .before .before) in
+    let d = covered (w .before) in
+    let g = d .cover .ensures in
+    let few = g .few in
+    let count = g .grouped .few in
+    let nones = g .nones in
+    (omega arith, next-room (whole d) (set d) (groups d) (start d .args .out .now) 0 (parts d) (room d) (w .write-set .ensures))
 
 same-length : tie.Need-same-length
 same-length c = search needs
@@ -110,34 +82,17 @@ same-length-4 c = search needs
 
 returns : tie.Need-returns
 returns c =
-    let a = c .before .before .before .before .before .before .before .before .before .before .before .before .before .before .before .before .before .before .before .before .before .before .before .before .before .before .before .before .before .before .before .before .before .before .args in
-    let C = clausesOf (a .clauses .now) in
-    let g = c .before .before .before .before .before .before .before .before .before .before .before .before .before .before .before .before .before .before .before .before .before .before .before .before .before .cover in
-    let k = g .result in
-    let ps = g .last .1 .1 .0 in
-    let ss = g .last .1 .1 .1 .0 in
-    let ns = g .last .1 .1 .1 .1 .0 in
-    let m = c .before .before .before .before .before .before .before .before .before .before .before .before .before .before .before .before .before .before .rows .result in
-    let e : m ≡ length C = c .before .before .before .before .before .before .before .before .before .before .before .before .before .before .before .before .before .before .rows .ensures ∙ sym (clauses-length (a .clauses .now)) in
-    let t = a .out .now in
-    let p = c .before .before .before .before .before .before .before .before .before .before .before .before .before .before .before .before .before .before .before .before .before .before .before .before .before .before .before .before .before .before .before .before .before .before .pre .2 in
-    let room : 0 + length (foundText (a .n) (findingOf C (a .rounds))) ≤ length t = omega arith in
-    let w0 = begin t 0 (foundText (a .n) (findingOf C (a .rounds))) (countsLine m (a .rounds) ++ (each clauseLine C ++ (groupsLine k ++ groupTexts ps ns k))) (found-parts (a .n) C ps ss ns k m (a .rounds) (g .ensures) e) in
-    let w1 = write-part t 0 (foundText (a .n) (findingOf C (a .rounds))) (t) (0) (countsLine m (a .rounds)) ((each clauseLine C ++ (groupsLine k ++ groupTexts ps ns k))) (c .before .before .before .before .before .before .before .before .before .before .before .before .before .before .before .before .write-counts .last .0) (c .before .before .before .before .before .before .before .before .before .before .before .before .before .before .before .before .write-counts .result) w0 (c .before .before .before .before .before .before .before .before .before .before .before .before .before .before .before .before .write-counts .ensures) in
-    let w2 = write-part t 0 (foundText (a .n) (findingOf C (a .rounds))) (c .before .before .before .before .before .before .before .before .before .before .before .before .before .before .before .before .write-counts .last .0) (c .before .before .before .before .before .before .before .before .before .before .before .before .before .before .before .before .write-counts .result) (each clauseLine C) ((groupsLine k ++ groupTexts ps ns k)) (c .before .before .before .before .before .before .before .before .before .before .before .before .write-clauses .last .0) (c .before .before .before .before .before .before .before .before .before .before .before .before .write-clauses .result) w1 (c .before .before .before .before .before .before .before .before .before .before .before .before .write-clauses .ensures) in
-    let w3 = write-part t 0 (foundText (a .n) (findingOf C (a .rounds))) (c .before .before .before .before .before .before .before .before .before .before .before .before .write-clauses .last .0) (c .before .before .before .before .before .before .before .before .before .before .before .before .write-clauses .result) (groupsLine k) (groupTexts ps ns k) (c .before .before .before .before .before .before .before .before .write-count .last .0) (c .before .before .before .before .before .before .before .before .write-count .result) w2 (c .before .before .before .before .before .before .before .before .write-count .ensures) in
-    part-last t 0 (foundText (a .n) (findingOf C (a .rounds))) (c .before .before .before .before .before .before .before .before .write-count .last .0) (c .before .before .before .before .before .before .before .before .write-count .result) (groupTexts ps ns k) (c .before .before .write-groups .last .0) (c .before .before .write-groups .result) w3 (c .before .before .write-groups .ensures)
+    let v = c .before .before in
+    let w = wrote (v .before .before .before) in
+    wrote-same (parts (covered (w .before))) (wrote-both (w .write-set .ensures) (v .write-cover .ensures))
 
 pub write-covered-spec : {M : Type 1} → statement M
 write-covered-spec =
     tie.close
     (tie.spec
     cover-requires
-    rows-requires
-    write-counts-requires
-    write-clauses-requires
-    write-count-requires
-    write-groups-requires
+    write-set-requires
+    write-cover-requires
     same-length
     same-length-2
     same-length-3

@@ -1,13 +1,43 @@
+use Prim.Native.Nat.{ℕ, _+_, _*_}
 use native.Mathlib.Omega.{arith}
-use mathlib.Core.Path.{_≡_, ap}
-use lib.ListN.{length}
+use mathlib.Core.Path.{_≡_}
+use mathlib.Core.List.{List, _++_}
 use Rattle.definitions.specs.Card.{decimal}
+use Rattle.writing.proofs.Writes.{wrote-same, wrote-both, wrote-nothing, first-room, next-room}
 use Rattle.card.specs.Text.{separator, memberText}
-use Rattle.card.proofs.TextLaws.{wrote-nothing, first-room, next-room, both}
 use Rattle.card.proofs.LineLaws.{member-not, member-there}
 use borrow.Author.Needs.{needs}
 use Rattle.card.proofs.group.write_member.Statement.{statement}
 use Rattle.card.proofs.group.write_member.Tie as tie
+
+-- the atom's variable is read
+abbrev lent : tie.After-wide → tie.After-shared-slice-known
+lent c = c .before .before
+
+abbrev start : tie.After-wide → tie.Start
+start c = lent c .before .before
+
+-- its value is read
+abbrev variable : tie.After-wide2 → tie.After-wide
+variable c = c .before .before .before
+
+abbrev begun : tie.After-wide2 → tie.Start
+begun c = start (variable c)
+
+parts :
+    (c : tie.After-wide2) → let a = begun c .args in
+    memberText (a .places .now) (a .v) (a .a) ≡ separator (c .wide2 .result) ++ decimal (a .a)
+parts c =
+    let a = begun c .args in
+    let x = variable c .wide in
+    member-there (a .places .now) (a .v) (a .a) (x .result) (x .ensures .0) (c .wide2 .result) (c .wide2 .ensures .0) (c .before .before .if1 .left)
+
+-- what stands before the atom is written
+abbrev value : tie.After-separate → tie.After-wide2
+value c = c .before .before
+
+abbrev separated : tie.After-write-decimal-arg → tie.After-separate
+separated c = c .before .before .before
 
 mul-wide : tie.Need-mul-wide
 mul-wide c = search needs
@@ -22,7 +52,10 @@ wide-requires : tie.Need-wide-requires
 wide-requires c κs = search needs
 
 returns : tie.Need-returns
-returns c = wrote-nothing _ _ _ (member-not (c .before .before .before .before .before .args .places .now) (c .before .before .before .before .before .args .v) (c .before .before .before .before .before .args .a) (c .before .wide .result) (c .before .wide .ensures .0) (c .if1 .taken))
+returns c =
+    let w = c .before in
+    let a = start w .args in
+    wrote-nothing (member-not (a .places .now) (a .v) (a .a) (w .wide .result) (w .wide .ensures .0) (c .if1 .taken))
 
 mul-wide-3 : tie.Need-mul-wide-3
 mul-wide-3 c = search needs
@@ -41,27 +74,25 @@ wide-requires-2 c κs = search needs
 
 separate-requires : tie.Need-separate-requires
 separate-requires c κs =
-    let a = c .before .before .before .before .before .before .before .before .args in
-    let x = c .before .before .before .before .wide in
-    let y = c .before .wide2 in
-    first-room (memberText (a .places .now) (a .v) (a .a)) (separator (y .result)) (decimal (a .a)) (a .out .now) (a .at) (member-there (a .places .now) (a .v) (a .a) (x .result) (x .ensures .0) (y .result) (y .ensures .0) (c .before .before .before .if1 .left)) (c .before .before .before .before .before .before .before .before .pre .1)
+    let d = c .before in
+    let a = begun d .args in
+    first-room _ (separator (d .wide2 .result)) (decimal (a .a)) (a .out .now) (a .at) (parts d) (begun d .pre .1)
 
 write-decimal-requires : tie.Need-write-decimal-requires
 write-decimal-requires c κs =
-    let a = c .before .before .before .before .before .before .before .before .before .before .before .before .args in
-    let x = c .before .before .before .before .before .before .before .before .wide in
-    let y = c .before .before .before .before .before .wide2 in
-    next-room (memberText (a .places .now) (a .v) (a .a)) (separator (y .result)) (decimal (a .a)) (a .out .now) (a .at) (member-there (a .places .now) (a .v) (a .a) (x .result) (x .ensures .0) (y .result) (y .ensures .0) (c .before .before .before .before .before .before .before .if1 .left)) (c .before .before .before .before .before .before .before .before .before .before .before .before .pre .1) _ _ (c .before .before .before .separate .ensures)
+    let s = separated c in
+    let d = value s in
+    let a = begun d .args in
+    next-room _ (separator (d .wide2 .result)) (decimal (a .a)) (a .out .now) (a .at) (parts d) (begun d .pre .1) (s .separate .ensures)
 
 same-length : tie.Need-same-length
 same-length c = search needs
 
 returns-2 : tie.Need-returns-2
 returns-2 c =
-    let a = c .before .before .before .before .before .before .before .before .before .before .before .before .before .before .before .args in
-    let x = c .before .before .before .before .before .before .before .before .before .before .before .wide in
-    let y = c .before .before .before .before .before .before .before .before .wide2 in
-    both (memberText (a .places .now) (a .v) (a .a)) (separator (y .result)) (decimal (a .a)) (a .out .now) (a .at) (member-there (a .places .now) (a .v) (a .a) (x .result) (x .ensures .0) (y .result) (y .ensures .0) (c .before .before .before .before .before .before .before .before .before .before .if1 .left)) (c .before .before .before .before .before .before .before .before .before .before .before .before .before .before .before .pre .1) _ _ _ _ (c .before .before .before .before .before .before .separate .ensures) (c .before .before .write-decimal .ensures)
+    let w = c .before .before in
+    let s = separated (w .before) in
+    wrote-same (parts (value s)) (wrote-both (s .separate .ensures) (w .write-decimal .ensures))
 
 pub write-member-spec : {M : Type 1} → statement M
 write-member-spec =

@@ -4,45 +4,74 @@ use mathlib.Core.Path.{_≡_, refl, _∙_}
 use mathlib.Core.List.{List, [], _∷_, _++_, map}
 use lib.ListN.{length, getD, drop}
 use Rattle.definitions.specs.Card.{literalText, clauseLine}
-use Rattle.groups.specs.Writing.{Writing}
-use Rattle.groups.proofs.Writes.{write-same, write-part, write-end, write-room}
+use Rattle.writing.specs.Writing.{Writing}
+use Rattle.writing.proofs.Writes.{write-start, write-same, write-part, write-last, part-room, word-room}
 use Rattle.card.specs.Text.{separator, fieldsFrom}
-use Rattle.card.proofs.TextLaws.{begin, part-room}
 use Rattle.card.proofs.LineLaws.{clause-start, fields-next, fields-end}
 use borrow.Author.Needs.{needs}
 use Rattle.card.proofs.line.write_clause.Statement.{statement}
 use Rattle.card.proofs.line.write_clause.Tie as tie
 
 abbrev Inv-loop : tie.InvT-loop
-Inv-loop out₀ at literals to₀ i₀ out to i = (i ≤ length literals) × Writing out₀ at (clauseLine literals) out to (fieldsFrom i (map literalText (drop i literals)))
+Inv-loop out₀ at literals to₀ i₀ out to i =
+    (i ≤ length literals) × Writing out₀ at (clauseLine literals) out to (fieldsFrom i (map literalText (drop i literals)))
 
 abbrev μ-loop : tie.MeasureT-loop
 μ-loop out₀ at literals to₀ i₀ out to i = length literals - i
 
-turn : (c : tie.In-loop Inv-loop μ-loop) (l : ℕ) → l ≡ getD (c .before .before .before .before .args .literals .now) (c .before .loop .i) 0
-    → Writing (c .before .before .before .before .args .out .now) (c .before .before .before .before .args .at) (clauseLine (c .before .before .before .before .args .literals .now)) (c .before .loop .out) (c .before .loop .to) (separator (c .before .loop .i) ++ (literalText l ++ fieldsFrom (c .before .loop .i + 1) (map literalText (drop (c .before .loop .i + 1) (c .before .before .before .before .args .literals .now)))))
-turn c l e = write-same _ _ _ _ _ _ _ (fields-next _ (c .before .loop .i) l e (c .loop-test .taken)) (c .before .loop .inv .1)
+abbrev start : tie.At-loop Inv-loop μ-loop → tie.Start Inv-loop μ-loop
+start c = c .before .before .before
 
-last : (c : tie.After-loop Inv-loop μ-loop) → Writing (c .before .before .before .before .args .out .now) (c .before .before .before .before .args .at) (clauseLine (c .before .before .before .before .args .literals .now)) (c .before .loop .out) (c .before .loop .to) (10 ∷ [])
-last c = write-same _ _ _ _ _ _ _ (fields-end (c .before .before .before .before .args .literals .now) (c .before .loop .i) (c .loop-test .left)) (c .before .loop .inv .1)
+-- what is left to be written at a place
+abbrev Left : tie.At-loop Inv-loop μ-loop → List ℕ → ℕ → List ℕ → Type 0
+Left l out to left = let a = start l .args in Writing (a .out .now) (a .at) (clauseLine (a .literals .now)) out to left
+
+abbrev literal : tie.At-loop Inv-loop μ-loop → ℕ
+literal l = getD (start l .args .literals .now) (l .loop .i) 0
+
+abbrev others : tie.At-loop Inv-loop μ-loop → List ℕ
+others l = fieldsFrom (l .loop .i + 1) (map literalText (drop (l .loop .i + 1) (start l .args .literals .now)))
+
+field :
+    (t : tie.In-loop Inv-loop μ-loop) → let l = t .before in
+    Left l (l .loop .out) (l .loop .to) (separator (l .loop .i) ++ (literalText (literal l) ++ others l))
+field t = let l = t .before in write-same (fields-next _ (l .loop .i) (literal l) refl (t .loop-test .taken)) (l .loop .inv .1)
+
+-- after what stands before the literal
+abbrev in-loop : tie.After-separate Inv-loop μ-loop → tie.In-loop Inv-loop μ-loop
+in-loop c = c .before .before .before
+
+separated :
+    (c : tie.After-separate Inv-loop μ-loop) → let l = in-loop c .before in
+    Left l (c .separate .last .0) (c .separate .result) (literalText (literal l) ++ others l)
+separated c = write-part (field (in-loop c)) (c .separate .ensures)
+
+abbrev after : tie.After-write-literal-arg Inv-loop μ-loop → tie.After-separate Inv-loop μ-loop
+after c = c .before .before .before
+
+-- after the last literal
+end : (c : tie.After-loop Inv-loop μ-loop) → let l = c .before in Left l (l .loop .out) (l .loop .to) (10 ∷ [])
+end c = let l = c .before in write-same (fields-end (start l .args .literals .now) (l .loop .i) (c .loop-test .left)) (l .loop .inv .1)
 
 loop-holds : tie.Need-loop-holds Inv-loop μ-loop
-loop-holds c = (omega arith, begin _ _ _ _ (clause-start _))
+loop-holds c = (omega arith, write-same (clause-start _) write-start)
+
+mul-l : tie.Need-mul-l Inv-loop μ-loop
+mul-l c = search needs
+
+shared-slice-read-l : tie.Need-shared-slice-read-l Inv-loop μ-loop
+shared-slice-read-l c = search needs
 
 separate-requires : tie.Need-separate-requires Inv-loop μ-loop
-separate-requires c κs = part-room _ _ _ _ _ (separator (c .before .before .loop .i)) _ (turn (c .before) _ refl) (c .before .before .before .before .before .pre)
-
-mul-wide : tie.Need-mul-wide Inv-loop μ-loop
-mul-wide c = search needs
-
-shared-slice-read-wide : tie.Need-shared-slice-read-wide Inv-loop μ-loop
-shared-slice-read-wide c = search needs
-
-wide-requires : tie.Need-wide-requires Inv-loop μ-loop
-wide-requires c κs = search needs
+separate-requires c κs =
+    let t = c .before .before in
+    part-room (separator (t .before .loop .i)) _ (field t) (start (t .before) .pre)
 
 write-literal-requires : tie.Need-write-literal-requires Inv-loop μ-loop
-write-literal-requires c κs = part-room _ _ _ _ _ (literalText (c .wide .result)) _ (write-part _ _ _ _ _ (separator (c .before .before .before .before .before .before .before .before .loop .i)) _ _ _ (turn (c .before .before .before .before .before .before .before) _ (c .wide .ensures .0)) (c .before .before .before .before .before .separate .ensures)) (c .before .before .before .before .before .before .before .before .before .before .before .pre)
+write-literal-requires c κs =
+    let d = after c in
+    let l = in-loop d .before in
+    part-room (literalText (literal l)) _ (separated d) (start l .pre)
 
 add-i : tie.Need-add-i Inv-loop μ-loop
 add-i c = search needs
@@ -51,18 +80,22 @@ loop-less : tie.Need-loop-less Inv-loop μ-loop
 loop-less c = search needs
 
 loop-again : tie.Need-loop-again Inv-loop μ-loop
-loop-again c = (omega arith, write-part _ _ _ _ _ (literalText (c .before .before .before .wide .result)) _ _ _ (write-part _ _ _ _ _ (separator (c .before .before .before .before .before .before .before .before .before .before .before .loop .i)) _ _ _ (turn (c .before .before .before .before .before .before .before .before .before .before) _ (c .before .before .before .wide .ensures .0)) (c .before .before .before .before .before .before .before .before .separate .ensures)) (c .before .before .write-literal .ensures))
+loop-again c =
+    let w = c .before .before in
+    (omega arith, write-part (separated (after (w .before))) (w .write-literal .ensures))
 
-write-byte-requires : tie.Need-write-byte-requires Inv-loop μ-loop
-write-byte-requires c κs =
-    let r = write-room _ _ _ _ _ (10 ∷ []) (last (c .before)) (c .before .before .before .before .before .pre) in
-    omega arith
+byte-requires : tie.Need-byte-requires Inv-loop μ-loop
+byte-requires c κs = word-room (end (c .before)) (start (c .before .before) .pre)
 
 same-length : tie.Need-same-length Inv-loop μ-loop
-same-length c = c .before .before .write-byte .kept .0 ∙ c .before .before .before .before .before .loop .inv .1 .size
+same-length c =
+    let b = c .before .before in
+    b .byte .kept .1 .0 ∙ b .before .before .before .loop .inv .1 .size
 
 returns : tie.Need-returns Inv-loop μ-loop
-returns c = write-end _ _ _ _ _ (write-part _ _ _ _ _ (10 ∷ []) [] _ _ (last (c .before .before .before .before)) (c .before .before .write-byte .ensures))
+returns c =
+    let b = c .before .before in
+    write-last (end (b .before .before)) (b .byte .ensures)
 
 pub write-clause-spec : {M : Type 1} → statement M
 write-clause-spec =
@@ -71,14 +104,13 @@ write-clause-spec =
     Inv-loop
     μ-loop
     loop-holds
+    mul-l
+    shared-slice-read-l
     separate-requires
-    mul-wide
-    shared-slice-read-wide
-    wide-requires
     write-literal-requires
     add-i
     loop-less
     loop-again
-    write-byte-requires
+    byte-requires
     same-length
     returns)

@@ -1,62 +1,91 @@
 use Prim.Native.Nat.{ℕ, _+_, _-_, _≤_, _<_}
 use native.Mathlib.Omega.{arith}
-use mathlib.Core.Path.{_≡_, refl, _∙_, ap}
-use mathlib.Core.List.{List, [], _∷_, _++_}
-use lib.ListN.{length, drop}
+use mathlib.Core.Path.{_≡_, _∙_, ap}
+use mathlib.Core.List.{List, _++_}
+use lib.ListN.{drop}
 use Rattle.definitions.specs.Lists.{each}
 use Rattle.definitions.specs.Clauses.{clauseOf, rowAt}
 use Rattle.definitions.specs.Card.{clauseLine}
 use Rattle.clause.specs.Rows.{clausesOf, rowCount}
-use Rattle.groups.specs.Writing.{Writing}
-use Rattle.groups.proofs.Writes.{write-start, write-same, write-part, write-end}
-use Rattle.card.proofs.TextLaws.{part-room}
+use Rattle.writing.specs.Writing.{Writing}
+use Rattle.writing.proofs.Writes.{write-start, write-same, write-part, write-end, part-room}
 use Rattle.card.proofs.LineLaws.{clauses-next, clauses-end}
 use borrow.Author.Needs.{needs}
 use Rattle.card.proofs.line.write_clauses.Statement.{statement}
 use Rattle.card.proofs.line.write_clauses.Tie as tie
 
 abbrev Inv-loop : tie.InvT-loop
-Inv-loop out₀ at clauses count to₀ i₀ out to i = (i ≤ rowCount clauses) × Writing out₀ at (each clauseLine (clausesOf clauses)) out to (each clauseLine (drop i (clausesOf clauses)))
+Inv-loop out₀ at clauses count to₀ i₀ out to i =
+    (i ≤ rowCount clauses) × Writing out₀ at (each clauseLine (clausesOf clauses)) out to (each clauseLine (drop i (clausesOf clauses)))
 
 abbrev μ-loop : tie.MeasureT-loop
 μ-loop out₀ at clauses count to₀ i₀ out to i = rowCount clauses - i
 
+abbrev lent : tie.At-loop Inv-loop μ-loop → tie.After-shared-slice-known Inv-loop μ-loop
+lent c = c .before .before
+
+abbrev start : tie.At-loop Inv-loop μ-loop → tie.Start Inv-loop μ-loop
+start c = lent c .before .before
+
+abbrev rows : tie.At-loop Inv-loop μ-loop → List ℕ
+rows l = start l .args .clauses .now
+
+inside : (t : tie.In-loop Inv-loop μ-loop) → t .before .loop .i < rowCount (rows (t .before))
+inside t = omega (arith, t .loop-test .taken, t .before .before .rows .ensures)
+
+-- the clause of row i, and what is left to be written at it
+abbrev in-loop : tie.After-literals Inv-loop μ-loop → tie.In-loop Inv-loop μ-loop
+in-loop c = c .before .before .before
+
+clause : (c : tie.After-literals Inv-loop μ-loop) → let l = in-loop c .before in c .literals .result .now ≡ clauseOf (rowAt (rows l) (l .loop .i))
+clause c = c .literals .ensures ∙ ap clauseOf (c .before .before .row .ensures)
+
+left :
+    (c : tie.After-literals Inv-loop μ-loop) → let l = in-loop c .before in
+    Writing (start l .args .out .now) (start l .args .at) (each clauseLine (clausesOf (rows l))) (l .loop .out) (l .loop .to)
+    (clauseLine (c .literals .result .now) ++ each clauseLine (drop (l .loop .i + 1) (clausesOf (rows l))))
+left c =
+    let l = in-loop c .before in
+    write-same (clauses-next (rows l) (l .loop .i) (c .literals .result .now) (inside (in-loop c)) (clause c)) (l .loop .inv .1)
+
+-- after its line
+abbrev listed : tie.After-slice-known2 Inv-loop μ-loop → tie.After-literals Inv-loop μ-loop
+listed c = c .before .before .before
+
 rows-requires : tie.Need-rows-requires Inv-loop μ-loop
 rows-requires c κs = search needs
 
-turn : (c : tie.In-loop Inv-loop μ-loop) (f : List ℕ) → f ≡ clauseOf (rowAt (c .before .before .before .before .before .args .clauses .now) (c .before .loop .i))
-    → Writing (c .before .before .before .before .before .args .out .now) (c .before .before .before .before .before .args .at) (each clauseLine (clausesOf (c .before .before .before .before .before .args .clauses .now))) (c .before .loop .out) (c .before .loop .to) (clauseLine f ++ each clauseLine (drop (c .before .loop .i + 1) (clausesOf (c .before .before .before .before .before .args .clauses .now))))
-turn c f e =
-    let r = c .before .before .rows .ensures in
-    let h : c .before .loop .i < rowCount (c .before .before .before .before .before .args .clauses .now) = omega arith in
-    write-same _ _ _ _ _ _ _ (clauses-next (c .before .before .before .before .before .args .clauses .now) (c .before .loop .i) f h e) (c .before .loop .inv .1)
-
 loop-holds : tie.Need-loop-holds Inv-loop μ-loop
-loop-holds c = (omega arith, write-start _ _ _)
+loop-holds c = (omega arith, write-start)
 
 row-requires : tie.Need-row-requires Inv-loop μ-loop
-row-requires c κs = omega (arith, c .before .before .rows .ensures)
+row-requires c κs = inside c
 
 literals-requires : tie.Need-literals-requires Inv-loop μ-loop
 literals-requires c κs = search needs
 
 write-clause-requires : tie.Need-write-clause-requires Inv-loop μ-loop
-write-clause-requires c κs = part-room _ _ _ _ _ (clauseLine (c .literals .result .now)) _ (turn (c .before .before .before) (c .literals .result .now) (c .literals .ensures ∙ ap clauseOf (c .before .before .row .ensures))) (c .before .before .before .before .before .before .before .before .pre)
+write-clause-requires c κs = part-room (clauseLine (c .literals .result .now)) _ (left c) (start (in-loop c .before) .pre)
 
 add-i : tie.Need-add-i Inv-loop μ-loop
-add-i c = omega (arith, c .before .before .before .before .before .before .before .before .rows .ensures)
+add-i c = omega (arith, in-loop (listed c) .before .before .rows .ensures)
 
 loop-less : tie.Need-loop-less Inv-loop μ-loop
-loop-less c = omega (arith, c .before .before .before .before .before .before .before .before .rows .ensures)
+loop-less c = let h = inside (in-loop (listed c)) in omega arith
 
 loop-again : tie.Need-loop-again Inv-loop μ-loop
-loop-again c = (omega (arith, c .before .before .before .before .before .before .before .before .rows .ensures), write-part _ _ _ _ _ (clauseLine (c .before .before .before .literals .result .now)) _ _ _ (turn (c .before .before .before .before .before .before) (c .before .before .before .literals .result .now) (c .before .before .before .literals .ensures ∙ ap clauseOf (c .before .before .before .before .before .row .ensures))) (c .before .before .write-clause .ensures))
+loop-again c =
+    let h = inside (in-loop (listed c)) in
+    (omega arith, write-part (left (listed c)) (c .before .before .write-clause .ensures))
 
 same-length : tie.Need-same-length Inv-loop μ-loop
 same-length c = c .before .loop .inv .1 .size
 
 returns : tie.Need-returns Inv-loop μ-loop
-returns c = write-end _ _ _ _ _ (write-same _ _ _ _ _ _ _ (clauses-end (c .before .before .before .before .before .args .clauses .now) (c .before .loop .i) (omega (arith, c .before .before .rows .ensures))) (c .before .loop .inv .1))
+returns c =
+    let l = c .before in
+    let past : rowCount (rows l) ≤ l .loop .i = omega (arith, c .loop-test .left, l .before .rows .ensures) in
+    write-end (write-same (clauses-end (rows l) (l .loop .i) past) (l .loop .inv .1))
 
 pub write-clauses-spec : {M : Type 1} → statement M
 write-clauses-spec =

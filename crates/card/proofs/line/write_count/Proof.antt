@@ -1,67 +1,64 @@
-use Prim.Native.Nat.{_+_, _≤_}
-use native.Mathlib.Omega.{arith}
+use Prim.Native.Nat.{ℕ, _+_, _≤_}
 use mathlib.Core.List.{List, [], _∷_, _++_}
 use lib.ListN.{length}
-use Rattle.groups.proofs.Writes.{write-part, write-end}
-use Rattle.card.proofs.TextLaws.{begin, part-room, groups-parts}
 use Rattle.definitions.specs.Card.{decimal, groupsWord}
+use Rattle.writing.specs.Writing.{Writing}
+use Rattle.writing.proofs.Writes.{write-start, write-same, write-part, write-last, part-room, word-room}
 use Rattle.card.specs.Text.{groupsLine}
+use Rattle.card.proofs.TextLaws.{groups-parts}
 use borrow.Author.Needs.{needs}
 use Rattle.card.proofs.line.write_count.Statement.{statement}
 use Rattle.card.proofs.line.write_count.Tie as tie
 
-slice-aggregate-write-word : tie.Need-slice-aggregate-write-word
-slice-aggregate-write-word c = search needs
+-- the fields of the line, each with what is left to be written at it
+abbrev Left : tie.Start → List ℕ → ℕ → List ℕ → Type 0
+Left s out to left = Writing (s .args .out .now) (s .args .at) (groupsLine (s .args .groups)) out to left
 
-write-word-requires : tie.Need-write-word-requires
-unfolding groupsWord
-write-word-requires c κs =
-    let a = c .before .before .before .args in
-    let t = a .out .now in
-    let w0 = begin t (a .at) (groupsLine (a .groups)) (groupsWord ++ ((32 ∷ decimal (a .groups)) ++ (10 ∷ []))) (groups-parts (a .groups)) in
-    part-room t (a .at) (groupsLine (a .groups)) (t) (a .at) (groupsWord) (((32 ∷ decimal (a .groups)) ++ (10 ∷ []))) w0 (c .before .before .before .pre)
+abbrev named : ℕ → List ℕ
+named n = groupsWord ++ (32 ∷ decimal n)
 
-write-number-requires : tie.Need-write-number-requires
-unfolding groupsWord
-write-number-requires c κs =
-    let a = c .before .before .before .before .before .before .before .args in
-    let t = a .out .now in
-    let w0 = begin t (a .at) (groupsLine (a .groups)) (groupsWord ++ ((32 ∷ decimal (a .groups)) ++ (10 ∷ []))) (groups-parts (a .groups)) in
-    let w1 = write-part t (a .at) (groupsLine (a .groups)) (t) (a .at) (groupsWord) (((32 ∷ decimal (a .groups)) ++ (10 ∷ []))) (c .before .before .before .write-word .last .0) (c .before .before .before .write-word .result) w0 (c .before .before .before .write-word .ensures) in
-    part-room t (a .at) (groupsLine (a .groups)) (c .before .before .before .write-word .last .0) (c .before .before .before .write-word .result) ((32 ∷ decimal (a .groups))) ((10 ∷ [])) w1 (c .before .before .before .before .before .before .before .pre)
+first : (s : tie.Start) → Left s (s .args .out .now) (s .args .at) (named (s .args .groups) ++ (10 ∷ []))
+first s = write-same (groups-parts (s .args .groups)) write-start
 
-write-byte-requires : tie.Need-write-byte-requires
+abbrev lent : tie.After-write-named → tie.After-write-named-arg
+lent c = c .before .before
+
+abbrev start : tie.After-write-named → tie.Start
+start c = lent c .before .before
+
+end : (c : tie.After-write-named) → Left (start c) (c .write-named .last .0) (c .write-named .result) (10 ∷ [])
 unfolding groupsWord
-write-byte-requires c κs =
-    let a = c .before .before .before .before .before .before .before .before .before .before .before .args in
-    let t = a .out .now in
-    let w0 = begin t (a .at) (groupsLine (a .groups)) (groupsWord ++ ((32 ∷ decimal (a .groups)) ++ (10 ∷ []))) (groups-parts (a .groups)) in
-    let w1 = write-part t (a .at) (groupsLine (a .groups)) (t) (a .at) (groupsWord) (((32 ∷ decimal (a .groups)) ++ (10 ∷ []))) (c .before .before .before .before .before .before .before .write-word .last .0) (c .before .before .before .before .before .before .before .write-word .result) w0 (c .before .before .before .before .before .before .before .write-word .ensures) in
-    let w2 = write-part t (a .at) (groupsLine (a .groups)) (c .before .before .before .before .before .before .before .write-word .last .0) (c .before .before .before .before .before .before .before .write-word .result) ((32 ∷ decimal (a .groups))) ((10 ∷ [])) (c .before .before .before .write-number .last .0) (c .before .before .before .write-number .result) w1 (c .before .before .before .write-number .ensures) in
-    let r : c .before .before .before .write-number .result + 1 ≤ length (c .before .before .before .write-number .last .0) = part-room t (a .at) (groupsLine (a .groups)) (c .before .before .before .write-number .last .0) (c .before .before .before .write-number .result) (10 ∷ []) ([]) w2 (c .before .before .before .before .before .before .before .before .before .before .before .pre) in
-    omega arith
+end c = write-part (first (start c)) (c .write-named .ensures)
+
+abbrev wrote : tie.After-byte-arg → tie.After-write-named
+wrote c = c .before .before .before
+
+slice-aggregate-write-named : tie.Need-slice-aggregate-write-named
+slice-aggregate-write-named c = search needs
+
+write-named-requires : tie.Need-write-named-requires
+unfolding groupsWord
+write-named-requires c κs =
+    let s = c .before .before .before in
+    part-room (named (s .args .groups)) (10 ∷ []) (first s) (s .pre)
+
+byte-requires : tie.Need-byte-requires
+byte-requires c κs = word-room (end (wrote c)) (start (wrote c) .pre)
 
 same-length : tie.Need-same-length
 same-length c = search needs
 
 returns : tie.Need-returns
-unfolding groupsWord
 returns c =
-    let a = c .before .before .before .before .before .before .before .before .before .before .before .before .before .before .args in
-    let t = a .out .now in
-    let w0 = begin t (a .at) (groupsLine (a .groups)) (groupsWord ++ ((32 ∷ decimal (a .groups)) ++ (10 ∷ []))) (groups-parts (a .groups)) in
-    let w1 = write-part t (a .at) (groupsLine (a .groups)) (t) (a .at) (groupsWord) (((32 ∷ decimal (a .groups)) ++ (10 ∷ []))) (c .before .before .before .before .before .before .before .before .before .before .write-word .last .0) (c .before .before .before .before .before .before .before .before .before .before .write-word .result) w0 (c .before .before .before .before .before .before .before .before .before .before .write-word .ensures) in
-    let w2 = write-part t (a .at) (groupsLine (a .groups)) (c .before .before .before .before .before .before .before .before .before .before .write-word .last .0) (c .before .before .before .before .before .before .before .before .before .before .write-word .result) ((32 ∷ decimal (a .groups))) ((10 ∷ [])) (c .before .before .before .before .before .before .write-number .last .0) (c .before .before .before .before .before .before .write-number .result) w1 (c .before .before .before .before .before .before .write-number .ensures) in
-    let w3 = write-part t (a .at) (groupsLine (a .groups)) (c .before .before .before .before .before .before .write-number .last .0) (c .before .before .before .before .before .before .write-number .result) ((10 ∷ [])) ([]) (c .before .before .write-byte .last .0) (c .before .before .write-byte .result) w2 (c .before .before .write-byte .ensures) in
-    write-end t (a .at) (groupsLine (a .groups)) (c .before .before .write-byte .last .0) (c .before .before .write-byte .result) w3
+    let b = c .before .before in
+    write-last (end (wrote (b .before))) (b .byte .ensures)
 
 pub write-count-spec : {M : Type 1} → statement M
 write-count-spec =
     tie.close
     (tie.spec
-    slice-aggregate-write-word
-    write-word-requires
-    write-number-requires
-    write-byte-requires
+    slice-aggregate-write-named
+    write-named-requires
+    byte-requires
     same-length
     returns)

@@ -1,98 +1,89 @@
-use Prim.Native.Nat.{_+_, _≤_}
-use native.Mathlib.Omega.{arith}
+use Prim.Native.Nat.{ℕ, _+_, _≤_}
 use mathlib.Core.List.{List, [], _∷_, _++_}
 use lib.ListN.{length}
-use Rattle.groups.proofs.Writes.{write-part, write-end}
-use Rattle.card.proofs.TextLaws.{begin, part-room, counts-parts}
 use Rattle.definitions.specs.Card.{decimal, clausesWord, roundsWord}
+use Rattle.writing.specs.Writing.{Writing}
+use Rattle.writing.proofs.Writes.{write-start, write-same, write-part, write-last, part-room, word-room}
 use Rattle.card.specs.Text.{countsLine}
+use Rattle.card.proofs.TextLaws.{counts-parts}
 use borrow.Author.Needs.{needs}
 use Rattle.card.proofs.line.write_counts.Statement.{statement}
 use Rattle.card.proofs.line.write_counts.Tie as tie
 
-slice-aggregate-write-word : tie.Need-slice-aggregate-write-word
-slice-aggregate-write-word c = search needs
+-- the fields of the line, each with what is left to be written at it
+abbrev Left : tie.Start → List ℕ → ℕ → List ℕ → Type 0
+Left s out to left = Writing (s .args .out .now) (s .args .at) (countsLine (s .args .clauses) (s .args .rounds)) out to left
 
-write-word-requires : tie.Need-write-word-requires
-unfolding clausesWord roundsWord
-write-word-requires c κs =
-    let a = c .before .before .before .args in
-    let t = a .out .now in
-    let w0 = begin t (a .at) (countsLine (a .clauses) (a .rounds)) (clausesWord ++ ((32 ∷ decimal (a .clauses)) ++ ((32 ∷ roundsWord) ++ ((32 ∷ decimal (a .rounds)) ++ (10 ∷ []))))) (counts-parts (a .clauses) (a .rounds)) in
-    part-room t (a .at) (countsLine (a .clauses) (a .rounds)) (t) (a .at) (clausesWord) (((32 ∷ decimal (a .clauses)) ++ ((32 ∷ roundsWord) ++ ((32 ∷ decimal (a .rounds)) ++ (10 ∷ []))))) w0 (c .before .before .before .pre)
+abbrev clauses : tie.Start → List ℕ
+clauses s = clausesWord ++ (32 ∷ decimal (s .args .clauses))
 
-write-number-requires : tie.Need-write-number-requires
-unfolding clausesWord roundsWord
-write-number-requires c κs =
-    let a = c .before .before .before .before .before .before .before .args in
-    let t = a .out .now in
-    let w0 = begin t (a .at) (countsLine (a .clauses) (a .rounds)) (clausesWord ++ ((32 ∷ decimal (a .clauses)) ++ ((32 ∷ roundsWord) ++ ((32 ∷ decimal (a .rounds)) ++ (10 ∷ []))))) (counts-parts (a .clauses) (a .rounds)) in
-    let w1 = write-part t (a .at) (countsLine (a .clauses) (a .rounds)) (t) (a .at) (clausesWord) (((32 ∷ decimal (a .clauses)) ++ ((32 ∷ roundsWord) ++ ((32 ∷ decimal (a .rounds)) ++ (10 ∷ []))))) (c .before .before .before .write-word .last .0) (c .before .before .before .write-word .result) w0 (c .before .before .before .write-word .ensures) in
-    part-room t (a .at) (countsLine (a .clauses) (a .rounds)) (c .before .before .before .write-word .last .0) (c .before .before .before .write-word .result) ((32 ∷ decimal (a .clauses))) (((32 ∷ roundsWord) ++ ((32 ∷ decimal (a .rounds)) ++ (10 ∷ [])))) w1 (c .before .before .before .before .before .before .before .pre)
+abbrev rounds : tie.Start → List ℕ
+rounds s = (32 ∷ roundsWord) ++ (32 ∷ decimal (s .args .rounds))
 
-slice-aggregate-write-word-2 : tie.Need-slice-aggregate-write-word-2
-slice-aggregate-write-word-2 c = search needs
+first : (s : tie.Start) → Left s (s .args .out .now) (s .args .at) (clauses s ++ (rounds s ++ (10 ∷ [])))
+first s = write-same (counts-parts (s .args .clauses) (s .args .rounds)) write-start
 
-write-word-requires-2 : tie.Need-write-word-requires-2
-unfolding clausesWord roundsWord
-write-word-requires-2 c κs =
-    let a = c .before .before .before .before .before .before .before .before .before .before .before .before .args in
-    let t = a .out .now in
-    let w0 = begin t (a .at) (countsLine (a .clauses) (a .rounds)) (clausesWord ++ ((32 ∷ decimal (a .clauses)) ++ ((32 ∷ roundsWord) ++ ((32 ∷ decimal (a .rounds)) ++ (10 ∷ []))))) (counts-parts (a .clauses) (a .rounds)) in
-    let w1 = write-part t (a .at) (countsLine (a .clauses) (a .rounds)) (t) (a .at) (clausesWord) (((32 ∷ decimal (a .clauses)) ++ ((32 ∷ roundsWord) ++ ((32 ∷ decimal (a .rounds)) ++ (10 ∷ []))))) (c .before .before .before .before .before .before .before .before .write-word .last .0) (c .before .before .before .before .before .before .before .before .write-word .result) w0 (c .before .before .before .before .before .before .before .before .write-word .ensures) in
-    let w2 = write-part t (a .at) (countsLine (a .clauses) (a .rounds)) (c .before .before .before .before .before .before .before .before .write-word .last .0) (c .before .before .before .before .before .before .before .before .write-word .result) ((32 ∷ decimal (a .clauses))) (((32 ∷ roundsWord) ++ ((32 ∷ decimal (a .rounds)) ++ (10 ∷ [])))) (c .before .before .before .before .write-number .last .0) (c .before .before .before .before .write-number .result) w1 (c .before .before .before .before .write-number .ensures) in
-    part-room t (a .at) (countsLine (a .clauses) (a .rounds)) (c .before .before .before .before .write-number .last .0) (c .before .before .before .before .write-number .result) ((32 ∷ roundsWord)) (((32 ∷ decimal (a .rounds)) ++ (10 ∷ []))) w2 (c .before .before .before .before .before .before .before .before .before .before .before .before .pre)
+abbrev lent : tie.After-write-named → tie.After-write-named-arg
+lent c = c .before .before
 
-write-number-requires-2 : tie.Need-write-number-requires-2
-unfolding clausesWord roundsWord
-write-number-requires-2 c κs =
-    let a = c .before .before .before .before .before .before .before .before .before .before .before .before .before .before .before .before .args in
-    let t = a .out .now in
-    let w0 = begin t (a .at) (countsLine (a .clauses) (a .rounds)) (clausesWord ++ ((32 ∷ decimal (a .clauses)) ++ ((32 ∷ roundsWord) ++ ((32 ∷ decimal (a .rounds)) ++ (10 ∷ []))))) (counts-parts (a .clauses) (a .rounds)) in
-    let w1 = write-part t (a .at) (countsLine (a .clauses) (a .rounds)) (t) (a .at) (clausesWord) (((32 ∷ decimal (a .clauses)) ++ ((32 ∷ roundsWord) ++ ((32 ∷ decimal (a .rounds)) ++ (10 ∷ []))))) (c .before .before .before .before .before .before .before .before .before .before .before .before .write-word .last .0) (c .before .before .before .before .before .before .before .before .before .before .before .before .write-word .result) w0 (c .before .before .before .before .before .before .before .before .before .before .before .before .write-word .ensures) in
-    let w2 = write-part t (a .at) (countsLine (a .clauses) (a .rounds)) (c .before .before .before .before .before .before .before .before .before .before .before .before .write-word .last .0) (c .before .before .before .before .before .before .before .before .before .before .before .before .write-word .result) ((32 ∷ decimal (a .clauses))) (((32 ∷ roundsWord) ++ ((32 ∷ decimal (a .rounds)) ++ (10 ∷ [])))) (c .before .before .before .before .before .before .before .before .write-number .last .0) (c .before .before .before .before .before .before .before .before .write-number .result) w1 (c .before .before .before .before .before .before .before .before .write-number .ensures) in
-    let w3 = write-part t (a .at) (countsLine (a .clauses) (a .rounds)) (c .before .before .before .before .before .before .before .before .write-number .last .0) (c .before .before .before .before .before .before .before .before .write-number .result) ((32 ∷ roundsWord)) (((32 ∷ decimal (a .rounds)) ++ (10 ∷ []))) (c .before .before .before .write-word2 .last .0) (c .before .before .before .write-word2 .result) w2 (c .before .before .before .write-word2 .ensures) in
-    part-room t (a .at) (countsLine (a .clauses) (a .rounds)) (c .before .before .before .write-word2 .last .0) (c .before .before .before .write-word2 .result) ((32 ∷ decimal (a .rounds))) ((10 ∷ [])) w3 (c .before .before .before .before .before .before .before .before .before .before .before .before .before .before .before .before .pre)
+abbrev start : tie.After-write-named → tie.Start
+start c = lent c .before .before
 
-write-byte-requires : tie.Need-write-byte-requires
-unfolding clausesWord roundsWord
-write-byte-requires c κs =
-    let a = c .before .before .before .before .before .before .before .before .before .before .before .before .before .before .before .before .before .before .before .before .args in
-    let t = a .out .now in
-    let w0 = begin t (a .at) (countsLine (a .clauses) (a .rounds)) (clausesWord ++ ((32 ∷ decimal (a .clauses)) ++ ((32 ∷ roundsWord) ++ ((32 ∷ decimal (a .rounds)) ++ (10 ∷ []))))) (counts-parts (a .clauses) (a .rounds)) in
-    let w1 = write-part t (a .at) (countsLine (a .clauses) (a .rounds)) (t) (a .at) (clausesWord) (((32 ∷ decimal (a .clauses)) ++ ((32 ∷ roundsWord) ++ ((32 ∷ decimal (a .rounds)) ++ (10 ∷ []))))) (c .before .before .before .before .before .before .before .before .before .before .before .before .before .before .before .before .write-word .last .0) (c .before .before .before .before .before .before .before .before .before .before .before .before .before .before .before .before .write-word .result) w0 (c .before .before .before .before .before .before .before .before .before .before .before .before .before .before .before .before .write-word .ensures) in
-    let w2 = write-part t (a .at) (countsLine (a .clauses) (a .rounds)) (c .before .before .before .before .before .before .before .before .before .before .before .before .before .before .before .before .write-word .last .0) (c .before .before .before .before .before .before .before .before .before .before .before .before .before .before .before .before .write-word .result) ((32 ∷ decimal (a .clauses))) (((32 ∷ roundsWord) ++ ((32 ∷ decimal (a .rounds)) ++ (10 ∷ [])))) (c .before .before .before .before .before .before .before .before .before .before .before .before .write-number .last .0) (c .before .before .before .before .before .before .before .before .before .before .before .before .write-number .result) w1 (c .before .before .before .before .before .before .before .before .before .before .before .before .write-number .ensures) in
-    let w3 = write-part t (a .at) (countsLine (a .clauses) (a .rounds)) (c .before .before .before .before .before .before .before .before .before .before .before .before .write-number .last .0) (c .before .before .before .before .before .before .before .before .before .before .before .before .write-number .result) ((32 ∷ roundsWord)) (((32 ∷ decimal (a .rounds)) ++ (10 ∷ []))) (c .before .before .before .before .before .before .before .write-word2 .last .0) (c .before .before .before .before .before .before .before .write-word2 .result) w2 (c .before .before .before .before .before .before .before .write-word2 .ensures) in
-    let w4 = write-part t (a .at) (countsLine (a .clauses) (a .rounds)) (c .before .before .before .before .before .before .before .write-word2 .last .0) (c .before .before .before .before .before .before .before .write-word2 .result) ((32 ∷ decimal (a .rounds))) ((10 ∷ [])) (c .before .before .before .write-number2 .last .0) (c .before .before .before .write-number2 .result) w3 (c .before .before .before .write-number2 .ensures) in
-    let r : c .before .before .before .write-number2 .result + 1 ≤ length (c .before .before .before .write-number2 .last .0) = part-room t (a .at) (countsLine (a .clauses) (a .rounds)) (c .before .before .before .write-number2 .last .0) (c .before .before .before .write-number2 .result) (10 ∷ []) ([]) w4 (c .before .before .before .before .before .before .before .before .before .before .before .before .before .before .before .before .before .before .before .before .pre) in
-    omega arith
+second : (c : tie.After-write-named) → Left (start c) (c .write-named .last .0) (c .write-named .result) (rounds (start c) ++ (10 ∷ []))
+unfolding clausesWord
+second c = write-part (first (start c)) (c .write-named .ensures)
+
+abbrev back : tie.After-write-named2 → tie.After-slice-known2
+back c = c .before .before .before
+
+abbrev counted : tie.After-write-named2 → tie.After-write-named
+counted c = back c .before .before
+
+end : (c : tie.After-write-named2) → Left (start (counted c)) (c .write-named2 .last .0) (c .write-named2 .result) (10 ∷ [])
+unfolding roundsWord
+end c = write-part (second (counted c)) (c .write-named2 .ensures)
+
+abbrev wrote : tie.After-byte-arg → tie.After-write-named2
+wrote c = c .before .before .before
+
+slice-aggregate-write-named : tie.Need-slice-aggregate-write-named
+slice-aggregate-write-named c = search needs
+
+write-named-requires : tie.Need-write-named-requires
+unfolding clausesWord
+write-named-requires c κs =
+    let s = c .before .before .before in
+    part-room (clauses s) (rounds s ++ (10 ∷ [])) (first s) (s .pre)
+
+slice-aggregate-write-named-2 : tie.Need-slice-aggregate-write-named-2
+slice-aggregate-write-named-2 c = search needs
+
+write-named-requires-2 : tie.Need-write-named-requires-2
+unfolding roundsWord
+write-named-requires-2 c κs =
+    let d = c .before .before in
+    let e = d .before .before in
+    part-room (rounds (start e)) (10 ∷ []) (second e) (start e .pre)
+
+byte-requires : tie.Need-byte-requires
+byte-requires c κs = word-room (end (wrote c)) (start (counted (wrote c)) .pre)
 
 same-length : tie.Need-same-length
 same-length c = search needs
 
 returns : tie.Need-returns
-unfolding clausesWord roundsWord
 returns c =
-    let a = c .before .before .before .before .before .before .before .before .before .before .before .before .before .before .before .before .before .before .before .before .before .before .before .args in
-    let t = a .out .now in
-    let w0 = begin t (a .at) (countsLine (a .clauses) (a .rounds)) (clausesWord ++ ((32 ∷ decimal (a .clauses)) ++ ((32 ∷ roundsWord) ++ ((32 ∷ decimal (a .rounds)) ++ (10 ∷ []))))) (counts-parts (a .clauses) (a .rounds)) in
-    let w1 = write-part t (a .at) (countsLine (a .clauses) (a .rounds)) (t) (a .at) (clausesWord) (((32 ∷ decimal (a .clauses)) ++ ((32 ∷ roundsWord) ++ ((32 ∷ decimal (a .rounds)) ++ (10 ∷ []))))) (c .before .before .before .before .before .before .before .before .before .before .before .before .before .before .before .before .before .before .before .write-word .last .0) (c .before .before .before .before .before .before .before .before .before .before .before .before .before .before .before .before .before .before .before .write-word .result) w0 (c .before .before .before .before .before .before .before .before .before .before .before .before .before .before .before .before .before .before .before .write-word .ensures) in
-    let w2 = write-part t (a .at) (countsLine (a .clauses) (a .rounds)) (c .before .before .before .before .before .before .before .before .before .before .before .before .before .before .before .before .before .before .before .write-word .last .0) (c .before .before .before .before .before .before .before .before .before .before .before .before .before .before .before .before .before .before .before .write-word .result) ((32 ∷ decimal (a .clauses))) (((32 ∷ roundsWord) ++ ((32 ∷ decimal (a .rounds)) ++ (10 ∷ [])))) (c .before .before .before .before .before .before .before .before .before .before .before .before .before .before .before .write-number .last .0) (c .before .before .before .before .before .before .before .before .before .before .before .before .before .before .before .write-number .result) w1 (c .before .before .before .before .before .before .before .before .before .before .before .before .before .before .before .write-number .ensures) in
-    let w3 = write-part t (a .at) (countsLine (a .clauses) (a .rounds)) (c .before .before .before .before .before .before .before .before .before .before .before .before .before .before .before .write-number .last .0) (c .before .before .before .before .before .before .before .before .before .before .before .before .before .before .before .write-number .result) ((32 ∷ roundsWord)) (((32 ∷ decimal (a .rounds)) ++ (10 ∷ []))) (c .before .before .before .before .before .before .before .before .before .before .write-word2 .last .0) (c .before .before .before .before .before .before .before .before .before .before .write-word2 .result) w2 (c .before .before .before .before .before .before .before .before .before .before .write-word2 .ensures) in
-    let w4 = write-part t (a .at) (countsLine (a .clauses) (a .rounds)) (c .before .before .before .before .before .before .before .before .before .before .write-word2 .last .0) (c .before .before .before .before .before .before .before .before .before .before .write-word2 .result) ((32 ∷ decimal (a .rounds))) ((10 ∷ [])) (c .before .before .before .before .before .before .write-number2 .last .0) (c .before .before .before .before .before .before .write-number2 .result) w3 (c .before .before .before .before .before .before .write-number2 .ensures) in
-    let w5 = write-part t (a .at) (countsLine (a .clauses) (a .rounds)) (c .before .before .before .before .before .before .write-number2 .last .0) (c .before .before .before .before .before .before .write-number2 .result) ((10 ∷ [])) ([]) (c .before .before .write-byte .last .0) (c .before .before .write-byte .result) w4 (c .before .before .write-byte .ensures) in
-    write-end t (a .at) (countsLine (a .clauses) (a .rounds)) (c .before .before .write-byte .last .0) (c .before .before .write-byte .result) w5
+    let b = c .before .before in
+    write-last (end (wrote (b .before))) (b .byte .ensures)
 
 pub write-counts-spec : {M : Type 1} → statement M
 write-counts-spec =
     tie.close
     (tie.spec
-    slice-aggregate-write-word
-    write-word-requires
-    write-number-requires
-    slice-aggregate-write-word-2
-    write-word-requires-2
-    write-number-requires-2
-    write-byte-requires
+    slice-aggregate-write-named
+    write-named-requires
+    slice-aggregate-write-named-2
+    write-named-requires-2
+    byte-requires
     same-length
     returns)

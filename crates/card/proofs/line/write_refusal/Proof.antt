@@ -1,111 +1,112 @@
-use Prim.Native.Nat.{_+_, _≤_}
-use native.Mathlib.Omega.{arith}
+use Prim.Native.Nat.{ℕ, _+_, _≤_}
 use mathlib.Core.List.{List, [], _∷_, _++_}
 use lib.ListN.{length}
-use Rattle.groups.proofs.Writes.{write-part, write-end}
-use Rattle.card.proofs.TextLaws.{begin, part-room, refusal-parts}
 use Rattle.definitions.specs.Card.{decimal, refusedWord, refusedText}
-use mathlib.Core.Path.{_≡_, refl}
+use Rattle.writing.specs.Writing.{Writing}
+use Rattle.writing.proofs.Writes.{write-start, write-same, write-part, write-last, part-room, word-room}
 use Rattle.answer.specs.Answer.{placed}
+use Rattle.card.proofs.TextLaws.{refusal-parts}
 use borrow.Author.Needs.{needs}
 use Rattle.card.proofs.line.write_refusal.Statement.{statement}
 use Rattle.card.proofs.line.write_refusal.Tie as tie
 
-slice-aggregate-write-word : tie.Need-slice-aggregate-write-word
-slice-aggregate-write-word c = search needs
+-- the fields of the line, each with what is left to be written at it
+abbrev Left : tie.Start → List ℕ → ℕ → List ℕ → Type 0
+Left s out to left = Writing (s .args .out .now) (s .args .at) (refusedText (placed (s .args .f))) out to left
 
-write-word-requires : tie.Need-write-word-requires
+abbrev field : ℕ → List ℕ
+field n = 32 ∷ decimal n
+
+-- from the places on
+abbrev places : tie.Start → List ℕ
+places s = field (s .args .f .first) ++ (field (s .args .f .second) ++ (10 ∷ []))
+
+abbrev start : tie.After-wide → tie.Start
+start c = c .before .before
+
+abbrev number : tie.After-wide → List ℕ
+number c = refusedWord ++ field (c .wide .result)
+
+first : (c : tie.After-wide) → let s = start c in Left s (s .args .out .now) (s .args .at) (number c ++ places s)
+first c = write-same (refusal-parts (placed (start c .args .f)) (c .wide .result) (c .wide .ensures .0)) write-start
+
+abbrev wide : tie.After-write-named → tie.After-wide
+wide c = c .before .before .before
+
+second : (c : tie.After-write-named) → let s = start (wide c) in Left s (c .write-named .last .0) (c .write-named .result) (places s)
 unfolding refusedWord
-write-word-requires c κs =
-    let a = c .before .before .before .args in
-    let q = a .f .number in
-    let e : q ≡ a .f .number = refl in
-    let t = a .out .now in
-    let w0 = begin t (a .at) (refusedText (placed (a .f))) (refusedWord ++ ((32 ∷ decimal q) ++ ((32 ∷ decimal (a .f .first)) ++ ((32 ∷ decimal (a .f .second)) ++ (10 ∷ []))))) (refusal-parts (placed (a .f)) q e) in
-    part-room t (a .at) (refusedText (placed (a .f))) (t) (a .at) (refusedWord) (((32 ∷ decimal q) ++ ((32 ∷ decimal (a .f .first)) ++ ((32 ∷ decimal (a .f .second)) ++ (10 ∷ []))))) w0 (c .before .before .before .pre)
+second c = write-part (first (wide c)) (c .write-named .ensures)
+
+abbrev back : tie.After-write-number → tie.After-slice-known2
+back c = c .before .before
+
+abbrev named : tie.After-write-number → tie.After-write-named
+named c = back c .before .before
+
+abbrev begun : tie.After-write-number → tie.Start
+begun c = start (wide (named c))
+
+third :
+    (c : tie.After-write-number) → let s = begun c in
+    Left s (c .write-number .last .0) (c .write-number .result) (field (s .args .f .second) ++ (10 ∷ []))
+third c = write-part (second (named c)) (c .write-number .ensures)
+
+abbrev first-back : tie.After-write-number2 → tie.After-slice-known3
+first-back c = c .before .before
+
+abbrev placed-first : tie.After-write-number2 → tie.After-write-number
+placed-first c = first-back c .before .before
+
+end : (c : tie.After-write-number2) → Left (begun (placed-first c)) (c .write-number2 .last .0) (c .write-number2 .result) (10 ∷ [])
+end c = write-part (third (placed-first c)) (c .write-number2 .ensures)
+
+abbrev wrote : tie.After-byte-arg → tie.After-write-number2
+wrote c = c .before .before .before
 
 wide-requires : tie.Need-wide-requires
 wide-requires c κs = search needs
 
-write-number-requires : tie.Need-write-number-requires
+slice-aggregate-write-named : tie.Need-slice-aggregate-write-named
+slice-aggregate-write-named c = search needs
+
+write-named-requires : tie.Need-write-named-requires
 unfolding refusedWord
+write-named-requires c κs =
+    let w = c .before .before in
+    part-room (number w) (places (start w)) (first w) (start w .pre)
+
+write-number-requires : tie.Need-write-number-requires
 write-number-requires c κs =
-    let a = c .before .before .before .before .before .before .before .before .args in
-    let q = c .wide .result in
-    let e : q ≡ a .f .number = c .wide .ensures .0 in
-    let t = a .out .now in
-    let w0 = begin t (a .at) (refusedText (placed (a .f))) (refusedWord ++ ((32 ∷ decimal q) ++ ((32 ∷ decimal (a .f .first)) ++ ((32 ∷ decimal (a .f .second)) ++ (10 ∷ []))))) (refusal-parts (placed (a .f)) q e) in
-    let w1 = write-part t (a .at) (refusedText (placed (a .f))) (t) (a .at) (refusedWord) (((32 ∷ decimal q) ++ ((32 ∷ decimal (a .f .first)) ++ ((32 ∷ decimal (a .f .second)) ++ (10 ∷ []))))) (c .before .before .before .before .write-word .last .0) (c .before .before .before .before .write-word .result) w0 (c .before .before .before .before .write-word .ensures) in
-    part-room t (a .at) (refusedText (placed (a .f))) (c .before .before .before .before .write-word .last .0) (c .before .before .before .before .write-word .result) ((32 ∷ decimal q)) (((32 ∷ decimal (a .f .first)) ++ ((32 ∷ decimal (a .f .second)) ++ (10 ∷ [])))) w1 (c .before .before .before .before .before .before .before .before .pre)
+    let d = c .before .before .before in
+    let s = start (wide d) in
+    part-room (field (s .args .f .first)) _ (second d) (s .pre)
 
 write-number-requires-2 : tie.Need-write-number-requires-2
-unfolding refusedWord
 write-number-requires-2 c κs =
-    let a = c .before .before .before .before .before .before .before .before .before .before .before .before .args in
-    let q = c .before .before .before .before .wide .result in
-    let e : q ≡ a .f .number = c .before .before .before .before .wide .ensures .0 in
-    let t = a .out .now in
-    let w0 = begin t (a .at) (refusedText (placed (a .f))) (refusedWord ++ ((32 ∷ decimal q) ++ ((32 ∷ decimal (a .f .first)) ++ ((32 ∷ decimal (a .f .second)) ++ (10 ∷ []))))) (refusal-parts (placed (a .f)) q e) in
-    let w1 = write-part t (a .at) (refusedText (placed (a .f))) (t) (a .at) (refusedWord) (((32 ∷ decimal q) ++ ((32 ∷ decimal (a .f .first)) ++ ((32 ∷ decimal (a .f .second)) ++ (10 ∷ []))))) (c .before .before .before .before .before .before .before .before .write-word .last .0) (c .before .before .before .before .before .before .before .before .write-word .result) w0 (c .before .before .before .before .before .before .before .before .write-word .ensures) in
-    let w2 = write-part t (a .at) (refusedText (placed (a .f))) (c .before .before .before .before .before .before .before .before .write-word .last .0) (c .before .before .before .before .before .before .before .before .write-word .result) ((32 ∷ decimal q)) (((32 ∷ decimal (a .f .first)) ++ ((32 ∷ decimal (a .f .second)) ++ (10 ∷ [])))) (c .before .before .before .write-number .last .0) (c .before .before .before .write-number .result) w1 (c .before .before .before .write-number .ensures) in
-    part-room t (a .at) (refusedText (placed (a .f))) (c .before .before .before .write-number .last .0) (c .before .before .before .write-number .result) ((32 ∷ decimal (a .f .first))) (((32 ∷ decimal (a .f .second)) ++ (10 ∷ []))) w2 (c .before .before .before .before .before .before .before .before .before .before .before .before .pre)
+    let d = c .before .before .before in
+    let s = begun d in
+    part-room (field (s .args .f .second)) _ (third d) (s .pre)
 
-write-number-requires-3 : tie.Need-write-number-requires-3
-unfolding refusedWord
-write-number-requires-3 c κs =
-    let a = c .before .before .before .before .before .before .before .before .before .before .before .before .before .before .before .before .args in
-    let q = c .before .before .before .before .before .before .before .before .wide .result in
-    let e : q ≡ a .f .number = c .before .before .before .before .before .before .before .before .wide .ensures .0 in
-    let t = a .out .now in
-    let w0 = begin t (a .at) (refusedText (placed (a .f))) (refusedWord ++ ((32 ∷ decimal q) ++ ((32 ∷ decimal (a .f .first)) ++ ((32 ∷ decimal (a .f .second)) ++ (10 ∷ []))))) (refusal-parts (placed (a .f)) q e) in
-    let w1 = write-part t (a .at) (refusedText (placed (a .f))) (t) (a .at) (refusedWord) (((32 ∷ decimal q) ++ ((32 ∷ decimal (a .f .first)) ++ ((32 ∷ decimal (a .f .second)) ++ (10 ∷ []))))) (c .before .before .before .before .before .before .before .before .before .before .before .before .write-word .last .0) (c .before .before .before .before .before .before .before .before .before .before .before .before .write-word .result) w0 (c .before .before .before .before .before .before .before .before .before .before .before .before .write-word .ensures) in
-    let w2 = write-part t (a .at) (refusedText (placed (a .f))) (c .before .before .before .before .before .before .before .before .before .before .before .before .write-word .last .0) (c .before .before .before .before .before .before .before .before .before .before .before .before .write-word .result) ((32 ∷ decimal q)) (((32 ∷ decimal (a .f .first)) ++ ((32 ∷ decimal (a .f .second)) ++ (10 ∷ [])))) (c .before .before .before .before .before .before .before .write-number .last .0) (c .before .before .before .before .before .before .before .write-number .result) w1 (c .before .before .before .before .before .before .before .write-number .ensures) in
-    let w3 = write-part t (a .at) (refusedText (placed (a .f))) (c .before .before .before .before .before .before .before .write-number .last .0) (c .before .before .before .before .before .before .before .write-number .result) ((32 ∷ decimal (a .f .first))) (((32 ∷ decimal (a .f .second)) ++ (10 ∷ []))) (c .before .before .before .write-number2 .last .0) (c .before .before .before .write-number2 .result) w2 (c .before .before .before .write-number2 .ensures) in
-    part-room t (a .at) (refusedText (placed (a .f))) (c .before .before .before .write-number2 .last .0) (c .before .before .before .write-number2 .result) ((32 ∷ decimal (a .f .second))) ((10 ∷ [])) w3 (c .before .before .before .before .before .before .before .before .before .before .before .before .before .before .before .before .pre)
-
-write-byte-requires : tie.Need-write-byte-requires
-unfolding refusedWord
-write-byte-requires c κs =
-    let a = c .before .before .before .before .before .before .before .before .before .before .before .before .before .before .before .before .before .before .before .before .args in
-    let q = c .before .before .before .before .before .before .before .before .before .before .before .before .wide .result in
-    let e : q ≡ a .f .number = c .before .before .before .before .before .before .before .before .before .before .before .before .wide .ensures .0 in
-    let t = a .out .now in
-    let w0 = begin t (a .at) (refusedText (placed (a .f))) (refusedWord ++ ((32 ∷ decimal q) ++ ((32 ∷ decimal (a .f .first)) ++ ((32 ∷ decimal (a .f .second)) ++ (10 ∷ []))))) (refusal-parts (placed (a .f)) q e) in
-    let w1 = write-part t (a .at) (refusedText (placed (a .f))) (t) (a .at) (refusedWord) (((32 ∷ decimal q) ++ ((32 ∷ decimal (a .f .first)) ++ ((32 ∷ decimal (a .f .second)) ++ (10 ∷ []))))) (c .before .before .before .before .before .before .before .before .before .before .before .before .before .before .before .before .write-word .last .0) (c .before .before .before .before .before .before .before .before .before .before .before .before .before .before .before .before .write-word .result) w0 (c .before .before .before .before .before .before .before .before .before .before .before .before .before .before .before .before .write-word .ensures) in
-    let w2 = write-part t (a .at) (refusedText (placed (a .f))) (c .before .before .before .before .before .before .before .before .before .before .before .before .before .before .before .before .write-word .last .0) (c .before .before .before .before .before .before .before .before .before .before .before .before .before .before .before .before .write-word .result) ((32 ∷ decimal q)) (((32 ∷ decimal (a .f .first)) ++ ((32 ∷ decimal (a .f .second)) ++ (10 ∷ [])))) (c .before .before .before .before .before .before .before .before .before .before .before .write-number .last .0) (c .before .before .before .before .before .before .before .before .before .before .before .write-number .result) w1 (c .before .before .before .before .before .before .before .before .before .before .before .write-number .ensures) in
-    let w3 = write-part t (a .at) (refusedText (placed (a .f))) (c .before .before .before .before .before .before .before .before .before .before .before .write-number .last .0) (c .before .before .before .before .before .before .before .before .before .before .before .write-number .result) ((32 ∷ decimal (a .f .first))) (((32 ∷ decimal (a .f .second)) ++ (10 ∷ []))) (c .before .before .before .before .before .before .before .write-number2 .last .0) (c .before .before .before .before .before .before .before .write-number2 .result) w2 (c .before .before .before .before .before .before .before .write-number2 .ensures) in
-    let w4 = write-part t (a .at) (refusedText (placed (a .f))) (c .before .before .before .before .before .before .before .write-number2 .last .0) (c .before .before .before .before .before .before .before .write-number2 .result) ((32 ∷ decimal (a .f .second))) ((10 ∷ [])) (c .before .before .before .write-number3 .last .0) (c .before .before .before .write-number3 .result) w3 (c .before .before .before .write-number3 .ensures) in
-    let r : c .before .before .before .write-number3 .result + 1 ≤ length (c .before .before .before .write-number3 .last .0) = part-room t (a .at) (refusedText (placed (a .f))) (c .before .before .before .write-number3 .last .0) (c .before .before .before .write-number3 .result) (10 ∷ []) ([]) w4 (c .before .before .before .before .before .before .before .before .before .before .before .before .before .before .before .before .before .before .before .before .pre) in
-    omega arith
+byte-requires : tie.Need-byte-requires
+byte-requires c κs = word-room (end (wrote c)) (begun (placed-first (wrote c)) .pre)
 
 same-length : tie.Need-same-length
 same-length c = search needs
 
 returns : tie.Need-returns
-unfolding refusedWord
 returns c =
-    let a = c .before .before .before .before .before .before .before .before .before .before .before .before .before .before .before .before .before .before .before .before .before .before .before .args in
-    let q = c .before .before .before .before .before .before .before .before .before .before .before .before .before .before .before .wide .result in
-    let e : q ≡ a .f .number = c .before .before .before .before .before .before .before .before .before .before .before .before .before .before .before .wide .ensures .0 in
-    let t = a .out .now in
-    let w0 = begin t (a .at) (refusedText (placed (a .f))) (refusedWord ++ ((32 ∷ decimal q) ++ ((32 ∷ decimal (a .f .first)) ++ ((32 ∷ decimal (a .f .second)) ++ (10 ∷ []))))) (refusal-parts (placed (a .f)) q e) in
-    let w1 = write-part t (a .at) (refusedText (placed (a .f))) (t) (a .at) (refusedWord) (((32 ∷ decimal q) ++ ((32 ∷ decimal (a .f .first)) ++ ((32 ∷ decimal (a .f .second)) ++ (10 ∷ []))))) (c .before .before .before .before .before .before .before .before .before .before .before .before .before .before .before .before .before .before .before .write-word .last .0) (c .before .before .before .before .before .before .before .before .before .before .before .before .before .before .before .before .before .before .before .write-word .result) w0 (c .before .before .before .before .before .before .before .before .before .before .before .before .before .before .before .before .before .before .before .write-word .ensures) in
-    let w2 = write-part t (a .at) (refusedText (placed (a .f))) (c .before .before .before .before .before .before .before .before .before .before .before .before .before .before .before .before .before .before .before .write-word .last .0) (c .before .before .before .before .before .before .before .before .before .before .before .before .before .before .before .before .before .before .before .write-word .result) ((32 ∷ decimal q)) (((32 ∷ decimal (a .f .first)) ++ ((32 ∷ decimal (a .f .second)) ++ (10 ∷ [])))) (c .before .before .before .before .before .before .before .before .before .before .before .before .before .before .write-number .last .0) (c .before .before .before .before .before .before .before .before .before .before .before .before .before .before .write-number .result) w1 (c .before .before .before .before .before .before .before .before .before .before .before .before .before .before .write-number .ensures) in
-    let w3 = write-part t (a .at) (refusedText (placed (a .f))) (c .before .before .before .before .before .before .before .before .before .before .before .before .before .before .write-number .last .0) (c .before .before .before .before .before .before .before .before .before .before .before .before .before .before .write-number .result) ((32 ∷ decimal (a .f .first))) (((32 ∷ decimal (a .f .second)) ++ (10 ∷ []))) (c .before .before .before .before .before .before .before .before .before .before .write-number2 .last .0) (c .before .before .before .before .before .before .before .before .before .before .write-number2 .result) w2 (c .before .before .before .before .before .before .before .before .before .before .write-number2 .ensures) in
-    let w4 = write-part t (a .at) (refusedText (placed (a .f))) (c .before .before .before .before .before .before .before .before .before .before .write-number2 .last .0) (c .before .before .before .before .before .before .before .before .before .before .write-number2 .result) ((32 ∷ decimal (a .f .second))) ((10 ∷ [])) (c .before .before .before .before .before .before .write-number3 .last .0) (c .before .before .before .before .before .before .write-number3 .result) w3 (c .before .before .before .before .before .before .write-number3 .ensures) in
-    let w5 = write-part t (a .at) (refusedText (placed (a .f))) (c .before .before .before .before .before .before .write-number3 .last .0) (c .before .before .before .before .before .before .write-number3 .result) ((10 ∷ [])) ([]) (c .before .before .write-byte .last .0) (c .before .before .write-byte .result) w4 (c .before .before .write-byte .ensures) in
-    write-end t (a .at) (refusedText (placed (a .f))) (c .before .before .write-byte .last .0) (c .before .before .write-byte .result) w5
+    let b = c .before .before in
+    write-last (end (wrote (b .before))) (b .byte .ensures)
 
 pub write-refusal-spec : {M : Type 1} → statement M
 write-refusal-spec =
     tie.close
     (tie.spec
-    slice-aggregate-write-word
-    write-word-requires
     wide-requires
+    slice-aggregate-write-named
+    write-named-requires
     write-number-requires
     write-number-requires-2
-    write-number-requires-3
-    write-byte-requires
+    byte-requires
     same-length
     returns)

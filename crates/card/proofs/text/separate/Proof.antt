@@ -1,23 +1,36 @@
 use native.Mathlib.Omega.{arith}
-use mathlib.Core.Path.{_≡_, ap, sym}
+use mathlib.Core.Path.{_≡_, ap}
 use lib.ListN.{length}
-use borrow.Author.Needs.{needs}
-use Rattle.card.proofs.TextLaws.{separator-first, separator-next, wrote-nothing}
+use Rattle.writing.proofs.Writes.{wrote-same, wrote-nothing}
+use Rattle.card.proofs.TextLaws.{separator-first, separator-next}
 use borrow.Author.Needs.{needs}
 use Rattle.card.proofs.text.separate.Statement.{statement}
 use Rattle.card.proofs.text.separate.Tie as tie
 
-returns : tie.Need-returns
-returns c = wrote-nothing _ _ _ (separator-first _ (c .if1 .taken))
+-- where the field is not the first
+abbrev start : tie.Else1 → tie.Start
+start c = c .before .before
 
-write-byte-requires : tie.Need-write-byte-requires
-write-byte-requires c κs = let e = ap length (separator-next (c .before .before .before .args .i) (c .before .if1 .left)) in let p = c .before .before .before .pre in omega arith
+abbrev next : tie.After-byte → tie.Else1
+next c = c .before .before
+
+returns : tie.Need-returns
+returns c = wrote-nothing (separator-first _ (c .if1 .taken))
+
+byte-requires : tie.Need-byte-requires
+byte-requires c κs =
+    let e = c .before in
+    let p = start e .pre in
+    let one = ap length (separator-next (start e .args .i) (e .if1 .left)) in
+    omega arith
 
 same-length : tie.Need-same-length
 same-length c = search needs
 
 returns-2 : tie.Need-returns-2
-returns-2 c = rw (separator-next (c .before .before .before .before .before .before .args .i) (c .before .before .before .before .if1 .left)) (c .before .before .write-byte .ensures)
+returns-2 c =
+    let b = c .before .before in
+    wrote-same (separator-next (start (next b) .args .i) (next b .if1 .left)) (b .byte .ensures)
 
 pub separate-spec : {M : Type 1} → statement M
-separate-spec = tie.close (tie.spec returns write-byte-requires same-length returns-2)
+separate-spec = tie.close (tie.spec returns byte-requires same-length returns-2)

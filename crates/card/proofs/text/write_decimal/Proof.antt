@@ -1,11 +1,28 @@
 use native.Mathlib.Omega.{arith}
-use mathlib.Core.Path.{_≡_, ap}
-use lib.ListN.{length}
-use Rattle.groups.specs.Writing.{Wrote}
+use Prim.Native.Nat.{_-_}
+use mathlib.Core.Path.{_≡_, ap, sym}
+use lib.ListN.{length, take, drop}
+use Rattle.definitions.specs.Card.{decimal}
+use Rattle.writing.proofs.Writes.{wrote-same}
 use Rattle.card.proofs.TextLaws.{digits-cut}
 use borrow.Author.Needs.{needs}
 use Rattle.card.proofs.text.write_decimal.Statement.{statement}
 use Rattle.card.proofs.text.write_decimal.Tie as tie
+
+-- after the digits are made: they stand at the end of the room
+abbrev start : tie.After-fill-digits → tie.Start
+start c = c .before .before .before
+
+digits :
+    (c : tie.After-fill-digits) → let f = c .fill-digits in
+    take (20 - f .result) (drop (f .result) (f .last .0)) ≡ decimal (start c .args .n)
+digits c = let f = c .fill-digits in digits-cut (f .last .0) (f .result) (start c .args .n) (f .kept .0) (f .ensures .0)
+
+abbrev lent : tie.After-bytes-arg2 → tie.After-room3
+lent c = c .before .before
+
+abbrev filled : tie.After-bytes-arg2 → tie.After-fill-digits
+filled c = lent c .before .before
 
 slice-aggregate-fill-digits : tie.Need-slice-aggregate-fill-digits
 slice-aggregate-fill-digits c = search needs
@@ -13,20 +30,20 @@ slice-aggregate-fill-digits c = search needs
 fill-digits-requires : tie.Need-fill-digits-requires
 fill-digits-requires c κs = search needs
 
-sub-write-word : tie.Need-sub-write-word
-sub-write-word c = search needs
+sub-bytes : tie.Need-sub-bytes
+sub-bytes c = search needs
 
-part-write-word-start : tie.Need-part-write-word-start
-part-write-word-start c = search needs
+part-bytes-start : tie.Need-part-bytes-start
+part-bytes-start c = search needs
 
-part-write-word-end : tie.Need-part-write-word-end
-part-write-word-end c = search needs
+part-bytes-end : tie.Need-part-bytes-end
+part-bytes-end c = search needs
 
-write-word-requires : tie.Need-write-word-requires
-write-word-requires c κs =
-    let f = c .before .before .before .before .fill-digits in
-    let e = ap length (digits-cut (f .last .0) (f .result) (c .before .before .before .before .before .before .before .args .n) (f .kept .0) (f .ensures .0)) in
-    let p = c .before .before .before .before .before .before .before .pre in
+bytes-requires : tie.Need-bytes-requires
+bytes-requires c κs =
+    let d = filled c in
+    let e = ap length (digits d) in
+    let p = start d .pre in
     omega arith
 
 same-length : tie.Need-same-length
@@ -34,8 +51,8 @@ same-length c = search needs
 
 returns : tie.Need-returns
 returns c =
-    let f = c .before .before .before .before .before .before .before .fill-digits in
-    rw (digits-cut (f .last .0) (f .result) (c .before .before .before .before .before .before .before .before .before .before .args .n) (f .kept .0) (f .ensures .0)) at (c .before .before .write-word .ensures)
+    let b = c .before .before in
+    wrote-same (sym (digits (filled (b .before)))) (b .bytes .ensures)
 
 pub write-decimal-spec : {M : Type 1} → statement M
 write-decimal-spec =
@@ -43,9 +60,9 @@ write-decimal-spec =
     (tie.spec
     slice-aggregate-fill-digits
     fill-digits-requires
-    sub-write-word
-    part-write-word-start
-    part-write-word-end
-    write-word-requires
+    sub-bytes
+    part-bytes-start
+    part-bytes-end
+    bytes-requires
     same-length
     returns)

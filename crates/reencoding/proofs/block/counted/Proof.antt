@@ -4,8 +4,8 @@ use mathlib.Core.List.{List}
 use Prim.Native.Nat.{ℕ}
 use native.Mathlib.Omega.{arith}
 use lib.ListN.{length, length-set}
-use Rattle.groups.specs.Writing.{Wrote}
-use Rattle.groups.proofs.Writes.{wrote-word}
+use Rattle.writing.specs.Writing.{Wrote}
+use Rattle.writing.proofs.Writes.{wrote-word}
 use Rattle.reencoding.proofs.WordLaws.{counted-length, literals-length}
 use borrow.Author.Needs.{needs}
 use Rattle.reencoding.proofs.block.counted.Statement.{statement}
@@ -36,7 +36,7 @@ same-length c = c .before .before .literals .kept .1 .1 .0 ∙ simp length-set
 
 returns : tie.Need-returns
 unfolding countedBy
-returns c = wrote-word _ _ _ _ _ _ (c .before .before .literals .ensures)
+returns c = wrote-word (c .before .before .literals .ensures)
 
 pub counted-spec : {M : Type 1} → statement M
 counted-spec =

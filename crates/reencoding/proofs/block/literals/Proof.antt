@@ -2,8 +2,8 @@ use Prim.Native.Nat.{ℕ, _≤_, _<_, _-_, _+_, _*_, _/_}
 use mathlib.Core.Path.{_≡_, refl}
 use native.Mathlib.Omega.{arith}
 use lib.ListN.{length, drop, length-drop, length-set}
-use Rattle.groups.specs.Writing.{Writing}
-use Rattle.groups.proofs.Writes.{write-start, write-same, write-two, write-end, write-room}
+use Rattle.writing.specs.Writing.{Writing}
+use Rattle.writing.proofs.Writes.{write-start, write-same, write-two, write-end, write-room}
 use Rattle.reencoding.specs.Words.{literalsBy}
 use Rattle.reencoding.proofs.WordLaws.{literals-length, literal-inside, literals-next, literals-end}
 use borrow.Author.Needs.{needs}
@@ -20,7 +20,7 @@ room : (c : tie.In-loop Inv-loop μ-loop) → c .before .loop .to + 2 ≤ length
 room c =
     let l = c .before .loop in
     let s = c .before .before .before .before .before in
-    let r = write-room _ _ _ _ _ _ (l .inv .1) (s .pre .0 .room) in
+    let r = write-room (l .inv .1) (s .pre .0 .room) in
     let d = length-drop (l .i) (s .args .list .now) in
     let e = literals-length (s .args .places .now) (drop (l .i) (s .args .list .now)) in
     let t = c .loop-test .taken in
@@ -33,7 +33,7 @@ inside : (c : tie.After-wide Inv-loop μ-loop) → 2 * (c .wide .result / 2) + 1
 inside c = literal-inside _ _ (c .before .before .before .loop .i) (c .wide .result) (c .before .before .before .before .before .before .before .pre .1) (c .before .before .loop-test .taken) (c .wide .ensures .0)
 
 loop-holds : tie.Need-loop-holds Inv-loop μ-loop
-loop-holds c = (omega arith, write-start _ _ _)
+loop-holds c = (omega arith, write-start)
 
 mul-l : tie.Need-mul-l Inv-loop μ-loop
 mul-l c = search needs
@@ -98,7 +98,7 @@ loop-less c = search needs
 loop-again : tie.Need-loop-again Inv-loop μ-loop
 loop-again c =
     let l = c .before .before .before .before .before .loop in
-    (omega arith, write-two _ _ _ _ _ _ _ _ (write-same _ _ _ _ _ _ _ (literals-next _ _ (l .i) (c .before .before .wide .result) (c .before .before .before .before .loop-test .taken) (c .before .before .wide .ensures .0)) (l .inv .1)))
+    (omega arith, write-two (write-same (literals-next _ _ (l .i) (c .before .before .wide .result) (c .before .before .before .before .loop-test .taken) (c .before .before .wide .ensures .0)) (l .inv .1)))
 
 same-length : tie.Need-same-length Inv-loop μ-loop
 same-length c = c .before .loop .inv .1 .size
@@ -106,7 +106,7 @@ same-length c = c .before .loop .inv .1 .size
 returns : tie.Need-returns Inv-loop μ-loop
 returns c =
     let l = c .before .loop in
-    write-end _ _ _ _ _ (write-same _ _ _ _ _ _ _ (literals-end _ _ (l .i) (c .loop-test .left)) (l .inv .1))
+    write-end (write-same (literals-end _ _ (l .i) (c .loop-test .left)) (l .inv .1))
 
 pub literals-spec : {M : Type 1} → statement M
 literals-spec =

@@ -4,8 +4,8 @@ use mathlib.Core.List.{List}
 use Prim.Native.Nat.{ℕ, _≤_, _<_, _-_, _+_}
 use native.Mathlib.Omega.{arith}
 use lib.ListN.{length, take, drop, length-append, length-set}
-use Rattle.groups.specs.Writing.{Wrote}
-use Rattle.groups.proofs.Writes.{wrote-word, wrote-both}
+use Rattle.writing.specs.Writing.{Wrote}
+use Rattle.writing.proofs.Writes.{wrote-word, wrote-both}
 use Rattle.reencoding.specs.Words.{countedBy, rowsBy}
 use Rattle.reencoding.proofs.SizeLaws.{block-few, precondition-few, operator-words, operator-pre, operator-rows}
 use borrow.Author.Needs.{needs}
@@ -71,7 +71,7 @@ returns : tie.Need-returns
 returns c =
     let s = c .before .before .before .before .before .before .before .before .before .before .before .before .before in
     let e = operator-words _ _ _ _ (c .before .before .before .before .before .before .before .before .before .head .ensures) (s .args .places .now) in
-    rw e (wrote-both _ _ _ _ _ _ _ _ (c .before .before .before .before .before .before .counted .ensures) (wrote-word _ _ _ _ _ _ (c .before .before .rows .ensures)))
+    rw e (wrote-both (c .before .before .before .before .before .before .counted .ensures) (wrote-word (c .before .before .rows .ensures)))
 
 pub operator-spec : {M : Type 1} → statement M
 operator-spec =

@@ -5,8 +5,8 @@ use mathlib.Core.List.{List}
 use Prim.Native.Nat.{ℕ, _≤_, _+_, _<_, _*_, _/_}
 use native.Mathlib.Omega.{arith}
 use lib.ListN.{length, length-set}
-use Rattle.groups.specs.Writing.{Wrote}
-use Rattle.groups.proofs.Writes.{wrote-three}
+use Rattle.writing.specs.Writing.{Wrote}
+use Rattle.writing.proofs.Writes.{wrote-three}
 use Rattle.reencoding.proofs.WordLaws.{row-inside, row-conditions, row-length, row-words, counted-length}
 use borrow.Author.Needs.{needs}
 use Rattle.reencoding.proofs.block.row.Statement.{statement}
@@ -82,7 +82,7 @@ same-length c = c .before .before .counted .kept .1 .1 .0 ∙ simp length-set
 
 returns : tie.Need-returns
 unfolding rowBy atom
-returns c = wrote-three _ _ _ _ _ _ _ _ (c .before .before .counted .ensures)
+returns c = wrote-three (c .before .before .counted .ensures)
 
 pub row-spec : {M : Type 1} → statement M
 row-spec =

@@ -7,8 +7,8 @@ use Rattle.definitions.specs.Lists.{all}
 use Rattle.definitions.specs.Image.{rowRight}
 use Rattle.task.specs.Walk.{parsesAt, rowsAt}
 use Rattle.task.proofs.Blocks.{rows-none}
-use Rattle.groups.specs.Writing.{Writing}
-use Rattle.groups.proofs.Writes.{write-start, write-same, write-part, write-end, write-room}
+use Rattle.writing.specs.Writing.{Writing}
+use Rattle.writing.proofs.Writes.{write-start, write-same, write-part, write-end, write-room}
 use Rattle.reencoding.specs.Words.{atomsOf, rowsBy}
 use Rattle.reencoding.proofs.WordLaws.{rows-next, rows-room, rows-first, rows-others, rows-nothing, part-short}
 use borrow.Author.Needs.{needs}
@@ -25,7 +25,7 @@ abbrev μ-loop : tie.MeasureT-loop
 loop-holds : tie.Need-loop-holds Inv-loop μ-loop
 loop-holds c =
     let p = c .before .before .before .pre in
-    (p .1, (p .2, write-start _ _ _))
+    (p .1, (p .2, write-start))
 
 row-requires : tie.Need-row-requires Inv-loop μ-loop
 row-requires c κs = (c .before .loop .inv .0, omega arith)
@@ -47,7 +47,7 @@ row-requires-2 c κs =
     let l = c .before .before .before .before .loop in
     let s = c .before .before .before .before .before .before .before .before in
     let r = c .before .before .row .ensures .row in
-    let w = write-room _ _ _ _ _ _ (l .inv .1 .1) (s .pre .0 .room) in
+    let w = write-room (l .inv .1 .1) (s .pre .0 .room) in
     let q = rows-room (s .args .places .now) _ _ _ r in
     let short = part-short (s .args .block .now) (c .before .before .row .result .end - c .before .before .row .result .from) (c .before .before .row .result .from) in
     let h = s .pre .3 in
@@ -64,7 +64,7 @@ loop-again c =
     let l = c .before .before .before .before .before .before .before .loop in
     let s = c .before .before .before .before .before .before .before .before .before .before .before in
     let r = c .before .before .before .before .before .row .ensures in
-    (r .next, (rows-others (s .args .places .now) _ _ _ (r .row) _ (l .inv .1 .0), write-part _ _ _ _ _ _ _ _ _ (write-same _ _ _ _ _ _ _ (rows-next _ _ _ _ (r .row)) (l .inv .1 .1)) (c .before .before .row2 .ensures)))
+    (r .next, (rows-others (s .args .places .now) _ _ _ (r .row) _ (l .inv .1 .0), write-part (write-same (rows-next _ _ _ _ (r .row)) (l .inv .1 .1)) (c .before .before .row2 .ensures)))
 
 same-length : tie.Need-same-length Inv-loop μ-loop
 same-length c = c .before .loop .inv .1 .1 .size
@@ -72,7 +72,7 @@ same-length c = c .before .loop .inv .1 .1 .size
 returns : tie.Need-returns Inv-loop μ-loop
 returns c =
     let l = c .before .loop in
-    write-end _ _ _ _ _ (write-same _ _ _ _ _ _ _ (rows-nothing _ _ (rows-none _ (l .next) (l .left) (omega arith))) (l .inv .1 .1))
+    write-end (write-same (rows-nothing _ _ (rows-none _ (l .next) (l .left) (omega arith))) (l .inv .1 .1))
 
 pub rows-spec : {M : Type 1} → statement M
 rows-spec =

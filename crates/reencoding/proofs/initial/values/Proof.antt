@@ -14,11 +14,11 @@ taken c = length-take-le (c .args .count) (c .args .sizes .now) (c .pre .2)
 room : (c : tie.Start) → c .args .at + length (take (c .args .count) (c .args .sizes .now)) ≤ length (c .args .target .now)
 room c = omega (arith, taken c, c .pre .3)
 
-slice-aggregate-copy : tie.Need-slice-aggregate-copy
-slice-aggregate-copy c = sym (length-take-le (c .before .before .before .before .before .args .count) (c .before .before .before .before .before .args .sizes .now) (c .before .before .before .before .before .pre .2))
+slice-aggregate-words : tie.Need-slice-aggregate-words
+slice-aggregate-words c = sym (length-take-le (c .before .before .before .before .before .args .count) (c .before .before .before .before .before .args .sizes .now) (c .before .before .before .before .before .pre .2))
 
-copy-requires : tie.Need-copy-requires
-copy-requires c κs = omega (arith, c .before .before .before .before .before .before .pre .3, length-take-le (c .before .before .before .before .before .before .args .count) (c .before .before .before .before .before .before .args .sizes .now) (c .before .before .before .before .before .before .pre .2))
+words-requires : tie.Need-words-requires
+words-requires c κs = omega (arith, c .before .before .before .before .before .before .pre .3, length-take-le (c .before .before .before .before .before .before .args .count) (c .before .before .before .before .before .before .args .sizes .now) (c .before .before .before .before .before .before .pre .2))
 
 mul-lower-all : tie.Need-mul-lower-all
 mul-lower-all c = search needs
@@ -30,25 +30,25 @@ part-lower-all-start : tie.Need-part-lower-all-start
 part-lower-all-start c = search needs
 
 part-lower-all-end : tie.Need-part-lower-all-end
-part-lower-all-end c = words-end _ _ _ _ _ (c .before .before .copy .ensures) (room (c .before .before .before .before .before .before .before .before .before))
+part-lower-all-end c = words-end _ _ _ _ _ (c .before .before .words .ensures) (room (c .before .before .before .before .before .before .before .before .before))
 
 lower-all-requires : tie.Need-lower-all-requires
 lower-all-requires c κs =
     let s = c .before .before .before .before .before .before .before .before .before .before in
-    (s .pre .0, λ a h. (let e = ap length (part-is _ _ _ _ _ (c .before .before .before .copy .ensures) (room s)) in let k = s .pre .1 a h in let t = taken s in omega arith))
+    (s .pre .0, λ a h. (let e = ap length (part-is _ _ _ _ _ (c .before .before .before .words .ensures) (room s)) in let k = s .pre .1 a h in let t = taken s in omega arith))
 
 same-length : tie.Need-same-length
 same-length c = search needs
 
 returns : tie.Need-returns
-returns c = wrote-lowered _ _ _ _ _ (c .before .before .before .before .before .before .copy .ensures) (room (c .before .before .before .before .before .before .before .before .before .before .before .before .before)) _ _ _ (c .before .before .lower-all .ensures)
+returns c = wrote-lowered _ _ _ _ _ (c .before .before .before .before .before .before .words .ensures) (room (c .before .before .before .before .before .before .before .before .before .before .before .before .before)) _ _ _ (c .before .before .lower-all .ensures)
 
 pub values-spec : {M : Type 1} → statement M
 values-spec =
     tie.close
     (tie.spec
-    slice-aggregate-copy
-    copy-requires
+    slice-aggregate-words
+    words-requires
     mul-lower-all
     sub-lower-all
     part-lower-all-start

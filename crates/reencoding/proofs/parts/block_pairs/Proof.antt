@@ -4,8 +4,8 @@ use mathlib.Core.List.{List, [], _∷_, _++_, map}
 use native.Mathlib.Omega.{arith}
 use lib.ListN.{length, drop}
 use Rattle.task.specs.Reads.{taskOf}
-use Rattle.groups.specs.Writing.{Writing}
-use Rattle.groups.proofs.Writes.{write-start, write-same, write-part, write-end, write-room}
+use Rattle.writing.specs.Writing.{Writing}
+use Rattle.writing.proofs.Writes.{write-start, write-same, write-part, write-end, write-room}
 use Rattle.reencoding.specs.Parts.{sum, wordsOf, pairsOf}
 use Rattle.reencoding.proofs.PartLaws.{sizesLeft, sizes-next, sizes-most, sizes-count, pairs-next, pairs-end}
 use borrow.Author.Needs.{needs}
@@ -36,7 +36,7 @@ operators-requires : tie.Need-operators-requires Inv-loop μ-loop
 operators-requires c κs = search needs
 
 loop-holds : tie.Need-loop-holds Inv-loop μ-loop
-loop-holds c = (omega arith, (refl, write-start _ _ _))
+loop-holds c = (omega arith, (refl, write-start))
 
 block-size-requires : tie.Need-block-size-requires Inv-loop μ-loop
 block-size-requires c κs = (c .before .before .before .before .before .pre .0, omega (arith, c .loop-test .taken, c .before .before .operators .ensures .0))
@@ -70,7 +70,7 @@ loop-again c =
     let b = c .before .before .before .before .block-size .ensures .0 in
     let n = next (c .before .before .before .before) in
     let e = l .inv .1 .0 in
-    (omega arith, (omega arith, write-part _ _ _ _ _ _ _ _ _ (write-same _ _ _ _ _ _ _ (rw (← b) at (pairs-next (s .args .image .now) (l .i) (l .offset) h)) (l .inv .1 .1)) (c .before .before .pair .ensures)))
+    (omega arith, (omega arith, write-part (write-same (rw (← b) at (pairs-next (s .args .image .now) (l .i) (l .offset) h)) (l .inv .1 .1)) (c .before .before .pair .ensures)))
 
 same-length : tie.Need-same-length Inv-loop μ-loop
 same-length c = c .before .loop .inv .1 .1 .size
@@ -78,7 +78,7 @@ same-length c = c .before .loop .inv .1 .1 .size
 returns : tie.Need-returns Inv-loop μ-loop
 returns c =
     let l = c .before .loop in
-    write-end _ _ _ _ _ (write-same _ _ _ _ _ _ _ (pairs-end (c .before .before .before .before .before .args .image .now) (l .i) (l .offset) (omega (arith, c .loop-test .left, c .before .before .operators .ensures .0))) (l .inv .1 .1))
+    write-end (write-same (pairs-end (c .before .before .before .before .before .args .image .now) (l .i) (l .offset) (omega (arith, c .loop-test .left, c .before .before .operators .ensures .0))) (l .inv .1 .1))
 
 pub block-pairs-spec : {M : Type 1} → statement M
 block-pairs-spec =

@@ -4,8 +4,8 @@ use mathlib.Core.List.{List, [], _∷_, _++_, map}
 use native.Mathlib.Omega.{arith}
 use lib.ListN.{length, drop}
 use Rattle.task.specs.Reads.{taskOf}
-use Rattle.groups.specs.Writing.{Writing}
-use Rattle.groups.proofs.Writes.{write-start, write-same, write-part, write-end, write-room}
+use Rattle.writing.specs.Writing.{Writing}
+use Rattle.writing.proofs.Writes.{write-start, write-same, write-part, write-end, write-room}
 use Rattle.reencoding.specs.Parts.{operatorsBy}
 use Rattle.reencoding.proofs.PartLaws.{block-most, block-right, words-next, words-end, words-room}
 use borrow.Author.Needs.{needs}
@@ -25,7 +25,7 @@ operators-requires : tie.Need-operators-requires Inv-loop μ-loop
 operators-requires c κs = search needs
 
 loop-holds : tie.Need-loop-holds Inv-loop μ-loop
-loop-holds c = write-start _ _ _
+loop-holds c = write-start
 
 operator-block-requires : tie.Need-operator-block-requires Inv-loop μ-loop
 operator-block-requires c κs = (c .before .before .before .before .before .before .pre .0, omega (arith, c .loop-test .taken, c .before .before .operators .ensures .0))
@@ -37,7 +37,7 @@ operator-requires c κs =
     let h = here (c .before .before) in
     let g = c .before .operator-block .ensures in
     let r = s .pre .2 .room in
-    let w = write-room _ _ _ _ _ _ (l .inv) r in
+    let w = write-room (l .inv) r in
     let e = words-room (s .args .image .now) (l .i) (s .args .places .now) h in
     (record { low = s .pre .2 .low; room = rw (g .operator) (omega arith) }, g .parses, block-right _ (s .pre .0) (l .i) h _ g _ (s .pre .1), block-most _ (s .pre .0) (l .i) h _ g)
 
@@ -53,7 +53,7 @@ loop-again c =
     let s = c .before .before .before .before .before .before .before .before .before .before .before in
     let h = here (c .before .before .before .before .before) in
     let g = c .before .before .before .before .operator-block .ensures in
-    write-part _ _ _ _ _ _ _ _ _ (write-same _ _ _ _ _ _ _ (words-next (s .args .image .now) (l .i) (s .args .places .now) h) (l .inv)) (rw (g .operator) at (c .before .before .operator .ensures))
+    write-part (write-same (words-next (s .args .image .now) (l .i) (s .args .places .now) h) (l .inv)) (rw (g .operator) at (c .before .before .operator .ensures))
 
 same-length : tie.Need-same-length Inv-loop μ-loop
 same-length c = c .before .loop .inv .size
@@ -61,7 +61,7 @@ same-length c = c .before .loop .inv .size
 returns : tie.Need-returns Inv-loop μ-loop
 returns c =
     let l = c .before .loop in
-    write-end _ _ _ _ _ (write-same _ _ _ _ _ _ _ (words-end (c .before .before .before .before .before .before .args .image .now) (l .i) (c .before .before .before .before .before .before .args .places .now) (omega (arith, c .loop-test .left, c .before .before .operators .ensures .0))) (l .inv))
+    write-end (write-same (words-end (c .before .before .before .before .before .before .args .image .now) (l .i) (c .before .before .before .before .before .before .args .places .now) (omega (arith, c .loop-test .left, c .before .before .operators .ensures .0))) (l .inv))
 
 pub operators-spec : {M : Type 1} → statement M
 operators-spec =

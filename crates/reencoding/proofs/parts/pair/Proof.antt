@@ -1,4 +1,4 @@
-use Rattle.groups.proofs.Writes.{wrote-pair}
+use Rattle.writing.proofs.Writes.{wrote-pair}
 use mathlib.Core.Path.{_≡_, refl, ap}
 use mathlib.Core.List.{[]}
 use native.Mathlib.Omega.{arith}

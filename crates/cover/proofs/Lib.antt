@@ -1,0 +1,5 @@
+pub mod Lookups
+pub mod Joining
+pub mod DomainLaws
+pub mod Omitting
+pub mod Covering
