@@ -2,7 +2,7 @@
 use mathlib.Core.Path.{_≡_}
 use mathlib.Core.Bool.{true, false}
 use mathlib.Core.List.{List}
-use Prim.Native.Nat.{ℕ, _≤_, _<_}
+use Prim.Native.Nat.{ℕ, _*_, _≤_, _<_}
 use lib.ListN.{length}
 use Rattle.definitions.specs.Image.{operatorRight}
 use Rattle.definitions.specs.Closure.{closure, contradictory}
@@ -27,6 +27,13 @@ pub record ConsistentClosure (n : ℕ) (ws ls ms : List ℕ) : Type 0 where
 -- rows of judged clauses, each of them right
 pub record Judged (n : ℕ) (ws : List ℕ) : Type 0 where
   pub right : (i : ℕ) → i < rowCount ws → clauseRight n (rowAt ws i) ≡ true
+
+-- what is asked to judge rows of clauses under the operator of a block
+pub record BulkGiven (atoms : ℕ) (ws js b marks fails : List ℕ) : Type 0 where
+  pub given : Given atoms ws b
+  pub judged : Judged atoms js
+  pub room : 2 * atoms ≤ length marks
+  pub flagged : length fails ≡ rowCount js
 
 -- what is asked to test one clause under operator i, where the image, the clauses and the clause are read
 pub record Asks (w c f : List ℕ) (i n : ℕ) : Type 0 where

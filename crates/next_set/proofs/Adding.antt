@@ -1,5 +1,5 @@
 -- What an operator adds, by rows, flags and a list of literals. Assumes nothing.
-use mathlib.Core.Bool.{Bool, true, false, not, _&&_, cond, false≢true}
+use mathlib.Core.Bool.{Bool, true, false, not, _&&_, cond}
 use mathlib.Core.Logic.{_⊎_, inl, inr}
 use mathlib.Core.Option.{Option, none, some}
 use mathlib.Core.Path.{_≡_, refl, sym, _∙_, ap, subst}
@@ -9,14 +9,13 @@ use native.Mathlib.Omega.{arith}
 use lib.Dec.{eqb, ltb}
 use lib.ListN.{length, getD, take}
 use borrow.Author.Tests.{ltb-true, lt-ltb, not-true}
-use Rattle.definitions.specs.Lists.{any, all, keep, each, range, below, member, empty, ascending, compareWords, isSame}
-use Rattle.definitions.specs.Literal.{atom, allBelow, literalList}
+use Rattle.definitions.specs.Lists.{all, keep, each, range, below, member, empty, ascending, compareWords, isSame}
 use Rattle.definitions.specs.Image.{Operator, Task}
 use Rattle.definitions.specs.Closure.{has, bit, closure, contradictory}
 use Rattle.definitions.specs.Clauses.{width, clauseOf, rowOf, clauseRight, rowAt}
 use Rattle.definitions.specs.Kept.{kept, guaranteed}
 use Rattle.definitions.specs.Synthesis.{insertLiteral, guarantees, weakenedBy}
-use Rattle.definitions.proofs.ListLaws.{decide, or-false-left, and-left, and-right, and-both, all-at, all-of, keep-of, table-length, any-in, any-of}
+use Rattle.definitions.proofs.ListLaws.{decide, never, or-false-left, and-left, and-right, and-both, all-at, all-of, keep-of, table-length, any-in}
 use Rattle.definitions.proofs.SetLaws.{below-of, range-of}
 use Rattle.definitions.proofs.Walks.{below-in}
 use Rattle.clause.specs.Rows.{rowCount, clausesOf, ClausesRead, RightRows, Ascending}
@@ -25,8 +24,8 @@ use Rattle.clause.proofs.ReadLaws.{read-right}
 use Rattle.judge.specs.Judging.{failFlags, guaranteedFlags}
 use Rattle.judge.proofs.Guaranteed.{guaranteed-has}
 use Rattle.clause_set.specs.Put.{putAll, extended}
-use Rattle.clause_set.specs.Held.{mostAtoms}
-use Rattle.next_set.specs.Build.{isDue, addedRow, addedFor, addedBy}
+use Rattle.definitions.specs.Literal.{mostAtoms, mostLiterals, atom, allBelow, literalList}
+use Rattle.next_set.specs.Build.{isDue, someFails, addedRow, addedFor, addedBy}
 use Rattle.next_set.specs.Post.{Listed, Weakening}
 use Rattle.next_set.proofs.Flags.{flag-has, flags-length}
 use Rattle.next_set.proofs.NextSet.{keep-yes, keep-no}
@@ -96,45 +95,46 @@ module _ (t : Task) (C : List (List ℕ)) (o : Operator) where
         let l = flags-length (λ f. not (kept n C o f)) C flags fails in
         rw (flag-has (λ f. not (kept n C o f)) C flags fails i (omega arith), atoms)
 
-    -- the rows' additions are the operator's
-    pub rows-added : each (addedRow C flags (guarantees t C o) k) (range 0 (length C)) ≡ addedBy t C k o
-    unfolding addedBy addedRow addedFor
-    rows-added =
-        each-agree (addedRow C flags (guarantees t C o) k) (λ i. addedFor t C k o (getD C i [])) (range 0 (length C)) (λ i m. row i (range-of 0 (length C) m .1))
-        ∙ each-places (addedFor t C k o) [] C
-      where
-        row : (i : ℕ) → i < 0 + length C → addedRow C flags (guarantees t C o) k i ≡ addedFor t C k o (getD C i [])
-        row i h = rw (due-fails i (omega arith), weakened-each (getD C i []))
-
-    -- no row is to be weakened
-    pub none-added : any (isDue C flags k) (range 0 (length C)) ≡ false → addedBy t C k o ≡ []
-    unfolding addedRow
-    none-added h =
-        sym rows-added
-        ∙ each-none (addedRow C flags (guarantees t C o) k) (range 0 (length C)) (λ i m. rw (off i m (decide (isDue C flags k i))))
-      where
-        off : (i : ℕ) → List·Memᴰ i (range 0 (length C)) → (isDue C flags k i ≡ true) ⊎ (isDue C flags k i ≡ false) → isDue C flags k i ≡ false
-        off i m (inl e) = absurd (false≢true (sym h ∙ any-in (isDue C flags k) m e))
-        off i m (inr e) = e
-
     -- a clause fails only where the closure of C and the precondition is not contradictory
-    pub due-consistent : any (isDue C flags k) (range 0 (length C)) ≡ true → contradictory n (closure n C (o .precondition)) ≡ false
+    fails-consistent : (f : List ℕ) → (eqb (length f) k && not (kept (t .atoms) C o f)) ≡ true → contradictory n (closure n C (o .precondition)) ≡ false
     unfolding kept
-    due-consistent h =
-        let w = any-of (isDue C flags k) (range 0 (length C)) h in
-        let i = range-of 0 (length C) (w .mem) .1 in
-        let d = sym (due-fails (w .it) (omega arith)) ∙ w .passes in
-        let e = not-true (kept (t .atoms) C o (getD C (w .it) [])) (and-right (eqb (length (getD C (w .it) [])) k) (not (kept (t .atoms) C o (getD C (w .it) []))) d) in
+    fails-consistent f d =
+        let e = not-true (kept (t .atoms) C o f) (and-right (eqb (length f) k) (not (kept (t .atoms) C o f)) d) in
         subst (λ (m : ℕ). contradictory m (closure m C (o .precondition)) ≡ false) atoms (or-false-left (contradictory (t .atoms) (closure (t .atoms) C (o .precondition))) _ e)
 
+    -- the rows' additions are the operator's; the list is not asked where no clause fails
+    pub rows-added :
+        (list : List ℕ) → (contradictory n (closure n C (o .precondition)) ≡ false → list ≡ guarantees t C o)
+        → each (addedRow C flags list k) (range 0 (length C)) ≡ addedBy t C k o
+    unfolding addedBy addedRow addedFor
+    rows-added list listed =
+        each-agree (addedRow C flags list k) (λ i. addedFor t C k o (getD C i [])) (range 0 (length C)) (λ i m. row i (range-of 0 (length C) m .1))
+        ∙ each-places (addedFor t C k o) [] C
+      where
+        at : (f : List ℕ) (b : Bool) → (eqb (length f) k && not (kept (t .atoms) C o f)) ≡ b → cond b (each (extended f) list) [] ≡ cond b (weakenedBy t C f o) []
+        at f true d = rw (listed (fails-consistent f d)) (sym (weakened-each f))
+        at f false d = refl
+
+        row : (i : ℕ) → i < 0 + length C → addedRow C flags list k i ≡ addedFor t C k o (getD C i [])
+        row i h = rw (due-fails i (omega arith)) (at (getD C i []) (eqb (length (getD C i [])) k && not (kept (t .atoms) C o (getD C i []))) refl)
+
+-- an operator under which no clause of k literals fails adds none
+pub none-added : (t : Task) (C : List (List ℕ)) (o : Operator) (k : ℕ) → someFails t C k o ≡ false → addedBy t C k o ≡ []
+unfolding addedBy addedFor someFails
+none-added t C o k h = each-none (addedFor t C k o) C (λ f m. rw (off f m (decide (eqb (length f) k && not (kept (t .atoms) C o f)))))
+  where
+    off : (f : List ℕ) → List·Memᴰ f C → ((eqb (length f) k && not (kept (t .atoms) C o f)) ≡ true) ⊎ ((eqb (length f) k && not (kept (t .atoms) C o f)) ≡ false) → (eqb (length f) k && not (kept (t .atoms) C o f)) ≡ false
+    off f m (inl e) = never (any-in (λ g. eqb (length g) k && not (kept (t .atoms) C o g)) m e) h
+    off f m (inr e) = e
+
 -- the listed literals
-pub listed-low : (flags list : List ℕ) (k : ℕ) → Listed flags list k → length flags ≤ 2 * mostAtoms → allBelow (2 * mostAtoms) (take k list) ≡ true
+pub listed-low : (flags list : List ℕ) (k : ℕ) → Listed flags list k → length flags ≤ mostLiterals → allBelow mostLiterals (take k list) ≡ true
 unfolding allBelow
 listed-low flags list k l few =
     rw (l .words)
-    (all-of (λ x. ltb x (2 * mostAtoms)) (keep (has flags) (below (length flags))) (λ x m. let b = below-of (length flags) (keep-of (has flags) (below (length flags)) m .0) in lt-ltb x (2 * mostAtoms) (omega arith)))
+    (all-of (λ x. ltb x mostLiterals) (keep (has flags) (below (length flags))) (λ x m. let b = below-of (length flags) (keep-of (has flags) (below (length flags)) m .0) in lt-ltb x mostLiterals (omega arith)))
 
-pub no-words : (list : List ℕ) → allBelow (2 * mostAtoms) (take 0 list) ≡ true
+pub no-words : (list : List ℕ) → allBelow mostLiterals (take 0 list) ≡ true
 unfolding allBelow all
 no-words list = refl
 
@@ -170,7 +170,7 @@ module _ (w : List ℕ) (o : Operator) (n k : ℕ) (flags : List ℕ) (fails : f
   pub fails-length : length flags ≡ rowCount w
   fails-length = fail-count (clausesOf w) o n flags fails ∙ clauses-length w
 
-  pub weakening : n ≤ 1024 → ClausesRead n w → (list : List ℕ) → allBelow (2 * mostAtoms) list ≡ true → k < width → Weakening w flags list k
+  pub weakening : n ≤ mostAtoms → ClausesRead n w → (list : List ℕ) → allBelow mostLiterals list ≡ true → k < width → Weakening w flags list k
   weakening few read list low short =
       record {
         rows = rows-more n mostAtoms w few (read-right n w read);
@@ -179,12 +179,8 @@ module _ (w : List ℕ) (o : Operator) (n k : ℕ) (flags : List ℕ) (fails : f
         short = short;
       }
 
-  module _ (t : Task) (atoms : t .atoms ≡ n) (rows : ℕ) (s : Option (List (List ℕ))) where
-    pub under-none : any (isDue (clausesOf w) flags k) (range 0 (rowCount w)) ≡ false → putAll rows (addedBy t (clausesOf w) k o) s ≡ s
-    unfolding putAll
-    under-none h = rw (none-added t (clausesOf w) o n k flags atoms fails (rw clauses-length h))
-
-    pub under-some : any (isDue (clausesOf w) flags k) (range 0 (rowCount w)) ≡ true → (list : List ℕ) → (contradictory n (closure n (clausesOf w) (o .precondition)) ≡ false → list ≡ guarantees t (clausesOf w) o) → putAll rows (each (addedRow (clausesOf w) flags list k) (range 0 (rowCount w))) s ≡ putAll rows (addedBy t (clausesOf w) k o) s
-    under-some h list e =
-        let q = e (due-consistent t (clausesOf w) o n k flags atoms fails (rw clauses-length h)) in
-        rw (q, ← clauses-length w, rows-added t (clausesOf w) o n k flags atoms fails)
+  pub under-added :
+      (t : Task) → t .atoms ≡ n → (rows : ℕ) (s : Option (List (List ℕ))) (list : List ℕ)
+      → (contradictory n (closure n (clausesOf w) (o .precondition)) ≡ false → list ≡ guarantees t (clausesOf w) o)
+      → putAll rows (each (addedRow (clausesOf w) flags list k) (range 0 (rowCount w))) s ≡ putAll rows (addedBy t (clausesOf w) k o) s
+  under-added t atoms rows s list listed = rw (← clauses-length w, rows-added t (clausesOf w) o n k flags atoms fails list listed)

@@ -18,7 +18,8 @@ use Rattle.clause.specs.Rows.{rowCount, clausesOf, RightRows}
 use Rattle.clause.proofs.RowLaws.{clauses-at, clause-in}
 use Rattle.clause.proofs.ClauseLaws.{clause-good}
 use Rattle.clause_set.specs.Put.{putAll, extended}
-use Rattle.clause_set.specs.Held.{mostAtoms, Extensible}
+use Rattle.definitions.specs.Literal.{mostAtoms}
+use Rattle.clause_set.specs.Held.{Extensible}
 use Rattle.next_set.specs.Build.{isDue, addedRow}
 use Rattle.next_set.specs.Post.{Weakening}
 use Rattle.next_set.proofs.Flags.{has-one, has-not}

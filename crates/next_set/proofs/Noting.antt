@@ -1,133 +1,186 @@
--- Which operators fail clauses of which lengths, as noted in the test. Assumes nothing.
-use mathlib.Core.Bool.{Bool, true, false, false≢true}
+-- The test of all operators: the flags of the clauses that fail, and which operators fail clauses of how many literals. Assumes nothing.
+use mathlib.Core.Bool.{Bool, true, false, not, _&&_, _||_, false≢true, and-false}
 use mathlib.Core.Logic.{_⊎_, inl, inr}
 use mathlib.Core.Option.{Option}
 use mathlib.Core.Path.{_≡_, refl, sym, _∙_, ap, subst}
-use mathlib.Core.List.{List, [], _∷_}
+use mathlib.Core.List.{List, [], _∷_, _++_, map, List·Memᴰ, List·Memᴰ·head, List·Memᴰ·tail}
 use Prim.Native.Nat.{ℕ, zero, suc, _+_, _*_, _≤_, _<_}
 use native.Mathlib.Omega.{arith}
 use lib.Dec.{eqb}
-use lib.ListN.{length, getD, set, length-set}
+use lib.ListN.{length, getD, take, drop, set, replicate, length-replicate, getD-replicate}
 use lib.Seq.{getD-set-same, getD-set-other}
-use borrow.Author.Tests.{eqb-true, eqb-false, eq-eqb}
-use Rattle.definitions.specs.Lists.{any, range}
+use borrow.Author.Tests.{eqb-true, eqb-false, eq-eqb, ne-eqb}
+use Rattle.definitions.specs.Lists.{any}
 use Rattle.definitions.specs.Image.{Task}
-use Rattle.definitions.specs.Closure.{has}
+use Rattle.definitions.specs.Closure.{has, bit}
 use Rattle.definitions.specs.Clauses.{width}
+use Rattle.definitions.specs.Kept.{kept}
 use Rattle.definitions.specs.Step.{operatorAt}
-use Rattle.definitions.proofs.ListLaws.{decide, never, and-left, and-right, any-of}
-use Rattle.definitions.proofs.SetLaws.{range-of}
-use Rattle.judge.specs.Judging.{failFlags}
+use Rattle.definitions.proofs.ListLaws.{decide}
+use Rattle.definitions.proofs.Walks.{left-here, any-on, any-end}
+use Rattle.judge.specs.Judging.{flagMore}
+use Rattle.judge.proofs.Flagged.{flag-set, flag-stay, flag-end}
+use Rattle.judge.proofs.Violations.{any-agree}
 use Rattle.clause_set.specs.Put.{putAll}
-use Rattle.next_set.specs.Build.{isDue, addedBy}
-use Rattle.next_set.specs.Post.{Stays, Noted, Told}
-use Rattle.next_set.proofs.Flags.{has-not}
-use Rattle.next_set.proofs.Adding.{none-added, fail-count}
+use Rattle.next_set.specs.Build.{failsBelow, someFails, addedBy}
+use Rattle.next_set.specs.Post.{FlagsAdded, FailuresNoted}
+use Rattle.next_set.proofs.Flags.{flags-length, flag-yes, flag-no, has-not}
+use Rattle.next_set.proofs.Testing.{fails-start, fails-turn}
+use Rattle.next_set.proofs.Adding.{none-added}
 
--- ---- flags that stay
-pub stays-same : (s : List ℕ) → Stays s s
-stays-same s = record { same = refl; flags = λ i h. h }
+-- ---- the flags of one operator, clause after clause
+-- the flag at a place after one was put in
+put-has : (s : List ℕ) (q i : ℕ) → i < length s → has (set s q 1) i ≡ (eqb q i || has s i)
+unfolding has
+put-has s q i h = go (decide (eqb q i))
+  where
+    go : (eqb q i ≡ true) ⊎ (eqb q i ≡ false) → eqb (getD (set s q 1) i 0) 1 ≡ (eqb q i || eqb (getD s i 0) 1)
+    go (inl e) =
+        let x : q ≡ i = eqb-true q i e in
+        rw e (subst (λ (j : ℕ). eqb (getD (set s j 1) i 0) 1 ≡ true) (sym x) (eq-eqb (getD (set s i 1) i 0) 1 (getD-set-same s i 1 0 h)))
+    go (inr e) = rw (e, getD-set-other s q i 1 0 (λ x. eqb-false q i e (sym x)))
 
-pub stays-on : (r s u : List ℕ) → Stays r s → Stays s u → Stays r u
-stays-on r s u a b = record { same = b .same ∙ a .same; flags = λ i h. b .flags i (a .flags i h) }
+or-swap : (a b c : Bool) → ((a || b) || c) ≡ (b || (a || c))
+or-swap true true c = refl
+or-swap true false c = refl
+or-swap false b c = refl
 
-module _ (s s′ : List ℕ) (p : ℕ) (e : s′ ≡ set s p 1) where
-  -- a flag that is put in is there
-  put-has : p < length s → has s′ p ≡ true
-  unfolding has
-  put-has h = rw e (eq-eqb (getD (set s p 1) p 0) 1 (getD-set-same s p 1 0 h))
+module _ (p : List ℕ → Bool) (C : List (List ℕ)) (at : ℕ) where
+  -- the first j clauses are done: what was to be flagged is flagged, or comes from the clauses that are left
+  pub record Adding (to₀ to due₀ due : List ℕ) (j : ℕ) : Type 0 where
+    pub flags : flagMore p C to₀ ≡ take j to ++ flagMore p (drop j C) (drop j to)
+    pub noted :
+        (i : ℕ) → i < length due₀
+        → (any (λ f. p f && eqb (at + length f) i) C || has due₀ i) ≡ (any (λ f. p f && eqb (at + length f) i) (drop j C) || has due i)
 
-  pub stays-put : Stays s s′
-  unfolding has
-  stays-put = record { same = rw e (length-set s p 1); flags = λ i h. go i h (decide (eqb p i)) }
-    where
-      inside : (xs : List ℕ) (i : ℕ) → getD xs i 0 ≡ 1 → i < length xs
-      inside [] i h = let z : _≡_ {A = ℕ} 0 1 = h in absurd (omega arith)
-      inside (x ∷ xs) zero h = omega arith
-      inside (x ∷ xs) (suc i) h = let k = inside xs i h in omega arith
+  pub adding-start : (to due : List ℕ) → Adding to to due due 0
+  adding-start to due = record { flags = refl; noted = λ i h. refl }
 
-      go : (i : ℕ) → has s i ≡ true → (eqb p i ≡ true) ⊎ (eqb p i ≡ false) → has s′ i ≡ true
-      go i h (inl q) =
-          let k = inside s i (eqb-true (getD s i 0) 1 h) in
-          let x : p ≡ i = eqb-true p i q in
-          subst (λ (j : ℕ). has s′ j ≡ true) x (put-has (omega arith))
-      go i h (inr q) = rw (e, getD-set-other s p i 1 0 (λ x. eqb-false p i q (sym x))) h
+  module _ (to₀ to due₀ due : List ℕ) (j : ℕ) (a : Adding to₀ to due₀ due j) where
+    pub adding-end : length C ≤ j → FlagsAdded p C at to₀ to due₀ due
+    adding-end past =
+        record {
+          flags = sym (a .flags ∙ flag-end p C to j past);
+          noted = λ i h. sym (a .noted i h ∙ rw (any-end (λ f. p f && eqb (at + length f) i) C j past));
+        }
 
--- ---- the clauses of one operator
-module _ (C : List (List ℕ)) (flags : List ℕ) (at : ℕ) where
-  pub noted-start : (due : List ℕ) → Noted C flags due at 0
-  noted-start due = record { flag = λ i h. absurd (omega arith) }
+    module _ (flags : List ℕ) (e : flags ≡ map (λ f. bit (p f)) C) (more : j < length flags) (room : length flags ≡ length to) where
+      inside : j < length C
+      inside = let n = flags-length p C flags e in omega arith
 
-  pub noted-stays : (due due′ : List ℕ) (j : ℕ) → Noted C flags due at j → Stays due due′ → Noted C flags due′ at j
-  noted-stays due due′ j n s = record { flag = λ i h f room. s .flags (at + length (getD C i [])) (n .flag i h f (rw (← s .same) room)) }
+      -- a clause without a flag
+      pub adding-pass : (getD flags j 0 ≡ 1 → ⊥) → Adding to₀ to due₀ due (j + 1)
+      adding-pass h =
+          let off = flag-no p C flags e j more h in
+          record {
+            flags = a .flags ∙ flag-stay p C to j (getD C j []) refl inside (omega arith) off;
+            noted = λ i k. a .noted i k ∙ rw (any-on C j [] (getD C j []) refl inside (λ f. p f && eqb (at + length f) i) (rw off));
+          }
 
-  module _ (due : List ℕ) (j : ℕ) (n : Noted C flags due at j) where
-    next : (due′ : List ℕ) → Stays due due′ → (has flags j ≡ true → at + length (getD C j []) < length due′ → has due′ (at + length (getD C j [])) ≡ true) → Noted C flags due′ at (j + 1)
-    next due′ s here = record { flag = λ i h. go i h (decide (eqb i j)) }
-      where
-        go : (i : ℕ) → i < j + 1 → (eqb i j ≡ true) ⊎ (eqb i j ≡ false) → has flags i ≡ true → at + length (getD C i []) < length due′ → has due′ (at + length (getD C i [])) ≡ true
-        go i h (inl q) = rw (eqb-true i j q) here
-        go i h (inr q) =
-            let ne = eqb-false i j q in
-            noted-stays due due′ j n s .flag i (omega arith)
-
-    pub noted-end : (k : ℕ) → k ≤ j → Noted C flags due at k
-    noted-end k h = record { flag = λ i less. n .flag i (omega arith) }
-
-    -- a clause without a flag
-    pub noted-pass : (getD flags j 0 ≡ 1 → ⊥) → Noted C flags due at (j + 1)
-    noted-pass h = next due (stays-same due) (λ f room. never f (has-not flags j h))
-
-    -- a clause with its flag
-    pub noted-put : (due′ : List ℕ) (k : ℕ) → k ≡ length (getD C j []) → due′ ≡ set due (at + k) 1 → Noted C flags due′ at (j + 1)
-    noted-put due′ k e s =
-        let p = stays-put due due′ (at + k) s in
-        next due′ p (λ f room. subst (λ (x : ℕ). has due′ (at + x) ≡ true) e (put-has due due′ (at + k) s (rw (← p .same, e) room)))
+      -- a clause with its flag
+      pub adding-put : getD flags j 0 ≡ 1 → (k : ℕ) → k ≡ length (getD C j []) → length due ≡ length due₀ → Adding to₀ (set to j 1) due₀ (set due (at + k) 1) (j + 1)
+      unfolding any
+      adding-put h k size same =
+          let on = flag-yes p C flags e j more h in
+          record {
+            flags = a .flags ∙ flag-set p C to j (getD C j []) refl inside (omega arith) on;
+            noted = λ i d. a .noted i d ∙ rw (left-here C j [] (getD C j []) refl inside, on, put-has due (at + k) i (omega arith), size) (or-swap (eqb (at + length (getD C j [])) i) (any (λ f. p f && eqb (at + length f) i) (drop (j + 1) C)) (has due i));
+          }
 
 -- ---- all operators
+-- a number below j + 1 is below j, or it is j
+below-suc : (i j : ℕ) → i < j + 1 → (i < j) ⊎ (i ≡ j)
+below-suc i j h = go (decide (eqb i j))
+  where
+    go : (eqb i j ≡ true) ⊎ (eqb i j ≡ false) → (i < j) ⊎ (i ≡ j)
+    go (inl e) = inr (eqb-true i j e)
+    go (inr e) = let ne = eqb-false i j e in inl (omega arith)
+
+any-none : {A : Type 0} (p : A → Bool) (xs : List A) → ((x : A) → List·Memᴰ x xs → p x ≡ false) → any p xs ≡ false
+unfolding any
+any-none p [] h = refl
+any-none p (x ∷ xs) h = rw (h x (List·Memᴰ·head refl)) (any-none p xs (λ y m. h y (List·Memᴰ·tail m)))
+
+or-false : (a b : Bool) → b ≡ false → (a || b) ≡ a
+or-false true b e = refl
+or-false false b e = e
+
+and-swap : (a b : Bool) → (a && b) ≡ (b && a)
+and-swap true true = refl
+and-swap true false = refl
+and-swap false true = refl
+and-swap false false = refl
+
+-- a place stands for one operator
+same-place : (i j k x : ℕ) → 1 ≤ k → k ≤ width → 1 ≤ x → x ≤ width → width * j + x ≡ width * i + k → i ≡ j
+unfolding width
+same-place i j k x a b d e q = omega arith
+
+module _ (C : List (List ℕ)) (sizes : (f : List ℕ) → List·Memᴰ f C → (1 ≤ length f) × (length f ≤ width)) (p : List ℕ → Bool) where
+  -- the places of an operator have the flags of its own clauses
+  same-operator : (j k : ℕ) → any (λ f. p f && eqb (width * j + length f) (width * j + k)) C ≡ any (λ f. eqb (length f) k && p f) C
+  same-operator j k = any-agree (λ f. p f && eqb (width * j + length f) (width * j + k)) (λ f. eqb (length f) k && p f) C (λ f m. rw (shift (length f) (decide (eqb (length f) k))) (and-swap (p f) (eqb (length f) k)))
+    where
+      shift : (x : ℕ) → (eqb x k ≡ true) ⊎ (eqb x k ≡ false) → eqb (width * j + x) (width * j + k) ≡ eqb x k
+      shift x (inl e) = rw e (eq-eqb (width * j + x) (width * j + k) (ap (λ (z : ℕ). width * j + z) (eqb-true x k e)))
+      shift x (inr e) = rw e (ne-eqb (width * j + x) (width * j + k) (λ q. eqb-false x k e (omega arith)))
+
+  other-operator : (i j k : ℕ) → (i ≡ j → ⊥) → 1 ≤ k → k ≤ width → any (λ f. p f && eqb (width * j + length f) (width * i + k)) C ≡ false
+  other-operator i j k ne low high = any-none (λ f. p f && eqb (width * j + length f) (width * i + k)) C (λ f m. rw (off (length f) (sizes f m .0) (sizes f m .1)) (and-false (p f)))
+    where
+      off : (x : ℕ) → 1 ≤ x → x ≤ width → eqb (width * j + x) (width * i + k) ≡ false
+      off x a b = ne-eqb (width * j + x) (width * i + k) (λ q. ne (same-place i j k x low high a b q))
+
 module _ (t : Task) (C : List (List ℕ)) where
-  abbrev failsOf : ℕ → List ℕ
-  failsOf i = failFlags (t .atoms) C (operatorAt t i) C
+  -- the first j operators are done
+  pub record TestedBelow (failing due : List ℕ) (j : ℕ) : Type 0 where
+    pub flags : failing ≡ map (λ f. bit (failsBelow t C j f)) C
+    pub done :
+        (i k : ℕ) → i < j → 1 ≤ k → k ≤ width → width * i + k < length due
+        → has due (width * i + k) ≡ someFails t C k (operatorAt t i)
+    pub left : (i k : ℕ) → j ≤ i → 1 ≤ k → k ≤ width → width * i + k < length due → has due (width * i + k) ≡ false
 
-  -- what is noted of the first j operators
-  pub record NotedBelow (due : List ℕ) (j : ℕ) : Type 0 where
-    pub each : (i : ℕ) → i < j → Noted C (failFlags (t .atoms) C (operatorAt t i) C) due (width * i) (length C)
+  pub tested-start : (n m : ℕ) → n ≡ length C → TestedBelow (replicate n 0) (replicate m 0) 0
+  unfolding has
+  tested-start n m e =
+      record {
+        flags = ap (λ (x : ℕ). replicate x 0) e ∙ fails-start t C;
+        done = λ i k h. absurd (omega arith);
+        left = λ i k h a b room. rw (getD-replicate {A = ℕ} m (width * i + k) 0 0 (rw (length-replicate {A = ℕ} m 0) at room));
+      }
 
-  pub below-start : (due : List ℕ) → NotedBelow due 0
-  below-start due = record { each = λ i h. absurd (omega arith) }
+  pub tested-end : (failing due : List ℕ) → TestedBelow failing due (length (t .operators)) → FailuresNoted t C due
+  tested-end failing due b = record { flag = λ i k h. b .done i k h }
 
-  pub below-next : (n j : ℕ) (fails due due′ : List ℕ) → n ≡ t .atoms → NotedBelow due j → fails ≡ failFlags n C (operatorAt t j) C → Stays due due′ → Noted C fails due′ (width * j) (length fails) → NotedBelow due′ (j + 1)
-  below-next n j fails due due′ atoms b e s here = record { each = λ i h. go i h (decide (eqb i j)) }
-    where
-      size : length fails ≡ length C
-      size = fail-count C (operatorAt t j) n fails e
+  module _ (sizes : (f : List ℕ) → List·Memᴰ f C → (1 ≤ length f) × (length f ≤ width)) (n j : ℕ) (atoms : n ≡ t .atoms) (failing failing′ due due′ : List ℕ) where
+    abbrev fails : List ℕ → Bool
+    fails = λ f. not (kept n C (operatorAt t j) f)
 
-      mine : Noted C (failFlags (t .atoms) C (operatorAt t j) C) due′ (width * j) (length C)
-      mine = subst (λ (x : List ℕ). Noted C x due′ (width * j) (length C)) (e ∙ rw atoms) (subst (λ (x : ℕ). Noted C fails due′ (width * j) x) size here)
+    pub tested-next : TestedBelow failing due j → FlagsAdded fails C (width * j) failing failing′ due due′ → length due′ ≡ length due → TestedBelow failing′ due′ (j + 1)
+    unfolding someFails
+    tested-next b a same =
+        record {
+          flags = fails-turn t C n j failing failing′ atoms (b .flags) (a .flags);
+          done = λ i k h low high room. here i k low high (rw same at room) (below-suc i j h);
+          left = λ i k h low high room. a .noted (width * i + k) (rw same at room) ∙ rw (other-operator C sizes fails i j k (λ e. omega arith) low high) (b .left i k (omega arith) low high (rw same at room));
+        }
+      where
+        here : (i k : ℕ) → 1 ≤ k → k ≤ width → width * i + k < length due → (i < j) ⊎ (i ≡ j) → has due′ (width * i + k) ≡ someFails t C k (operatorAt t i)
+        here i k low high room (inl h) = a .noted (width * i + k) room ∙ rw (other-operator C sizes fails i j k (λ e. omega arith) low high) (b .done i k h low high room)
+        here i k low high room (inr e) =
+            subst (λ (x : ℕ). has due′ (width * x + k) ≡ someFails t C k (operatorAt t x)) (sym e)
+            (a .noted (width * j + k) (rw e at room)
+            ∙ or-false _ _ (b .left j k (omega arith) low high (rw e at room))
+            ∙ same-operator C sizes fails j k
+            ∙ ap (λ (x : ℕ). any (λ f. eqb (length f) k && not (kept x C (operatorAt t j) f)) C) atoms)
 
-      go : (i : ℕ) → i < j + 1 → (eqb i j ≡ true) ⊎ (eqb i j ≡ false) → Noted C (failFlags (t .atoms) C (operatorAt t i) C) due′ (width * i) (length C)
-      go i h (inl q) = rw (eqb-true i j q) mine
-      go i h (inr q) =
-          let ne = eqb-false i j q in
-          noted-stays C (failFlags (t .atoms) C (operatorAt t i) C) (width * i) due due′ (length C) (b .each i (omega arith)) s
-
-  -- an operator without a flag adds nothing
-  pub noted-told : (due : List ℕ) → NotedBelow due (length (t .operators)) → Told t C due
-  unfolding isDue has
-  noted-told due b = record { none = λ i k h room z. none-added t C (operatorAt t i) (t .atoms) k (failsOf i) refl refl (off i k h room z (decide (any (isDue C (failsOf i) k) (range 0 (length C))))) }
-    where
-      off : (i k : ℕ) → i < length (t .operators) → width * i + k < length due → getD due (width * i + k) 0 ≡ 0 → (any (isDue C (failsOf i) k) (range 0 (length C)) ≡ true) ⊎ (any (isDue C (failsOf i) k) (range 0 (length C)) ≡ false) → any (isDue C (failsOf i) k) (range 0 (length C)) ≡ false
-      off i k h room z (inr e) = e
-      off i k h room z (inl e) =
-          let w = any-of (isDue C (failsOf i) k) (range 0 (length C)) e in
-          let inside = range-of 0 (length C) (w .mem) .1 in
-          let size = eqb-true (length (getD C (w .it) [])) k (and-left (eqb (length (getD C (w .it) [])) k) (has (failsOf i) (w .it)) (w .passes)) in
-          let f = and-right (eqb (length (getD C (w .it) [])) k) (has (failsOf i) (w .it)) (w .passes) in
-          let d = subst (λ (x : ℕ). has due (width * i + x) ≡ true) size (b .each i h .flag (w .it) (omega arith) f (rw size room)) in
-          let one : getD due (width * i + k) 0 ≡ 1 = eqb-true (getD due (width * i + k) 0) 1 d in
-          absurd (omega arith)
-
-  -- so nothing is to be put in for it
-  pub put-none : (due : List ℕ) → Told t C due → (i k : ℕ) → i < length (t .operators) → width * i + k < length due → getD due (width * i + k) 0 ≡ 0 → (rows : ℕ) (s : Option (List (List ℕ))) → putAll rows (addedBy t C k (operatorAt t i)) s ≡ s
+  -- nothing is to be put in for an operator and a number of literals that are not noted
+  pub put-none :
+      (due : List ℕ) → FailuresNoted t C due → (i k : ℕ) → i < length (t .operators) → 1 ≤ k → k ≤ width
+      → width * i + k < length due → getD due (width * i + k) 0 ≡ 0 → (rows : ℕ) (s : Option (List (List ℕ)))
+      → putAll rows (addedBy t C k (operatorAt t i)) s ≡ s
   unfolding putAll
-  put-none due told i k h room z rows s = rw (told .none i k h room z)
+  put-none due noted i k h low high room z rows s = rw (none-added t C (operatorAt t i) k (sym (noted .flag i k h low high room) ∙ off))
+    where
+      off : has due (width * i + k) ≡ false
+      off = has-not due (width * i + k) (λ one. omega arith)

@@ -24,7 +24,8 @@ use Rattle.clause.proofs.RowLaws.{clauses-length}
 use Rattle.clause.proofs.ReadLaws.{read-right, read-whole}
 use Rattle.clause.proofs.WordLaws.{row-at}
 use Rattle.clause_set.specs.Put.{putAll}
-use Rattle.clause_set.specs.Held.{mostAtoms, held, Room}
+use Rattle.definitions.specs.Literal.{mostAtoms}
+use Rattle.clause_set.specs.Held.{held, Room}
 use Rattle.clause_set.proofs.Inserted.{Goods}
 use Rattle.clause_set.proofs.Insertion.{room-of, held-of}
 use Rattle.task.specs.Reads.{taskOf}
@@ -67,7 +68,7 @@ module _ (w c : List ℕ) (n most rows : ℕ) (r : Round w c n most rows) where
   abbrev C : List (List ℕ)
   C = clausesOf c
 
-  few : t .atoms ≤ 1024
+  few : t .atoms ≤ mostAtoms
   few = let e = r .read .atoms in let h = r .read .few in omega arith
 
   good : (f : List ℕ) → List·Memᴰ f C → GoodClause (t .atoms) most f

@@ -1,7 +1,7 @@
 -- All clauses tested under all operators. Assumes nothing.
 use mathlib.Core.Bool.{Bool, true, false, not, _&&_, _||_, cond, false≢true}
 use mathlib.Core.Path.{_≡_, refl, sym, _∙_, ap, subst}
-use mathlib.Core.List.{List, [], _∷_, _++_, map}
+use mathlib.Core.List.{List, [], _∷_, _++_, map, List·Memᴰ}
 use Prim.Native.Nat.{ℕ, zero, suc, _+_, _-_, _*_, _≤_, _<_}
 use native.Mathlib.Numerals.{add-one}
 use native.Mathlib.Omega.{arith}
@@ -9,32 +9,72 @@ use lib.Dec.{eqb}
 use lib.ListN.{length, getD, take, drop, replicate}
 use lib.Seq.{take-suc, take-length}
 use Rattle.definitions.specs.Lists.{any, all, keep}
-use Rattle.definitions.specs.Image.{Operator, Task}
+use Rattle.definitions.specs.Image.{mostOperators, Operator, Task}
+use Rattle.definitions.specs.Clauses.{width}
 use Rattle.definitions.specs.Step.{noOperator, operatorAt}
 use Rattle.definitions.specs.Closure.{has, bit}
 use Rattle.definitions.specs.Kept.{kept}
 use Rattle.definitions.specs.Synthesis.{tested, passes}
 use Rattle.clause.specs.Rows.{rowCount, clausesOf, ClausesRead}
+use Rattle.clause.proofs.ClauseLaws.{clause-good}
 use Rattle.clause.proofs.ReadLaws.{read-right}
 use Rattle.clause.proofs.RowLaws.{clauses-length}
-use Rattle.task.specs.Reads.{taskOf}
+use Rattle.task.specs.Reads.{taskOf, Reads}
+use Rattle.task.proofs.Questions.{task-read}
 use Rattle.task.specs.Walk.{operatorIn}
 use Rattle.task.specs.Post.{BlockGiven}
-use Rattle.judge.specs.Judging.{failFlags, flagMore}
-use Rattle.judge.specs.Promise.{Given, Judged}
+use Rattle.judge.specs.Judging.{flagMore}
+use Rattle.judge.specs.Promise.{Judged, BulkGiven}
 use Rattle.judge.proofs.Keeping.{given-operator}
 use Rattle.propagation.proofs.Marks.{bit-back}
 use Rattle.next_set.specs.Build.{failsBelow, survivors}
-use Rattle.next_set.specs.Post.{Read}
+use Rattle.next_set.specs.Post.{Read, ReadWithRoom, TestedWithRoom, WeakensAt}
 use Rattle.next_set.proofs.Flags.{flag-map}
 use Rattle.next_set.proofs.NextSet.{all-pass}
 
 -- ---- one operator
-pub read-given : (w c b : List ℕ) (n i : ℕ) → Read w c n → i < length (taskOf w .operators) → BlockGiven b (taskOf w) i → Given n c b
-read-given w c b n i r h g = given-operator w c b n i (r .task) (r .atoms) (r .few) h (r .clauses) g
+pub read-judged : (w c : List ℕ) (atoms : ℕ) → Read w c atoms → Judged atoms c
+read-judged w c atoms r = record { right = read-right atoms c (r .clauses) .right }
 
-pub read-judged : (w c : List ℕ) (n : ℕ) → Read w c n → Judged n c
-read-judged w c n r = record { right = read-right n c (r .clauses) .right }
+-- what judging asks, of the operator of a block
+pub read-bulk :
+    (w c b : List ℕ) (atoms i : ℕ) (marks fails : List ℕ) → ReadWithRoom w c atoms marks fails → i < length (taskOf w .operators)
+    → BlockGiven b (taskOf w) i → BulkGiven atoms c c b marks fails
+read-bulk w c b atoms i marks fails r h g =
+    let q = r .read in
+    record {
+      given = given-operator w c b atoms i (q .task) (q .atoms) (q .few) h (q .clauses) g;
+      judged = read-judged w c atoms q;
+      room = r .room;
+      flagged = r .flagged;
+    }
+
+pub few-operators : (w : List ℕ) → Reads w → length (taskOf w .operators) ≤ mostOperators
+few-operators w r = task-read w r .few-operators
+
+-- the numbers of literals of the clauses
+pub read-sizes : (w c : List ℕ) (atoms : ℕ) → Read w c atoms → (f : List ℕ) → List·Memᴰ f (clausesOf c) → (1 ≤ length f) × (length f ≤ width)
+read-sizes w c atoms r f m =
+    let g = clause-good atoms c (read-right atoms c (r .clauses)) f m in
+    (g .some-literal, g .most)
+
+-- room of the same length serves as well
+module _ (w c : List ℕ) (atoms : ℕ) where
+  pub tested-on :
+      (due marks fails marks′ fails′ : List ℕ) → length marks′ ≡ length marks → length fails′ ≡ length fails
+      → TestedWithRoom w c atoms due marks fails → TestedWithRoom w c atoms due marks′ fails′
+  tested-on due marks fails marks′ fails′ m f r =
+      let g = r .given in
+      record {
+        given = record { read = g .read; room = (let h = g .room in omega arith); flagged = f ∙ g .flagged };
+        noted = r .noted;
+      }
+
+  pub weakens-on :
+      (k : ℕ) (due marks fails marks′ fails′ : List ℕ) → length marks′ ≡ length marks → length fails′ ≡ length fails
+      → WeakensAt w c atoms k due marks fails → WeakensAt w c atoms k due marks′ fails′
+  weakens-on k due marks fails marks′ fails′ m f r =
+      record { tested = tested-on due marks fails marks′ fails′ m f (r .tested); some-literal = r .some-literal; short = r .short }
 
 -- ---- all operators
 module _ (t : Task) (C : List (List ℕ)) where
@@ -47,10 +87,13 @@ module _ (t : Task) (C : List (List ℕ)) where
       go [] = refl
       go (f ∷ D) = ap (λ (l : List ℕ). 0 ∷ l) (go D)
 
-  pub fails-turn : (n j : ℕ) (fails s s′ : List ℕ) → n ≡ t .atoms → fails ≡ failFlags n C (operatorAt t j) C → s ≡ map (λ f. bit (failsBelow t C j f)) C → ((p : List ℕ → Bool) (D : List (List ℕ)) → fails ≡ map (λ f. bit (p f)) D → s′ ≡ flagMore p D s) → s′ ≡ map (λ f. bit (failsBelow t C (j + 1) f)) C
-  unfolding failsBelow failFlags
-  fails-turn n j fails s s′ atoms e inv h =
-      h (λ f. not (kept (t .atoms) C (operatorAt t j) f)) C (e ∙ rw atoms)
+  pub fails-turn :
+      (n j : ℕ) (s s′ : List ℕ) → n ≡ t .atoms → s ≡ map (λ f. bit (failsBelow t C j f)) C
+      → s′ ≡ flagMore (λ f. not (kept n C (operatorAt t j) f)) C s → s′ ≡ map (λ f. bit (failsBelow t C (j + 1) f)) C
+  unfolding failsBelow
+  fails-turn n j s s′ atoms inv h =
+      h
+      ∙ ap (λ (m : ℕ). flagMore (λ f. not (kept m C (operatorAt t j) f)) C s) atoms
       ∙ ap (flagMore (λ f. not (kept (t .atoms) C (operatorAt t j) f)) C) inv
       ∙ flag-map (λ f. not (kept (t .atoms) C (operatorAt t j) f)) (failsBelow t C j) C
       ∙ rw add-one

@@ -5,7 +5,7 @@ use mathlib.Core.Option.{Option, none, some}
 use Prim.Native.Nat.{ℕ, zero, suc}
 use lib.Dec.{eqb}
 use lib.ListN.{length, getD}
-use Rattle.definitions.specs.Lists.{all, keep, each, range}
+use Rattle.definitions.specs.Lists.{any, all, keep, each, range}
 use Rattle.definitions.specs.Image.{Operator, Task}
 use Rattle.definitions.specs.Kept.{kept}
 use Rattle.definitions.specs.Closure.{has}
@@ -28,6 +28,10 @@ module _ (t : Task) (C : List (List ℕ)) where
   unfoldable pub failsBelow : ℕ → List ℕ → Bool
   failsBelow zero f = false
   failsBelow (suc j) f = let r = failsBelow j f in not (kept (t .atoms) C (operatorAt t j) f) || r
+
+  -- some clause of k literals fails under the operator
+  unfoldable pub someFails : ℕ → Operator → Bool
+  someFails k o = any (λ f. eqb (length f) k && not (kept (t .atoms) C o f)) C
 
   -- what an operator adds for a clause, if it has k literals and fails
   unfoldable pub addedFor : ℕ → Operator → List ℕ → List (List ℕ)

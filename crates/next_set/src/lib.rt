@@ -1,16 +1,13 @@
 // The next set of a synthesis: the clauses that pass and the failing ones weakened, without those that contain another.
 ghost use mathlib.Core.Path.{_≡_};
-ghost use mathlib.Core.List.{map};
-ghost use Prim.Native.Nat.{_*_, _≤_};
+ghost use Prim.Native.Nat.{_≤_};
 ghost use lib.ListN.{length};
-ghost use Rattle.definitions.specs.Closure.{bit};
-ghost use Rattle.definitions.specs.Clauses.{width};
 ghost use Rattle.definitions.specs.Synthesis.{next};
 ghost use Rattle.clause.specs.Rows.{rowCount, clausesOf};
 ghost use Rattle.task.specs.Reads.{taskOf};
 ghost use Rattle.clause_set.specs.Held.{Holds};
-ghost use Rattle.next_set.specs.Build.{failsBelow, fitted};
-ghost use Rattle.next_set.specs.Post.{Copied, Round, Told};
+ghost use Rattle.next_set.specs.Build.{fitted};
+ghost use Rattle.next_set.specs.Post.{Copied, TestedRound};
 use clause::WIDTH;
 use clause_set::Built;
 
@@ -37,11 +34,11 @@ fn copy_unflagged(clauses: &[u16], flags: &[u8], work: &mut [u16]) -> usize
     count
 }
 
-// Builds the next set in `work`, where the clauses that fail have their flag and `due` tells which operators fail clauses of which lengths.
+// Builds the next set in `work`, where the clauses that fail have their flag and `due` says which operators fail clauses of how many literals.
 pub fn next_set(
     image: &[u16],
     clauses: &[u16],
-    n: usize,
+    atoms: usize,
     most: usize,
     rows: usize,
     failing: &[u8],
@@ -50,14 +47,14 @@ pub fn next_set(
     fails: &mut [u8],
     work: &mut [u16],
 ) -> Built
-    requires { ⌜ Round (now image) (now clauses) n most rows × (now failing ≡ map (λ f. bit (failsBelow (taskOf (now image)) (clausesOf (now clauses)) (length (taskOf (now image) .operators)) f)) (clausesOf (now clauses))) × Told (taskOf (now image)) (clausesOf (now clauses)) (now due) × (2 * n ≤ length (now marks)) × (length (now fails) ≡ rowCount (now clauses)) × (width * rows ≤ length (now work)) ⌝ }
+    requires { ⌜ TestedRound (now image) (now clauses) atoms most rows (now failing) (now due) (now marks) (now fails) (now work) ⌝ }
     ensures { λ r. ⌜ Holds rows r (now (work .exit)) (fitted rows (next (taskOf (now (image .entry))) most (clausesOf (now (clauses .entry))))) ⌝ }
 {
     let count = copy_unflagged(clauses, failing, work);
     weaken::weaken(
         image,
         clauses,
-        n,
+        atoms,
         most,
         due,
         marks,

@@ -1,25 +1,27 @@
 // The test of all clauses under all operators.
 ghost use mathlib.Core.Path.{_≡_};
-ghost use mathlib.Core.Bool.{Bool};
+ghost use mathlib.Core.Bool.{Bool, not};
 ghost use mathlib.Core.List.{List, map};
 ghost use Prim.Native.Nat.{ℕ, _*_, _≤_, _<_};
 ghost use lib.Dec.{eqb};
 ghost use lib.ListN.{length};
 ghost use Rattle.definitions.specs.Lists.{any};
+ghost use Rattle.definitions.specs.Image.{mostOperators};
 ghost use Rattle.definitions.specs.Closure.{bit};
 ghost use Rattle.definitions.specs.Clauses.{width};
+ghost use Rattle.definitions.specs.Kept.{kept};
 ghost use Rattle.definitions.specs.Step.{operatorAt};
 ghost use Rattle.clause.specs.Rows.{rowCount, clausesOf};
 ghost use Rattle.task.specs.Reads.{taskOf};
-ghost use Rattle.judge.specs.Judging.{failFlags, flagMore};
+ghost use Rattle.judge.specs.Judging.{failFlags};
 ghost use Rattle.next_set.specs.Build.{failsBelow};
-ghost use Rattle.next_set.specs.Post.{Read, Stays, Noted, Told};
+ghost use Rattle.next_set.specs.Post.{ReadWithRoom, FlagsAdded, FailuresNoted};
 use clause::WIDTH;
 
 // Adds flags of clauses to those of `to`. In `due`, from place `at` on, it flags the numbers of literals of the flagged clauses.
 fn add_flags(clauses: &[u16], flags: &[u8], to: &mut [u8], due: &mut [u8], at: usize)
-    requires { ⌜ (length (now flags) ≡ rowCount (now clauses)) × (length (now flags) ≡ length (now to)) × (at ≤ width * 1024) ⌝ }
-    ensures { λ _. ⌜ ((t : List ℕ → Bool) (D : List (List ℕ)) → now (flags .entry) ≡ map (λ f. bit (t f)) D → now (to .exit) ≡ flagMore t D (now (to .entry))) × Stays (now (due .entry)) (now (due .exit)) × Noted (clausesOf (now (clauses .entry))) (now (flags .entry)) (now (due .exit)) at (length (now (flags .entry))) ⌝ }
+    requires { ⌜ (length (now flags) ≡ rowCount (now clauses)) × (length (now flags) ≡ length (now to)) × (at ≤ width * mostOperators) ⌝ }
+    ensures { λ _. ⌜ ((p : List ℕ → Bool) → now (flags .entry) ≡ map (λ f. bit (p f)) (clausesOf (now (clauses .entry))) → FlagsAdded p (clausesOf (now (clauses .entry))) at (now (to .entry)) (now (to .exit)) (now (due .entry)) (now (due .exit))) ⌝ }
 {
     let mut i: usize = 0;
     while i < flags.len() {
@@ -52,37 +54,55 @@ pub fn some_flag(flags: &[u8]) -> bool
 pub fn judge_operator(
     image: &[u16],
     clauses: &[u16],
-    n: usize,
+    atoms: usize,
     operator: usize,
     marks: &mut [u8],
     fails: &mut [u8],
 )
-    requires { ⌜ Read (now image) (now clauses) n × (operator < length (taskOf (now image) .operators)) × (2 * n ≤ length (now marks)) × (length (now fails) ≡ rowCount (now clauses)) ⌝ }
-    ensures { λ _. ⌜ now (fails .exit) ≡ failFlags n (clausesOf (now (clauses .entry))) (operatorAt (taskOf (now (image .entry))) operator) (clausesOf (now (clauses .entry))) ⌝ }
+    requires { ⌜ ReadWithRoom (now image) (now clauses) atoms (now marks) (now fails) × (operator < length (taskOf (now image) .operators)) ⌝ }
+    ensures { λ _. ⌜ now (fails .exit) ≡ failFlags atoms (clausesOf (now (clauses .entry))) (operatorAt (taskOf (now (image .entry))) operator) (clausesOf (now (clauses .entry))) ⌝ }
 {
     let block = task::operator_block(image, operator);
-    judge::bulk::judge(clauses, clauses, block, marks, n, fails);
+    judge::bulk::judge(clauses, clauses, block, marks, atoms, fails);
 }
 
-// Flags the clauses that fail under some operator. In `due`, at `WIDTH * operator + k`, it flags which operators fail clauses of `k` literals.
-pub fn test(
+// Adds the flags of the clauses that fail under an operator. In `due`, at `WIDTH * operator + k`, it notes that a clause of `k` literals fails.
+fn test_operator(
     image: &[u16],
     clauses: &[u16],
-    n: usize,
+    atoms: usize,
+    operator: usize,
     marks: &mut [u8],
     fails: &mut [u8],
     failing: &mut [u8],
     due: &mut [u8],
 )
-    requires { ⌜ Read (now image) (now clauses) n × (2 * n ≤ length (now marks)) × (length (now fails) ≡ rowCount (now clauses)) × (length (now failing) ≡ rowCount (now clauses)) ⌝ }
-    ensures { λ _. ⌜ (now (failing .exit) ≡ map (λ f. bit (failsBelow (taskOf (now (image .entry))) (clausesOf (now (clauses .entry))) (length (taskOf (now (image .entry)) .operators)) f)) (clausesOf (now (clauses .entry)))) × Told (taskOf (now (image .entry))) (clausesOf (now (clauses .entry))) (now (due .exit)) ⌝ }
+    requires { ⌜ ReadWithRoom (now image) (now clauses) atoms (now marks) (now fails) × (operator < length (taskOf (now image) .operators)) × (length (now failing) ≡ rowCount (now clauses)) ⌝ }
+    ensures { λ _. ⌜ FlagsAdded (λ f. not (kept atoms (clausesOf (now (clauses .entry))) (operatorAt (taskOf (now (image .entry))) operator) f)) (clausesOf (now (clauses .entry))) (width * operator) (now (failing .entry)) (now (failing .exit)) (now (due .entry)) (now (due .exit)) ⌝ }
+{
+    judge_operator(image, clauses, atoms, operator, marks, fails);
+    add_flags(clauses, fails, failing, due, WIDTH * operator);
+}
+
+// Flags the clauses that fail under some operator, and notes in `due` which operators fail clauses of how many literals.
+pub fn test(
+    image: &[u16],
+    clauses: &[u16],
+    atoms: usize,
+    marks: &mut [u8],
+    fails: &mut [u8],
+    failing: &mut [u8],
+    due: &mut [u8],
+)
+    requires { ⌜ ReadWithRoom (now image) (now clauses) atoms (now marks) (now fails) × (length (now failing) ≡ rowCount (now clauses)) ⌝ }
+    ensures { λ _. ⌜ (now (failing .exit) ≡ map (λ f. bit (failsBelow (taskOf (now (image .entry))) (clausesOf (now (clauses .entry))) (length (taskOf (now (image .entry)) .operators)) f)) (clausesOf (now (clauses .entry)))) × FailuresNoted (taskOf (now (image .entry))) (clausesOf (now (clauses .entry))) (now (due .exit)) ⌝ }
 {
     let operators = task::operators(image);
     literal::flags::clear(failing);
+    literal::flags::clear(due);
     let mut operator: usize = 0;
     while operator < operators {
-        judge_operator(image, clauses, n, operator, marks, fails);
-        add_flags(clauses, fails, failing, due, WIDTH * operator);
+        test_operator(image, clauses, atoms, operator, marks, fails, failing, due);
         operator += 1;
     }
 }

@@ -3,32 +3,26 @@ ghost use mathlib.Core.Path.{_≡_};
 ghost use mathlib.Core.Option.{some};
 ghost use Prim.Native.Nat.{_*_, _-_, _≤_, _<_};
 ghost use lib.ListN.{length};
-ghost use Rattle.definitions.specs.Lists.{any, each, range};
+ghost use Rattle.definitions.specs.Lists.{each, range};
+ghost use Rattle.definitions.specs.Literal.{mostLiterals};
 ghost use Rattle.definitions.specs.Image.{Task};
 ghost use Rattle.definitions.specs.Clauses.{width};
 ghost use Rattle.definitions.specs.Step.{operatorAt};
-ghost use Rattle.clause.specs.Rows.{rowCount, clausesOf, RightRows};
+ghost use Rattle.clause.specs.Rows.{rowCount, clausesOf};
 ghost use Rattle.task.specs.Reads.{taskOf};
 ghost use Rattle.task.specs.Walk.{operatorIn};
 ghost use Rattle.judge.specs.Judging.{failFlags};
-ghost use Rattle.judge.specs.Promise.{Given, Judged};
+ghost use Rattle.judge.specs.Promise.{BulkGiven};
 ghost use Rattle.clause_set.specs.Put.{putAll};
 ghost use Rattle.clause_set.specs.Held.{held, Room, Holds};
 ghost use Rattle.next_set.specs.Build.{isDue, addedRow, addedBy, addedAt, addedFrom};
-ghost use Rattle.next_set.specs.Post.{Read, Listed, ListedGuarantees, Weakening, Told};
+ghost use Rattle.next_set.specs.Post.{Listed, ListedGuarantees, Weakening, WeakensAt, WeakensBelow};
 use clause::WIDTH;
 use clause_set::Built;
 
-// Room for a word for each literal.
-fn list_room() -> [u16; 2048]
-    ensures { λ r. ⌜ length r ≡ 2048 ⌝ }
-{
-    [0u16; 2048]
-}
-
 // Lists the literals that have their flag.
 fn list_flagged(flags: &[u8], list: &mut [u16]) -> usize
-    requires { ⌜ (length (now flags) ≤ length (now list)) × (length (now flags) ≤ 2048) ⌝ }
+    requires { ⌜ (length (now flags) ≤ length (now list)) × (length (now flags) ≤ mostLiterals) ⌝ }
     ensures { λ r. ⌜ Listed (now (flags .entry)) (now (list .exit)) r ⌝ }
 {
     let mut count: usize = 0;
@@ -50,22 +44,22 @@ fn list_flagged(flags: &[u8], list: &mut [u16]) -> usize
 fn judge_listed(
     clauses: &[u16],
     block: &[u16],
-    n: usize,
+    atoms: usize,
     marks: &mut [u8],
     fails: &mut [u8],
     list: &mut [u16],
 ) -> usize
-    requires { ⌜ Given n (now clauses) (now block) × Judged n (now clauses) × (2 * n ≤ length (now marks)) × (length (now fails) ≡ rowCount (now clauses)) × (length (now list) ≡ 2048) ⌝ }
-    ensures { λ r. ⌜ (now (fails .exit) ≡ failFlags n (clausesOf (now (clauses .entry))) (operatorIn (now (block .entry))) (clausesOf (now (clauses .entry)))) × ListedGuarantees n (clausesOf (now (clauses .entry))) (operatorIn (now (block .entry))) (now (list .exit)) r ⌝ }
+    requires { ⌜ BulkGiven atoms (now clauses) (now clauses) (now block) (now marks) (now fails) × (length (now list) ≡ mostLiterals) ⌝ }
+    ensures { λ r. ⌜ (now (fails .exit) ≡ failFlags atoms (clausesOf (now (clauses .entry))) (operatorIn (now (block .entry))) (clausesOf (now (clauses .entry)))) × ListedGuarantees atoms (clausesOf (now (clauses .entry))) (operatorIn (now (block .entry))) (now (list .exit)) r ⌝ }
 {
-    let mut flags = judge::guarantee::room();
-    let size = 2 * n;
+    let mut flags = literal::room::marks();
+    let size = 2 * atoms;
     if !judge::bulk::judge_guaranteed(
         clauses,
         clauses,
         block,
         marks,
-        n,
+        atoms,
         fails,
         &mut flags[..size],
     ) {
@@ -84,22 +78,6 @@ fn is_due(clauses: &[u16], flags: &[u8], k: usize, i: usize) -> bool
     }
     let literals = clause::literals(clause::row(clauses, i));
     literals.len() == k
-}
-
-// Whether some row has `k` literals and its flag.
-fn some_due(clauses: &[u16], flags: &[u8], k: usize) -> bool
-    requires { ⌜ length (now flags) ≡ rowCount (now clauses) ⌝ }
-    ensures { λ r. ⌜ r ≡ any (isDue (clausesOf (now (clauses .entry))) (now (flags .entry)) k) (range 0 (rowCount (now (clauses .entry)))) ⌝ }
-{
-    let count = clause::rows(clauses);
-    let mut i: usize = 0;
-    while i < count {
-        if is_due(clauses, flags, k, i) {
-            return true;
-        }
-        i += 1;
-    }
-    false
 }
 
 // Puts the clause of row `i` in with each literal of a list, if it has `k` literals and its flag.
@@ -158,7 +136,7 @@ fn weaken_rows(
 fn weaken_under(
     clauses: &[u16],
     block: &[u16],
-    n: usize,
+    atoms: usize,
     k: usize,
     marks: &mut [u8],
     fails: &mut [u8],
@@ -166,23 +144,20 @@ fn weaken_under(
     count: usize,
     rows: usize,
 ) -> Built
-    requires { ⌜ Given n (now clauses) (now block) × Judged n (now clauses) × (2 * n ≤ length (now marks)) × (length (now fails) ≡ rowCount (now clauses)) × (k < width) × Room rows count (now work) ⌝ }
-    ensures { λ r. ⌜ ((t : Task) → t .atoms ≡ n → Holds rows r (now (work .exit)) (putAll rows (addedBy t (clausesOf (now (clauses .entry))) k (operatorIn (now (block .entry)))) (some (held count (now (work .entry)))))) ⌝ }
+    requires { ⌜ BulkGiven atoms (now clauses) (now clauses) (now block) (now marks) (now fails) × (k < width) × Room rows count (now work) ⌝ }
+    ensures { λ r. ⌜ ((t : Task) → t .atoms ≡ atoms → Holds rows r (now (work .exit)) (putAll rows (addedBy t (clausesOf (now (clauses .entry))) k (operatorIn (now (block .entry)))) (some (held count (now (work .entry)))))) ⌝ }
 {
-    let mut list = list_room();
-    let length = judge_listed(clauses, block, n, marks, fails, &mut list[..2048]);
-    if !some_due(clauses, fails, k) {
-        return Built::Rows(count);
-    }
+    let mut list = literal::room::literals();
+    let length = judge_listed(clauses, block, atoms, marks, fails, &mut list);
     weaken_rows(clauses, fails, &list[..length], k, work, count, rows)
 }
 
 // Puts each clause of `k` literals that fails under an operator in with each literal that the operator guarantees, unless `due`
-// tells that there is none.
+// says that there is none.
 fn weaken_operator(
     image: &[u16],
     clauses: &[u16],
-    n: usize,
+    atoms: usize,
     operator: usize,
     k: usize,
     due: &[u8],
@@ -192,21 +167,21 @@ fn weaken_operator(
     count: usize,
     rows: usize,
 ) -> Built
-    requires { ⌜ Read (now image) (now clauses) n × (operator < length (taskOf (now image) .operators)) × (operator < 1024) × Told (taskOf (now image)) (clausesOf (now clauses)) (now due) × (2 * n ≤ length (now marks)) × (length (now fails) ≡ rowCount (now clauses)) × (k < width) × Room rows count (now work) ⌝ }
+    requires { ⌜ WeakensAt (now image) (now clauses) atoms k (now due) (now marks) (now fails) × (operator < length (taskOf (now image) .operators)) × Room rows count (now work) ⌝ }
     ensures { λ r. ⌜ Holds rows r (now (work .exit)) (putAll rows (addedBy (taskOf (now (image .entry))) (clausesOf (now (clauses .entry))) k (operatorAt (taskOf (now (image .entry))) operator)) (some (held count (now (work .entry))))) ⌝ }
 {
     if literal::flags::is_zero(due, WIDTH * operator + k) {
         return Built::Rows(count);
     }
     let block = task::operator_block(image, operator);
-    weaken_under(clauses, block, n, k, marks, fails, work, count, rows)
+    weaken_under(clauses, block, atoms, k, marks, fails, work, count, rows)
 }
 
 // Puts in what all operators add for the failing clauses of `k` literals.
 fn weaken_operators(
     image: &[u16],
     clauses: &[u16],
-    n: usize,
+    atoms: usize,
     k: usize,
     due: &[u8],
     marks: &mut [u8],
@@ -215,7 +190,7 @@ fn weaken_operators(
     count: usize,
     rows: usize,
 ) -> Built
-    requires { ⌜ Read (now image) (now clauses) n × Told (taskOf (now image)) (clausesOf (now clauses)) (now due) × (2 * n ≤ length (now marks)) × (length (now fails) ≡ rowCount (now clauses)) × (k < width) × Room rows count (now work) ⌝ }
+    requires { ⌜ WeakensAt (now image) (now clauses) atoms k (now due) (now marks) (now fails) × Room rows count (now work) ⌝ }
     ensures { λ r. ⌜ Holds rows r (now (work .exit)) (putAll rows (addedAt (taskOf (now (image .entry))) (clausesOf (now (clauses .entry))) k) (some (held count (now (work .entry))))) ⌝ }
 {
     let operators = task::operators(image);
@@ -225,7 +200,7 @@ fn weaken_operators(
         let built = weaken_operator(
             image,
             clauses,
-            n,
+            atoms,
             operator,
             k,
             due,
@@ -252,7 +227,7 @@ fn weaken_operators(
 pub fn weaken(
     image: &[u16],
     clauses: &[u16],
-    n: usize,
+    atoms: usize,
     most: usize,
     due: &[u8],
     marks: &mut [u8],
@@ -261,13 +236,24 @@ pub fn weaken(
     count: usize,
     rows: usize,
 ) -> Built
-    requires { ⌜ Read (now image) (now clauses) n × Told (taskOf (now image)) (clausesOf (now clauses)) (now due) × (2 * n ≤ length (now marks)) × (length (now fails) ≡ rowCount (now clauses)) × (1 ≤ most) × (most ≤ width) × Room rows count (now work) ⌝ }
+    requires { ⌜ WeakensBelow (now image) (now clauses) atoms most (now due) (now marks) (now fails) × Room rows count (now work) ⌝ }
     ensures { λ r. ⌜ Holds rows r (now (work .exit)) (putAll rows (addedFrom (taskOf (now (image .entry))) (clausesOf (now (clauses .entry))) 1 (most - 1)) (some (held count (now (work .entry))))) ⌝ }
 {
     let mut taken = count;
     let mut k: usize = 1;
     while k < most {
-        let built = weaken_operators(image, clauses, n, k, due, marks, fails, work, taken, rows);
+        let built = weaken_operators(
+            image,
+            clauses,
+            atoms,
+            k,
+            due,
+            marks,
+            fails,
+            work,
+            taken,
+            rows,
+        );
         match built {
             Built::Full => {
                 return Built::Full;

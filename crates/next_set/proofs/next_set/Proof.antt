@@ -18,21 +18,40 @@ use borrow.Author.Needs.{needs}
 use Rattle.next_set.proofs.next_set.Statement.{statement}
 use Rattle.next_set.proofs.next_set.Tie as tie
 
+-- where the survivors are copied
+abbrev copied : Type 0
+copied = tie.After-copy-unflagged
+
+abbrev start : copied → tie.Start
+start d = d .before .before .before .before .before .before .before .before .before
+
+abbrev survivors : copied → List ℕ
+survivors d = d .copy-unflagged .last .1 .1 .0
+
+fits : (d : copied) → width * start d .args .rows ≤ length (survivors d)
+fits d = omega (arith, start d .pre .fits, d .copy-unflagged .kept .1 .1 .0)
+
 copy-unflagged-requires : tie.Need-copy-unflagged-requires
 copy-unflagged-requires c κs =
     let a = c .before .before .before .before .before .before .before .before .args in
     let p = c .before .before .before .before .before .before .before .before .pre in
-    let t = taskOf (now (a .image)) in
-    let C = clausesOf (now (a .clauses)) in
-    (flags-length (failsBelow t C (length (t .operators))) C (now (a .failing)) (p .1) ∙ clauses-length (now (a .clauses)), omega (arith, p .5, round-words (now (a .image)) (now (a .clauses)) (a .n) (a .most) (a .rows) (p .0)))
+    let t = taskOf (a .image .now) in
+    let C = clausesOf (a .clauses .now) in
+    (flags-length (failsBelow t C (length (t .operators))) C (a .failing .now) (p .flags) ∙ clauses-length (a .clauses .now), omega (arith, p .fits, round-words (a .image .now) (a .clauses .now) (a .atoms) (a .most) (a .rows) (p .round)))
 
 weaken-requires : tie.Need-weaken-requires
 weaken-requires c κs =
-    let a = c .before .before .before .before .before .before .before .before .before .before .before .before .before .before .args in
-    let p = c .before .before .before .before .before .before .before .before .before .before .before .before .before .before .pre in
-    let u = c .before .before .before .before .before .copy-unflagged in
-    let fits : width * a .rows ≤ length (u .last .1 .1 .0) = omega (arith, p .5, u .kept .1 .1 .0) in
-    (p .0 .read, p .2, p .3, p .4, p .0 .some-literal, p .0 .narrow, survivors-room (now (a .image)) (now (a .clauses)) (a .n) (a .most) (a .rows) (p .0) (now (a .failing)) (p .1) (u .result) (u .last .1 .1 .0) (u .ensures) fits)
+    let d = c .before .before .before .before .before in
+    let a = start d .args in
+    let p = start d .pre in
+    let r = p .round in (
+      record {
+        tested = record { given = record { read = r .read; room = p .room; flagged = p .flagged }; noted = p .noted };
+        some-literal = r .some-literal;
+        narrow = r .narrow;
+      },
+      survivors-room (a .image .now) (a .clauses .now) (a .atoms) (a .most) (a .rows) r (a .failing .now) (p .flags) (d .copy-unflagged .result) (survivors d) (d .copy-unflagged .ensures) (fits d),
+    )
 
 same-length : tie.Need-same-length
 same-length c = search needs
@@ -45,11 +64,13 @@ same-length-3 c = search needs
 
 returns : tie.Need-returns
 returns c =
-    let a = c .before .before .before .before .before .before .before .before .before .before .before .before .before .before .before .before .before .before .before .before .before .args in
-    let p = c .before .before .before .before .before .before .before .before .before .before .before .before .before .before .before .before .before .before .before .before .before .pre in
-    let u = c .before .before .before .before .before .before .before .before .before .before .before .before .copy-unflagged in
-    let fits : width * a .rows ≤ length (u .last .1 .1 .0) = omega (arith, p .5, u .kept .1 .1 .0) in
-    subst (λ (z : Option (List (List ℕ))). Holds (a .rows) (c .before .before .before .before .before .before .weaken .result) (c .before .before .before .before .before .before .weaken .last .1 .1 .1 .1 .1 .1 .1 .0) z) (next-set-built (now (a .image)) (now (a .clauses)) (a .n) (a .most) (a .rows) (p .0) (now (a .failing)) (p .1) (u .result) (u .last .1 .1 .0) (u .ensures) fits) (c .before .before .before .before .before .before .weaken .ensures)
+    let w = c .before .before .before .before .before .before in
+    let d = w .before .before .before .before .before .before in
+    let a = start d .args in
+    let p = start d .pre in
+    subst (λ (z : Option (List (List ℕ))). Holds (a .rows) (w .weaken .result) (w .weaken .last .1 .1 .1 .1 .1 .1 .1 .0) z)
+    (next-set-built (a .image .now) (a .clauses .now) (a .atoms) (a .most) (a .rows) (p .round) (a .failing .now) (p .flags) (d .copy-unflagged .result) (survivors d) (d .copy-unflagged .ensures) (fits d))
+    (w .weaken .ensures)
 
 pub next-set-spec : {M : Type 1} → statement M
 next-set-spec =

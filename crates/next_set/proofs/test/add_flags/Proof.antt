@@ -1,37 +1,68 @@
 -- `next_set::test::add_flags`: the flags before `i` are added and noted. Assumes nothing.
-use Rattle.clause.proofs.RowLaws.{row-length}
-use Rattle.clause.proofs.ClauseLaws.{clause-short}
-use Rattle.definitions.specs.Clauses.{width, rowAt}
-use Prim.Native.Nat.{ℕ, _≤_, _-_}
-use denote.Ref.{now}
+use Prim.Native.Nat.{ℕ, _+_, _<_, _≤_, _-_}
 use mathlib.Core.Bool.{Bool}
-use mathlib.Core.Path.{_≡_, refl, sym, _∙_, ap}
-use mathlib.Core.List.{List, _++_, map}
+use mathlib.Core.Path.{_≡_, refl, sym, _∙_, ap, subst}
+use mathlib.Core.List.{List, [], map}
 use native.Mathlib.Omega.{arith}
-use lib.ListN.{length, take, drop, length-set}
+use lib.ListN.{length, getD, set, length-set}
 use Rattle.definitions.specs.Closure.{bit}
-use Rattle.definitions.specs.Clauses.{clauseOf}
-use Rattle.clause.specs.Rows.{clausesOf}
-use Rattle.clause.proofs.RowLaws.{clauses-at}
-use Rattle.judge.specs.Judging.{flagMore}
-use Rattle.judge.proofs.Flagged.{flag-set, flag-stay, flag-end}
-use Rattle.next_set.specs.Post.{Stays, Noted}
-use Rattle.next_set.proofs.Flags.{flags-length, flag-yes, flag-no}
-use Rattle.next_set.proofs.Noting.{stays-same, stays-on, stays-put, noted-start, noted-pass, noted-put, noted-end}
+use Rattle.definitions.specs.Clauses.{width, clauseOf, rowAt}
+use Rattle.clause.specs.Rows.{rowCount, clausesOf}
+use Rattle.clause.proofs.RowLaws.{row-length, clauses-at, clauses-length}
+use Rattle.clause.proofs.ClauseLaws.{clause-short}
+use Rattle.next_set.proofs.Flags.{flags-length}
+use Rattle.next_set.proofs.Noting.{Adding, adding-start, adding-pass, adding-put, adding-end}
 use borrow.Author.Needs.{needs}
 use Rattle.next_set.proofs.test.add_flags.Statement.{statement}
 use Rattle.next_set.proofs.test.add_flags.Tie as tie
 
 abbrev Inv-loop : tie.InvT-loop
-Inv-loop clauses flags to₀ due₀ at i₀ to due i = (length to ≡ length to₀) × ((t : List ℕ → Bool) (D : List (List ℕ)) → flags ≡ map (λ f. bit (t f)) D → flagMore t D to₀ ≡ take i to ++ flagMore t (drop i D) (drop i to)) × Stays due₀ due × Noted (clausesOf clauses) flags due at i
+Inv-loop clauses flags to₀ due₀ at i₀ to due i =
+    (length to ≡ length to₀) × (length due ≡ length due₀) ×
+    ((p : List ℕ → Bool) → flags ≡ map (λ f. bit (p f)) (clausesOf clauses) → Adding p (clausesOf clauses) at to₀ to due₀ due i)
 
 abbrev μ-loop : tie.MeasureT-loop
 μ-loop clauses flags to₀ due₀ at i₀ to due i = length flags - i
 
+-- at a row: the start, and what the row's clause is
+abbrev at-row : Type 0
+at-row = tie.In-loop Inv-loop μ-loop
+
+abbrev start : at-row → tie.Start Inv-loop μ-loop
+start r = r .before .before .before .before .before .before
+
+abbrev words : at-row → List ℕ
+words r = start r .args .clauses .now
+
+abbrev row : at-row → ℕ
+row r = r .before .loop .i
+
+in-rows : (r : at-row) → row r < rowCount (words r)
+in-rows r = omega (arith, r .loop-test .taken, start r .pre .0)
+
+-- the literals of the row are those of its clause
+abbrev read : Type 0
+read = tie.After-put-arg Inv-loop μ-loop
+
+abbrev read-row : read → at-row
+read-row d = d .before .before .before .before .before
+
+size : (d : read) → d .before .literals .result .now ≡ getD (clausesOf (words (read-row d))) (row (read-row d)) []
+size d =
+    d .before .literals .ensures
+    ∙ ap clauseOf (d .before .before .row .ensures)
+    ∙ sym (clauses-at (words (read-row d)) (row (read-row d)) (in-rows (read-row d)))
+
+short : (d : read) → length (d .before .literals .result .now) ≤ width
+short d =
+    let r = read-row d in
+    let k = ap length (d .before .literals .ensures ∙ ap clauseOf (d .before .before .row .ensures)) in
+    omega (arith, k, clause-short (rowAt (words r) (row r)), row-length (words r) (row r) (in-rows r))
+
 loop-holds : tie.Need-loop-holds Inv-loop μ-loop
 loop-holds c =
     let a = c .before .before .before .before .args in
-    (refl, λ t D e. refl, stays-same (a .due .now), noted-start (clausesOf (a .clauses .now)) (a .flags .now) (a .at) (a .due .now))
+    (refl, refl, λ p e. adding-start p (clausesOf (a .clauses .now)) (a .at) (a .to .now) (a .due .now))
 
 add-i : tie.Need-add-i Inv-loop μ-loop
 add-i c = search needs
@@ -44,27 +75,23 @@ loop-less c = search needs
 
 loop-again : tie.Need-loop-again Inv-loop μ-loop
 loop-again c =
-    let l = c .before .before .before .loop in
-    let a = c .before .before .before .before .before .before .before .before .args in
-    (l .inv .0, λ t D e. let n = flags-length t D (a .flags .now) e in l .inv .1 t D e ∙ flag-stay t D (l .to) (l .i) _ refl (omega arith) (omega arith) (flag-no t D (a .flags .now) e (l .i) (omega arith) (c .if1 .taken)), l .inv .2, noted-pass (clausesOf (a .clauses .now)) (a .flags .now) (a .at) (l .due) (l .i) (l .inv .3) (c .if1 .taken))
+    let r = c .before .before in
+    let l = r .before .loop in
+    let a = start r .args in
+    (l .inv .0, l .inv .1, λ p e. adding-pass p (clausesOf (words r)) (a .at) (a .to .now) (l .to) (a .due .now) (l .due) (l .i) (l .inv .2 p e) (a .flags .now) e (r .loop-test .taken) (start r .pre .1 ∙ sym (l .inv .0)) (λ q. omega (arith, c .if1 .taken, q)))
 
 slice-write-to : tie.Need-slice-write-to Inv-loop μ-loop
 slice-write-to c = search needs
 
 row-requires : tie.Need-row-requires Inv-loop μ-loop
-row-requires c κs = let p = c .before .before .before .before .before .before .before .before .pre in omega (arith, p .0, c .before .before .loop-test .taken)
+row-requires c κs = in-rows (c .before .before)
 
 literals-requires : tie.Need-literals-requires Inv-loop μ-loop
 literals-requires c κs = search needs
 
 add-put : tie.Need-add-put Inv-loop μ-loop
 unfolding width
-add-put c =
-    let l = c .before .before .before .before .before .before .loop in
-    let a = c .before .before .before .before .before .before .before .before .before .before .before .args in
-    let p = c .before .before .before .before .before .before .before .before .before .before .before .pre in
-    let size = ap length (c .before .literals .ensures ∙ ap clauseOf (c .before .before .row .ensures)) in
-    record { fits = omega (arith, p .2, size, clause-short (rowAt (a .clauses .now) (l .i)), row-length (a .clauses .now) (l .i) (omega (arith, p .0, c .before .before .before .before .before .loop-test .taken))) }
+add-put c = record { fits = omega (arith, start (read-row c) .pre .2, short c) }
 
 put-requires : tie.Need-put-requires Inv-loop μ-loop
 put-requires c κs = search needs
@@ -74,23 +101,24 @@ loop-less-2 c = search needs
 
 loop-again-2 : tie.Need-loop-again-2 Inv-loop μ-loop
 loop-again-2 c =
-    let l = c .before .before .before .before .before .before .before .before .before .loop in
-    let a = c .before .before .before .before .before .before .before .before .before .before .before .before .before .before .args in
-    let p = c .before .before .before .before .before .before .before .before .before .before .before .before .before .before .pre in
-    let size = ap length (c .before .before .before .before .literals .ensures ∙ ap clauseOf (c .before .before .before .before .before .row .ensures) ∙ sym (clauses-at (a .clauses .now) (l .i) (omega (arith, p .0, c .before .before .before .before .before .before .before .before .loop-test .taken)))) in
-    (simp length-set (l .inv .0), λ t D e. let n = flags-length t D (a .flags .now) e in l .inv .1 t D e ∙ flag-set t D (l .to) (l .i) _ refl (omega arith) (omega arith) (flag-yes t D (a .flags .now) e (l .i) (omega arith) (c .before .before .before .before .before .before .if1 .left)), stays-on (a .due .now) (l .due) (c .before .before .put .last .0) (l .inv .2) (stays-put (l .due) (c .before .before .put .last .0) _ (c .before .before .put .ensures)), noted-put (clausesOf (a .clauses .now)) (a .flags .now) (a .at) (l .due) (l .i) (l .inv .3) (c .before .before .put .last .0) _ size (c .before .before .put .ensures))
+    let d = c .before .before .before in
+    let r = read-row d in
+    let l = r .before .loop in
+    let a = start r .args in
+    let put = c .before .before .put in
+    (simp length-set (l .inv .0), put .kept .0 ∙ l .inv .1, λ p e. subst (λ (x : List ℕ). Adding p (clausesOf (words r)) (a .at) (a .to .now) (set (l .to) (l .i) 1) (a .due .now) x (l .i + 1)) (sym (put .ensures)) (adding-put p (clausesOf (words r)) (a .at) (a .to .now) (l .to) (a .due .now) (l .due) (l .i) (l .inv .2 p e) (a .flags .now) e (r .loop-test .taken) (start r .pre .1 ∙ sym (l .inv .0)) (omega (arith, d .before .before .before .if1 .left)) (length (d .before .literals .result .now)) (ap length (size d)) (l .inv .1)))
 
 same-length : tie.Need-same-length Inv-loop μ-loop
 same-length c = c .before .loop .inv .0
 
 same-length-2 : tie.Need-same-length-2 Inv-loop μ-loop
-same-length-2 c = c .before .loop .inv .2 .same
+same-length-2 c = c .before .loop .inv .1
 
 returns : tie.Need-returns Inv-loop μ-loop
 returns c =
     let l = c .before .loop in
     let a = c .before .before .before .before .before .before .args in
-    (λ t D e. let n = flags-length t D (a .flags .now) e in sym (l .inv .1 t D e ∙ flag-end t D (l .to) (l .i) (omega arith)), l .inv .2, noted-end (clausesOf (a .clauses .now)) (a .flags .now) (a .at) (l .due) (l .i) (l .inv .3) (length (a .flags .now)) (omega arith))
+    λ p e. adding-end p (clausesOf (a .clauses .now)) (a .at) (a .to .now) (l .to) (a .due .now) (l .due) (l .i) (l .inv .2 p e) (omega (arith, c .loop-test .left, flags-length p (clausesOf (a .clauses .now)) (a .flags .now) e))
 
 pub add-flags-spec : {M : Type 1} → statement M
 add-flags-spec =

@@ -2,19 +2,30 @@
 use mathlib.Core.Path.{_≡_, sym, _∙_, ap}
 use Rattle.clause.specs.Rows.{clausesOf}
 use Rattle.judge.specs.Judging.{failFlags}
-use Rattle.next_set.proofs.Testing.{read-given, read-judged}
+use Rattle.next_set.proofs.Testing.{read-bulk}
 use borrow.Author.Needs.{needs}
 use Rattle.next_set.proofs.test.judge_operator.Statement.{statement}
 use Rattle.next_set.proofs.test.judge_operator.Tie as tie
 
+-- where the block is known
+abbrev found : Type 0
+found = tie.After-operator-block
+
+abbrev start : found → tie.Start
+start d = d .before .before .before .before .before
+
+abbrev judged : tie.After-judge → found
+judged c = c .before .before .before
+
 operator-block-requires : tie.Need-operator-block-requires
-operator-block-requires c κs = search needs
+operator-block-requires c κs = (c .before .before .before .before .pre .0 .read .task, c .before .before .before .before .pre .1)
 
 judge-requires : tie.Need-judge-requires
 judge-requires c κs =
-    let a = c .before .before .before .before .before .before .before .args in
-    let p = c .before .before .before .before .before .before .before .pre in
-    (read-given (a .image .now) (a .clauses .now) _ (a .n) (a .operator) (p .0) (p .1) (c .before .before .operator-block .ensures), read-judged (a .image .now) (a .clauses .now) (a .n) (p .0), p .2, p .3)
+    let d = c .before .before in
+    let a = start d .args in
+    let g = read-bulk (a .image .now) (a .clauses .now) _ (a .atoms) (a .operator) (a .marks .now) (a .fails .now) (start d .pre .0) (start d .pre .1) (d .operator-block .ensures) in
+    (g .given, g .judged, g .room, g .flagged)
 
 same-length : tie.Need-same-length
 same-length c = search needs
@@ -24,8 +35,10 @@ same-length-2 c = search needs
 
 returns : tie.Need-returns
 returns c =
-    let a = c .before .before .before .before .before .before .before .before .before .before .before .before .args in
-    c .before .before .before .before .judge .ensures ∙ ap (λ o. failFlags (a .n) (clausesOf (a .clauses .now)) o (clausesOf (a .clauses .now))) (c .before .before .before .before .before .before .before .operator-block .ensures .operator)
+    let j = c .before .before .before .before in
+    let d = judged j in
+    let a = start d .args in
+    j .judge .ensures ∙ ap (λ o. failFlags (a .atoms) (clausesOf (a .clauses .now)) o (clausesOf (a .clauses .now))) (d .operator-block .ensures .operator)
 
 pub judge-operator-spec : {M : Type 1} → statement M
 judge-operator-spec =

@@ -1,57 +1,90 @@
--- `next_set::test::test`: the clauses that fail under one of the operators judged so far have their flag, and are noted. Assumes nothing.
-use Prim.Native.Nat.{_≤_, _<_, _-_, _*_}
+-- `next_set::test::test`: the clauses that fail under one of the operators tested so far have their flag, and are noted. Assumes nothing.
+use Prim.Native.Nat.{ℕ, _≤_, _<_, _-_, _*_}
 use mathlib.Core.Path.{_≡_, refl, sym, _∙_, ap, subst}
-use mathlib.Core.List.{map}
+use mathlib.Core.List.{List}
 use native.Mathlib.Omega.{arith}
 use lib.ListN.{length, replicate}
-use Rattle.definitions.specs.Closure.{bit}
-use Rattle.definitions.specs.Clauses.{width}
-use Rattle.clause.specs.Rows.{clausesOf}
+use Rattle.definitions.specs.Image.{Task}
+use Rattle.clause.specs.Rows.{rowCount, clausesOf}
 use Rattle.clause.proofs.RowLaws.{clauses-length}
 use Rattle.task.specs.Reads.{taskOf}
-use Rattle.next_set.specs.Build.{failsBelow}
-use Rattle.next_set.proofs.Testing.{fails-start, fails-turn}
-use Rattle.next_set.proofs.Noting.{NotedBelow, below-start, below-next, noted-told}
+use Rattle.next_set.specs.Post.{ReadWithRoom}
+use Rattle.next_set.proofs.Testing.{read-sizes}
+use Rattle.next_set.proofs.Noting.{TestedBelow, tested-start, tested-next, tested-end}
 use borrow.Author.Needs.{needs}
 use Rattle.next_set.proofs.test.test.Statement.{statement}
 use Rattle.next_set.proofs.test.test.Tie as tie
 
 abbrev Inv-loop : tie.InvT-loop
-Inv-loop image clauses n marks₀ fails₀ failing₀ due₀ operators operator₀ marks fails failing due operator =
-    (operators ≡ length (taskOf image .operators)) × (operator ≤ operators) × (length marks ≡ length marks₀) × (length fails ≡ length fails₀) × (length failing ≡ length failing₀) × (failing ≡ map (λ f. bit (failsBelow (taskOf image) (clausesOf clauses) operator f)) (clausesOf clauses)) × (length due ≡ length due₀) × NotedBelow (taskOf image) (clausesOf clauses) due operator
+Inv-loop image clauses atoms marks₀ fails₀ failing₀ due₀ operators operator₀ marks fails failing due operator =
+    (operators ≡ length (taskOf image .operators)) × (operator ≤ operators) ×
+    (length marks ≡ length marks₀) × (length fails ≡ length fails₀) × (length failing ≡ length failing₀) × (length due ≡ length due₀) ×
+    TestedBelow (taskOf image) (clausesOf clauses) failing due operator
 
 abbrev μ-loop : tie.MeasureT-loop
-μ-loop image clauses n marks₀ fails₀ failing₀ due₀ operators operator₀ marks fails failing due operator = operators - operator
+μ-loop image clauses atoms marks₀ fails₀ failing₀ due₀ operators operator₀ marks fails failing due operator = operators - operator
+
+-- in the loop: the start, the task and the clauses
+abbrev at-loop : Type 0
+at-loop = tie.At-loop Inv-loop μ-loop
+
+abbrev cleared : at-loop → tie.After-clear Inv-loop μ-loop
+cleared l = l .before .before .before .before .before .before .before
+
+abbrev start : at-loop → tie.Start Inv-loop μ-loop
+start l = cleared l .before .before .before .before .before .before .before .before .before
+
+abbrev task : at-loop → Task
+task l = taskOf (start l .args .image .now)
+
+abbrev clauses : at-loop → List (List ℕ)
+clauses l = clausesOf (start l .args .clauses .now)
+
+same-failing : (l : at-loop) → length (l .loop .failing) ≡ length (start l .args .failing .now)
+same-failing l = l .loop .inv .4 ∙ cleared l .clear .kept .0
+
+same-due : (l : at-loop) → length (l .loop .due) ≡ length (start l .args .due .now)
+same-due l = l .loop .inv .5 ∙ l .before .before .before .clear2 .kept .0
+
+-- where an operator was tested
+abbrev tested : Type 0
+tested = tie.After-test-operator Inv-loop μ-loop
+
+abbrev turn : tested → at-loop
+turn d = d .before .before .before .before .before .before
 
 operators-requires : tie.Need-operators-requires Inv-loop μ-loop
-operators-requires c κs = c .before .before .before .before .before .before .pre .0 .task
+operators-requires c κs = c .before .before .before .before .before .before .pre .0 .read .task
 
 clear-requires : tie.Need-clear-requires Inv-loop μ-loop
 clear-requires c κs = search needs
 
+clear-requires-2 : tie.Need-clear-requires-2 Inv-loop μ-loop
+clear-requires-2 c κs = search needs
+
 loop-holds : tie.Need-loop-holds Inv-loop μ-loop
 loop-holds c =
-    let a = c .before .before .before .before .before .before .before .before .before .before .before .args in
-    let p = c .before .before .before .before .before .before .before .before .before .before .before .pre in
-    (c .before .before .before .before .operators .ensures .0, omega arith, refl, refl, refl, c .before .before .clear .ensures ∙ ap (λ n. replicate n 0) (p .3 ∙ sym (clauses-length (a .clauses .now))) ∙ fails-start (taskOf (a .image .now)) (clausesOf (a .clauses .now)), refl, below-start (taskOf (a .image .now)) (clausesOf (a .clauses .now)) (a .due .now))
+    let d = c .before .before .before .before .before .before in
+    let s = d .before .before .before .before .before .before .before .before .before in
+    let t = taskOf (s .args .image .now) in
+    let C = clausesOf (s .args .clauses .now) in
+    let done = subst (λ (x : List ℕ). TestedBelow t C x (c .before .before .clear2 .last .0) 0) (sym (d .clear .ensures))
+    (subst (λ (x : List ℕ). TestedBelow t C (replicate (length (s .args .failing .now)) 0) x 0) (sym (c .before .before .clear2 .ensures))
+    (tested-start t C (length (s .args .failing .now)) (length (s .args .due .now)) (s .pre .1 ∙ sym (clauses-length (s .args .clauses .now))))) in
+    (d .before .before .operators .ensures .0, omega arith, refl, refl, refl, refl, done)
 
-judge-operator-requires : tie.Need-judge-operator-requires Inv-loop μ-loop
-judge-operator-requires c κs =
-    let l = c .before .before .before .loop in
-    let p = c .before .before .before .before .before .before .before .before .before .before .before .before .before .before .before .pre in
-    (p .0, omega arith, omega (arith, l .inv .2, p .1), l .inv .3 ∙ p .2)
-
-mul-add-flags : tie.Need-mul-add-flags Inv-loop μ-loop
-unfolding width
-mul-add-flags c = record { fits = omega (arith, c .before .before .before .before .before .before .before .before .before .before .before .before .before .before .before .before .operators .ensures .1, c .before .before .before .before .before .before .before .before .before .before .loop-test .taken) }
-
-add-flags-requires : tie.Need-add-flags-requires Inv-loop μ-loop
-unfolding width
-add-flags-requires c κs =
-    let l = c .before .before .before .before .before .before .before .before .before .before .before .loop in
-    let p = c .before .before .before .before .before .before .before .before .before .before .before .before .before .before .before .before .before .before .before .before .before .before .before .pre in
-    let size = c .before .before .before .before .before .before .before .judge-operator .kept .1 .1 .1 .1 .1 .0 ∙ l .inv .3 ∙ p .2 in
-    (size, size ∙ sym (l .inv .4 ∙ c .before .before .before .before .before .before .before .before .before .before .before .before .before .before .clear .kept .0 ∙ p .3), omega (arith, c .before .before .before .before .before .before .before .before .before .before .before .before .before .before .before .before .operators .ensures .1, c .before .before .before .before .before .before .before .before .before .before .loop-test .taken))
+test-operator-requires : tie.Need-test-operator-requires Inv-loop μ-loop
+test-operator-requires c κs =
+    let l = c .before .before .before .before .before in
+    let p = start l .pre in (
+      record {
+        read = p .0 .read;
+        room = omega (arith, l .loop .inv .2, p .0 .room);
+        flagged = l .loop .inv .3 ∙ p .0 .flagged;
+      },
+      omega (arith, l .loop .inv .0, c .before .before .before .before .loop-test .taken),
+      same-failing l ∙ p .1,
+    )
 
 add-operator : tie.Need-add-operator Inv-loop μ-loop
 add-operator c = search needs
@@ -60,14 +93,12 @@ loop-less : tie.Need-loop-less Inv-loop μ-loop
 loop-less c = search needs
 
 loop-again : tie.Need-loop-again Inv-loop μ-loop
-unfolding width
 loop-again c =
-    let l = c .before .before .before .before .before .before .before .before .before .before .before .before .before .before .before .before .loop in
-    let a = c .before .before .before .before .before .before .before .before .before .before .before .before .before .before .before .before .before .before .before .before .before .before .before .before .before .before .before .before .args in
-    let p = c .before .before .before .before .before .before .before .before .before .before .before .before .before .before .before .before .before .before .before .before .before .before .before .before .before .before .before .before .pre in
-    let t = taskOf (a .image .now) in
-    let C = clausesOf (a .clauses .now) in
-    (l .inv .0, omega arith, c .before .before .before .before .before .before .before .before .before .before .before .before .judge-operator .kept .1 .1 .1 .1 .0 ∙ l .inv .2, c .before .before .before .before .before .before .before .before .before .before .before .before .judge-operator .kept .1 .1 .1 .1 .1 .0 ∙ l .inv .3, c .before .before .before .before .add-flags .kept .1 .1 .0 ∙ l .inv .4, fails-turn t C (a .n) (l .operator) (c .before .before .before .before .before .before .before .before .before .before .before .before .judge-operator .last .1 .1 .1 .1 .1 .0) (l .failing) (c .before .before .before .before .add-flags .last .1 .1 .0) (p .0 .atoms) (c .before .before .before .before .before .before .before .before .before .before .before .before .judge-operator .ensures) (l .inv .5) (c .before .before .before .before .add-flags .ensures .0), c .before .before .before .before .add-flags .kept .1 .1 .1 .0 ∙ l .inv .6, below-next t C (a .n) (l .operator) (c .before .before .before .before .before .before .before .before .before .before .before .before .judge-operator .last .1 .1 .1 .1 .1 .0) (l .due) (c .before .before .before .before .add-flags .last .1 .1 .1 .0) (p .0 .atoms) (l .inv .7) (c .before .before .before .before .before .before .before .before .before .before .before .before .judge-operator .ensures) (c .before .before .before .before .add-flags .ensures .1) (c .before .before .before .before .add-flags .ensures .2))
+    let d = c .before .before .before .before .before .before .before .before in
+    let l = turn d in
+    let o = d .test-operator in
+    let p = start l .pre in
+    (l .loop .inv .0, omega arith, o .kept .1 .1 .1 .1 .0 ∙ l .loop .inv .2, o .kept .1 .1 .1 .1 .1 .0 ∙ l .loop .inv .3, o .kept .1 .1 .1 .1 .1 .1 .0 ∙ l .loop .inv .4, o .kept .1 .1 .1 .1 .1 .1 .1 .0 ∙ l .loop .inv .5, tested-next (task l) (clauses l) (read-sizes _ _ _ (p .0 .read)) (start l .args .atoms) (l .loop .operator) (p .0 .read .atoms) (l .loop .failing) _ (l .loop .due) _ (l .loop .inv .6) (o .ensures) (o .kept .1 .1 .1 .1 .1 .1 .1 .0))
 
 same-length : tie.Need-same-length Inv-loop μ-loop
 same-length c = c .before .loop .inv .2
@@ -76,19 +107,17 @@ same-length-2 : tie.Need-same-length-2 Inv-loop μ-loop
 same-length-2 c = c .before .loop .inv .3
 
 same-length-3 : tie.Need-same-length-3 Inv-loop μ-loop
-same-length-3 c = c .before .loop .inv .4 ∙ c .before .before .before .before .clear .kept .0
+same-length-3 c = same-failing (c .before)
 
 same-length-4 : tie.Need-same-length-4 Inv-loop μ-loop
-same-length-4 c = c .before .loop .inv .6
+same-length-4 c = same-due (c .before)
 
 returns : tie.Need-returns Inv-loop μ-loop
 returns c =
-    let l = c .before .loop in
-    let a = c .before .before .before .before .before .before .before .before .before .before .before .before .before .args in
-    let t = taskOf (a .image .now) in
-    let C = clausesOf (a .clauses .now) in
-    let e : l .operator ≡ length (t .operators) = omega arith in
-    (l .inv .5 ∙ ap (λ j. map (λ f. bit (failsBelow t C j f)) C) e, noted-told t C (l .due) (subst (NotedBelow t C (l .due)) e (l .inv .7)))
+    let l = c .before in
+    let e : l .loop .operator ≡ length (task l .operators) = omega arith in
+    let done = subst (TestedBelow (task l) (clauses l) (l .loop .failing) (l .loop .due)) e (l .loop .inv .6) in
+    (done .flags, tested-end (task l) (clauses l) (l .loop .failing) (l .loop .due) done)
 
 pub test-spec : {M : Type 1} → statement M
 test-spec =
@@ -98,10 +127,9 @@ test-spec =
     μ-loop
     operators-requires
     clear-requires
+    clear-requires-2
     loop-holds
-    judge-operator-requires
-    mul-add-flags
-    add-flags-requires
+    test-operator-requires
     add-operator
     loop-less
     loop-again

@@ -8,19 +8,66 @@ use native.Mathlib.Omega.{arith}
 use lib.ListN.{length, take}
 use lib.Seq.{length-take-le}
 use borrow.Author.Tests.{not-true, not-false}
+use Rattle.definitions.specs.Image.{Operator}
+use Rattle.definitions.specs.Literal.{mostLiterals}
 use Rattle.definitions.proofs.ListLaws.{never}
 use Rattle.clause.specs.Rows.{clausesOf}
 use Rattle.task.specs.Walk.{operatorIn}
 use Rattle.judge.specs.Judging.{Guarantees}
-use Rattle.judge.proofs.Parts.{part-length, part-room, part-back}
-use Rattle.next_set.specs.Post.{Listed}
+use Rattle.judge.proofs.Parts.{CameBack, came-back}
+use Rattle.next_set.specs.Post.{Listed, ListedGuarantees}
 use Rattle.next_set.proofs.Adding.{listed-guarantees, listed-low, no-words}
 use borrow.Author.Needs.{needs}
 use Rattle.next_set.proofs.weaken.judge_listed.Statement.{statement}
 use Rattle.next_set.proofs.weaken.judge_listed.Tie as tie
 
-room-requires : tie.Need-room-requires
-room-requires c κs = search needs
+-- where the part of the local array is lent
+abbrev lent : Type 0
+lent = tie.After-flags
+
+abbrev start : lent → tie.Start
+start b = b .before .before .before .before .before .before .before .before .before
+
+abbrev size : lent → ℕ
+size b = 2 * start b .args .atoms
+
+abbrev local : lent → List ℕ
+local b = b .before .before .before .marks .result
+
+few : (b : lent) → size b ≤ mostLiterals
+few b = omega (arith, start b .pre .0 .given .few)
+
+fits : (b : lent) → size b ≤ length (local b)
+fits b = omega (arith, b .before .before .before .marks .ensures, few b)
+
+-- where the clauses are judged: the clauses, the operator and the flags of the literals
+abbrev judged : Type 0
+judged = tie.After-judge-guaranteed
+
+abbrev clauses : judged → List (List ℕ)
+clauses d = clausesOf (start (d .before) .args .clauses .now)
+
+abbrev operator : judged → Operator
+operator d = operatorIn (start (d .before) .args .block .now)
+
+abbrev flags : judged → List ℕ
+flags d = d .judge-guaranteed .last .1 .1 .1 .1 .1 .1 .0
+
+back : (d : judged) → CameBack (size (d .before)) (local (d .before)) (flags d)
+back d = came-back (size (d .before)) (local (d .before)) (flags d) (fits (d .before)) (d .judge-guaranteed .kept .1 .1 .1 .1 .1 .1 .0)
+
+guarantees : (d : judged) (r : Bool) → d .judge-guaranteed .result ≡ r → Guarantees (start (d .before) .args .atoms) (clauses d) (operator d) (flags d) r
+guarantees d r e = subst (Guarantees (start (d .before) .args .atoms) (clauses d) (operator d) (flags d)) e (d .judge-guaranteed .ensures .1)
+
+-- where the flags are listed
+abbrev listing : tie.After-list-flagged → judged
+listing c = c .before .before .before .before .before .before .before .before .before
+
+listed : (c : tie.After-list-flagged) → Listed (flags (listing c)) (c .list-flagged .last .1 .0) (c .list-flagged .result)
+listed c = subst (λ (z : List ℕ). Listed z (c .list-flagged .last .1 .0) (c .list-flagged .result)) (back (listing c) .part) (c .list-flagged .ensures)
+
+marks-requires : tie.Need-marks-requires
+marks-requires c κs = search needs
 
 mul-size : tie.Need-mul-size
 mul-size c = search needs
@@ -29,10 +76,12 @@ array-borrow-prefix-flags : tie.Need-array-borrow-prefix-flags
 array-borrow-prefix-flags c = search needs
 
 slice-aggregate-judge-guaranteed : tie.Need-slice-aggregate-judge-guaranteed
-slice-aggregate-judge-guaranteed c = sym (length-take-le (2 * c .before .before .before .before .before .before .before .before .before .args .n) (c .before .before .before .room .result) (omega (arith, c .before .before .before .room .ensures, c .before .before .before .before .before .before .before .before .before .pre .0 .few)))
+slice-aggregate-judge-guaranteed c = sym (length-take-le (size c) (local c) (fits c))
 
 judge-guaranteed-requires : tie.Need-judge-guaranteed-requires
-judge-guaranteed-requires c κs = (c .before .before .before .before .before .before .before .before .before .pre .0, c .before .before .before .before .before .before .before .before .before .pre .1, c .before .before .before .before .before .before .before .before .before .pre .2, c .before .before .before .before .before .before .before .before .before .pre .3, length-take-le (2 * c .before .before .before .before .before .before .before .before .before .args .n) (c .before .before .before .room .result) (omega (arith, c .before .before .before .room .ensures, c .before .before .before .before .before .before .before .before .before .pre .0 .few)))
+judge-guaranteed-requires c κs =
+    let g = start c .pre .0 in
+    (g .given, g .judged, g .room, g .flagged, length-take-le (size c) (local c) (fits c))
 
 same-length : tie.Need-same-length
 same-length c = search needs
@@ -42,27 +91,21 @@ same-length-2 c = search needs
 
 returns : tie.Need-returns
 returns c =
-    let a = c .before .before .before .before .before .before .before .before .before .before .before .before .before .before .before .before .args in
-    let h = subst (λ (b : Bool). Guarantees (a .n) (clausesOf (now (a .clauses))) (operatorIn (now (a .block))) (c .before .before .before .before .before .before .judge-guaranteed .last .1 .1 .1 .1 .1 .1 .0) b) (not-true (c .before .before .before .before .before .before .judge-guaranteed .result) (c .if1 .taken)) (c .before .before .before .before .before .before .judge-guaranteed .ensures .1) in
-    (c .before .before .before .before .before .before .judge-guaranteed .ensures .0, record { few = omega arith; low = no-words (a .list .now); words = λ t e k. never h k })
+    let d = c .before .before .before .before .before .before in
+    let h = guarantees d false (not-true (d .judge-guaranteed .result) (c .if1 .taken)) in
+    (d .judge-guaranteed .ensures .0, record { few = omega arith; low = no-words (start (d .before) .args .list .now); words = λ t e k. never h k })
 
 array-share-prefix-flags : tie.Need-array-share-prefix-flags
-array-share-prefix-flags c = part-room (2 * c .before .before .before .before .before .before .before .before .before .before .before .before .before .before .before .before .args .n) (c .before .before .before .before .before .before .before .before .before .before .room .result) (c .before .before .before .before .before .before .judge-guaranteed .last .1 .1 .1 .1 .1 .1 .0) (omega (arith, c .before .before .before .before .before .before .before .before .before .before .room .ensures, c .before .before .before .before .before .before .before .before .before .before .before .before .before .before .before .before .pre .0 .few)) (c .before .before .before .before .before .before .judge-guaranteed .kept .1 .1 .1 .1 .1 .1 .0)
+array-share-prefix-flags c = back (c .before .before .before .before .before .before) .room
 
 slice-aggregate-list-flagged : tie.Need-slice-aggregate-list-flagged
-slice-aggregate-list-flagged c =
-    let room : 2 * c .before .before .before .before .before .before .before .before .before .before .before .before .before .before .before .before .before .args .n ≤ length (c .before .before .before .before .before .before .before .before .before .before .before .room .result) = omega (arith, c .before .before .before .before .before .before .before .before .before .before .before .room .ensures, c .before .before .before .before .before .before .before .before .before .before .before .before .before .before .before .before .before .pre .0 .few) in
-    let x = c .before .before .before .before .before .before .before .judge-guaranteed .last .1 .1 .1 .1 .1 .1 .0 in
-    let k = c .before .before .before .before .before .before .before .judge-guaranteed .kept .1 .1 .1 .1 .1 .1 .0 in
-    sym (ap length (part-back (2 * c .before .before .before .before .before .before .before .before .before .before .before .before .before .before .before .before .before .args .n) (c .before .before .before .before .before .before .before .before .before .before .before .room .result) x room k) ∙ part-length (2 * c .before .before .before .before .before .before .before .before .before .before .before .before .before .before .before .before .before .args .n) (c .before .before .before .before .before .before .before .before .before .before .before .room .result) x room k)
+slice-aggregate-list-flagged c = back (c .before .before .before .before .before .before .before) .whole
 
 list-flagged-requires : tie.Need-list-flagged-requires
 list-flagged-requires c κs =
-    let room : 2 * c .before .before .before .before .before .before .before .before .before .before .before .before .before .before .before .before .before .before .args .n ≤ length (c .before .before .before .before .before .before .before .before .before .before .before .before .room .result) = omega (arith, c .before .before .before .before .before .before .before .before .before .before .before .before .room .ensures, c .before .before .before .before .before .before .before .before .before .before .before .before .before .before .before .before .before .before .pre .0 .few) in
-    let x = c .before .before .before .before .before .before .before .before .judge-guaranteed .last .1 .1 .1 .1 .1 .1 .0 in
-    let k = c .before .before .before .before .before .before .before .before .judge-guaranteed .kept .1 .1 .1 .1 .1 .1 .0 in
-    let e = ap length (part-back (2 * c .before .before .before .before .before .before .before .before .before .before .before .before .before .before .before .before .before .before .args .n) (c .before .before .before .before .before .before .before .before .before .before .before .before .room .result) x room k) ∙ part-length (2 * c .before .before .before .before .before .before .before .before .before .before .before .before .before .before .before .before .before .before .args .n) (c .before .before .before .before .before .before .before .before .before .before .before .before .room .result) x room k in
-    (omega (arith, c .before .before .before .before .before .before .before .before .before .before .before .before .before .before .before .before .before .before .pre .0 .few, c .before .before .before .before .before .before .before .before .before .before .before .before .before .before .before .before .before .before .pre .4, e), omega (arith, c .before .before .before .before .before .before .before .before .before .before .before .before .before .before .before .before .before .before .pre .0 .few, e))
+    let d = c .before .before .before .before .before .before .before .before in
+    let e = back d .whole in
+    (omega (arith, few (d .before), start (d .before) .pre .1, e), omega (arith, few (d .before), e))
 
 same-length-3 : tie.Need-same-length-3
 same-length-3 c = search needs
@@ -75,21 +118,24 @@ same-length-5 c = search needs
 
 returns-2 : tie.Need-returns-2
 returns-2 c =
-    let a = c .before .before .before .before .before .before .before .before .before .before .before .before .before .before .before .before .before .before .before .before .before .args in
-    let p = c .before .before .before .before .before .before .before .before .before .before .before .before .before .before .before .before .before .before .before .before .before .pre in
-    let room : 2 * a .n ≤ length (c .before .before .before .before .before .before .before .before .before .before .before .before .before .before .before .room .result) = omega (arith, c .before .before .before .before .before .before .before .before .before .before .before .before .before .before .before .room .ensures, p .0 .few) in
-    let x = c .before .before .before .before .before .before .before .before .before .before .before .judge-guaranteed .last .1 .1 .1 .1 .1 .1 .0 in
-    let k = c .before .before .before .before .before .before .before .before .before .before .before .judge-guaranteed .kept .1 .1 .1 .1 .1 .1 .0 in
-    let e = part-length (2 * a .n) (c .before .before .before .before .before .before .before .before .before .before .before .before .before .before .before .room .result) x room k in
-    let l = subst (λ (z : List ℕ). Listed z (c .before .before .list-flagged .last .1 .0) (c .before .before .list-flagged .result)) (part-back (2 * a .n) (c .before .before .before .before .before .before .before .before .before .before .before .before .before .before .before .room .result) x room k) (c .before .before .list-flagged .ensures) in
-    let h = subst (λ (b : Bool). Guarantees (a .n) (clausesOf (now (a .clauses))) (operatorIn (now (a .block))) x b) (not-false (c .before .before .before .before .before .before .before .before .before .before .before .judge-guaranteed .result) (c .before .before .before .before .before .if1 .left)) (c .before .before .before .before .before .before .before .before .before .before .before .judge-guaranteed .ensures .1) in
-    (c .before .before .before .before .before .before .before .before .before .before .before .judge-guaranteed .ensures .0, record { few = omega (arith, l .few, e, p .0 .few, p .4, c .before .before .list-flagged .kept .1 .0); low = listed-low x _ _ l (omega (arith, e, p .0 .few)); words = λ t q s. l .words ∙ listed-guarantees t (clausesOf (now (a .clauses))) (operatorIn (now (a .block))) (a .n) x q (h .1) })
+    let i = c .before .before in
+    let d = listing i in
+    let s = start (d .before) in
+    let l = listed i in
+    let h = guarantees d true (not-false (d .judge-guaranteed .result) (c .before .before .before .before .before .if1 .left)) in (
+      d .judge-guaranteed .ensures .0,
+      record {
+        few = omega (arith, l .few, back d .size, few (d .before), s .pre .1, i .list-flagged .kept .1 .0);
+        low = listed-low (flags d) _ _ l (omega (arith, back d .size, few (d .before)));
+        words = λ t q k. l .words ∙ listed-guarantees t (clauses d) (operator d) (s .args .atoms) (flags d) q (h .1);
+      },
+    )
 
 pub judge-listed-spec : {M : Type 1} → statement M
 judge-listed-spec =
     tie.close
     (tie.spec
-    room-requires
+    marks-requires
     mul-size
     array-borrow-prefix-flags
     slice-aggregate-judge-guaranteed
