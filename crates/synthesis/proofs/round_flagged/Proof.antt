@@ -22,17 +22,20 @@ use Rattle.synthesis.proofs.round_flagged.Tie as tie
 abbrev after-test : Type 0
 after-test = tie.After-test
 
-abbrev lent : after-test → tie.After-test-arg2
-lent d = d .before .before .before
+abbrev lent : tie.After-test-arg4 → tie.After-test-arg
+lent c = c .before .before .before
 
-abbrev known : after-test → tie.After-slice-known4
-known d = lent d .before .before .before
+abbrev known : tie.After-test-arg4 → tie.After-slice-known3
+known c = lent c .before .before .before
 
-abbrev shared : after-test → tie.After-slice-known
-shared d = known d .before .before .before
+abbrev shared : tie.After-test-arg4 → tie.After-shared-slice-known2
+shared c = known c .before .before .before
+
+abbrev start-of : tie.After-test-arg4 → tie.Start
+start-of c = shared c .before .before
 
 abbrev start : after-test → tie.Start
-start d = shared d .before .before .before
+start d = start-of (d .before)
 
 abbrev task : after-test → Task
 task d = taskOf (now (start d .args .image))
@@ -84,7 +87,9 @@ abbrev built : tie.After-step-to → tie.After-next-set
 built c = back-fails-2 c .before .before
 
 test-requires : tie.Need-test-requires
-test-requires c κs = search needs
+test-requires c κs =
+    let p = start-of c .pre in
+    (record { read = p .0 .round .read; room = p .0 .marked; flagged = p .1 }, p .2)
 
 some-flag-requires : tie.Need-some-flag-requires
 some-flag-requires c κs = search needs
