@@ -1,17 +1,18 @@
 -- Laws of marks, for the walks and for callers. Assumes nothing.
-use mathlib.Core.Path.{_≡_, refl, sym, _∙_, subst}
+use mathlib.Core.Path.{_≡_, refl, sym, _∙_, ap, subst}
 use mathlib.Core.Bool.{Bool, true, false}
 use mathlib.Core.List.{List, [], _∷_, _++_}
 use Prim.Native.Nat.{ℕ, _+_, _*_, _≤_, _<_}
 use native.Mathlib.Omega.{arith}
-use native.Mathlib.Decide.{ℕ-discrete}
 use lib.Dec.{eqb, ltb}
-use lib.ListN.{length, getD, drop, set, length-set}
-use lib.Seq.{getD-set-same, getD-set-other, drop-set-lt}
+use lib.ListN.{length, getD, take, drop, List·getD-append}
+use lib.Seq.{length-take-le, getD-take, drop-at}
 use Rattle.definitions.specs.Lists.{all}
 use Rattle.definitions.specs.Literal.{allBelow}
 use Rattle.definitions.specs.Closure.{has, bit, closure, contradictory}
 use Rattle.definitions.proofs.ListLaws.{and-left, and-right, and-both}
+use Rattle.writing.specs.Writing.{Wrote}
+use Rattle.writing.proofs.Writes.{wrote-size, wrote-front}
 use Rattle.clause.proofs.ClauseLaws.{low-at}
 use Rattle.propagation.specs.Marks.{Marked, Behind, ConsistentMarks, Closes}
 use Rattle.propagation.specs.declared.Closing.{Closing}
@@ -64,35 +65,24 @@ marked-same N ms S T l m n h = sym (marked-has N ms S l m h) ∙ marked-has N ms
 pub place-below : (n : ℕ) (ls : List ℕ) (i x : ℕ) → allBelow n ls ≡ true → x ≡ getD ls i 0 → i < length ls → x < n
 place-below n ls i x b e h = rw e (low-at n ls i b h)
 
--- ---- copying, up to mark i
-pub record Copied (from to₀ to : List ℕ) (end i : ℕ) : Type 0 where
-  pub most : i ≤ end
-  pub same-length : length to ≡ length to₀
-  pub rest : drop end to ≡ drop end to₀
-  pub same : (j : ℕ) → j < i → getD to j 0 ≡ getD from j 0
+-- ---- the marks of a number of atoms copied to the front
+module _ (N : ℕ) (from to new : List ℕ) (end : ℕ) (inside : 2 * N ≤ length from) (room : 2 * N ≤ length to)
+    (wrote : Wrote to 0 (take (2 * N) from) new end) where
+  front-length : length (take (2 * N) from) ≡ 2 * N
+  front-length = length-take-le (2 * N) from inside
 
-pub copy-start : (from to : List ℕ) (end : ℕ) → Copied from to to end 0
-copy-start from to end = record { most = omega arith; same-length = refl; rest = refl; same = λ j h. absurd (omega arith) }
+  copied : new ≡ take (2 * N) from ++ drop (2 * N) to
+  copied = wrote-front (omega (arith, front-length)) wrote ∙ ap (λ (k : ℕ). take (2 * N) from ++ drop k to) front-length
 
-pub copy-on :
-    (from to₀ to : List ℕ) (end i : ℕ) → Copied from to₀ to end i → i < end → end ≤ length to₀
-    → Copied from to₀ (set to i (getD from i 0)) end (i + 1)
-copy-on from to₀ to end i c h room =
-    record {
-      most = omega arith;
-      same-length = length-set to i (getD from i 0) ∙ c .same-length;
-      rest = drop-set-lt end to i (getD from i 0) h ∙ c .rest;
-      same = λ j k. go j k (ℕ-discrete j i);
-    }
-  where
-    go : (j : ℕ) → j < i + 1 → Dec (j ≡ i) → getD (set to i (getD from i 0)) j 0 ≡ getD from j 0
-    go j k (yes e) = rw e (getD-set-same to i (getD from i 0) 0 (let z = c .same-length in omega arith))
-    go j k (no ne) = getD-set-other to i j (getD from i 0) 0 ne ∙ c .same j (omega arith)
+  copied-byte : (l : ℕ) → l < 2 * N → getD new l 0 ≡ getD from l 0
+  copied-byte l h =
+      ap (λ (x : List ℕ). getD x l 0) copied
+      ∙ List·getD-append (take (2 * N) from) (drop (2 * N) to) 0 l (omega (arith, front-length))
+      ∙ getD-take (2 * N) from l 0 h
 
-pub copy-end :
-    (N : ℕ) (from to₀ to : List ℕ) (i : ℕ) → Copied from to₀ to (2 * N) i → 2 * N ≤ i → 2 * N ≤ length to₀
-    → Behind N to₀ to × ((S : List ℕ) → Marked N from S → Marked N to S)
-copy-end N from to₀ to i c h room = (
-  record { same-length = c .same-length; rest = c .rest },
-  λ S m. record { room = (let z = c .same-length in omega arith); byte = λ l k. c .same l (omega arith) ∙ m .byte l k },
-)
+  pub copied-marks : Behind N to new × ((S : List ℕ) → Marked N from S → Marked N new S)
+  copied-marks =
+      let size = wrote-size wrote in (
+        record { same-length = size; rest = ap (drop (2 * N)) copied ∙ drop-at (take (2 * N) from) (drop (2 * N) to) (2 * N) front-length },
+        λ S m. record { room = omega arith; byte = λ l k. copied-byte l k ∙ m .byte l k },
+      )

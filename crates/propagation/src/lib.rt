@@ -73,11 +73,7 @@ pub fn copy(from: &[u8], to: &mut [u8], atoms: usize)
     ensures { λ _. ⌜ Behind atoms (now (to .entry)) (now (to .exit)) × ((S : List ℕ) → Marked atoms (now (from .entry)) S → Marked atoms (now (to .exit)) S) ⌝ }
 {
     let end = 2 * atoms;
-    let mut i: usize = 0;
-    while i < end {
-        to[i] = from[i];
-        i += 1;
-    }
+    writing::bytes(&from[..end], to, 0);
 }
 
 // Whether the complement of literal `l` is marked.

@@ -1,56 +1,39 @@
--- `propagation::copy`: the marks up to i are copied, those after the end stay.
-use Prim.Native.Nat.{_-_}
+-- `propagation::copy`: the marks of the atoms, copied to the front.
+use Prim.Native.Nat.{_*_}
+use lib.Seq.{length-take-le}
+use mathlib.Core.Path.{sym}
 use native.Mathlib.Omega.{arith}
-use Rattle.propagation.proofs.Marks.{Copied, copy-start, copy-on, copy-end}
+use Rattle.propagation.proofs.Marks.{copied-marks}
 use borrow.Author.Needs.{needs}
 use Rattle.propagation.proofs.copy.Statement.{statement}
 use Rattle.propagation.proofs.copy.Tie as tie
 
-abbrev Inv-loop : tie.InvT-loop
-Inv-loop from to₀ n end i₀ to i = Copied from to₀ to end i
-
-abbrev μ-loop : tie.MeasureT-loop
-μ-loop from to₀ n end i₀ to i = end - i
-
-mul-end : tie.Need-mul-end Inv-loop μ-loop
+mul-end : tie.Need-mul-end
 mul-end c = search needs
 
-loop-holds : tie.Need-loop-holds Inv-loop μ-loop
-loop-holds c = copy-start _ _ _
+-- where the marks are lent: the start
+abbrev lent : tie.After-bytes-arg2 → tie.After-slice-known
+lent c = c .before .before
 
-shared-slice-read-to : tie.Need-shared-slice-read-to Inv-loop μ-loop
-shared-slice-read-to c = search needs
+abbrev start : tie.After-bytes-arg2 → tie.Start
+start c = lent c .before .before
 
-slice-write-to : tie.Need-slice-write-to Inv-loop μ-loop
-slice-write-to c = omega (arith, c .before .before .loop .inv .same-length)
+slice-aggregate-bytes : tie.Need-slice-aggregate-bytes
+slice-aggregate-bytes c = sym (length-take-le _ _ (c .before .before .before .pre .0))
 
-add-i : tie.Need-add-i Inv-loop μ-loop
-add-i c = search needs
+bytes-requires : tie.Need-bytes-requires
+bytes-requires c κs =
+    let s = start c in
+    omega (arith, length-take-le (2 * s .args .atoms) (s .args .from .now) (s .pre .0), s .pre .1)
 
-loop-less : tie.Need-loop-less Inv-loop μ-loop
-loop-less c = search needs
+same-length : tie.Need-same-length
+same-length c = search needs
 
-loop-again : tie.Need-loop-again Inv-loop μ-loop
-loop-again c = copy-on _ _ _ _ _ (c .before .before .loop .inv) (c .before .loop-test .taken) (c .before .before .before .pre .1)
-
-same-length : tie.Need-same-length Inv-loop μ-loop
-same-length c = c .before .loop .inv .same-length
-
-returns : tie.Need-returns Inv-loop μ-loop
-returns c = copy-end _ _ _ _ _ (c .before .loop .inv) (c .loop-test .left) (c .before .before .pre .1)
+returns : tie.Need-returns
+returns c =
+    let d = c .before .before in
+    let s = start (d .before) in
+    copied-marks _ _ _ _ _ (s .pre .0) (s .pre .1) (d .bytes .ensures)
 
 pub copy-spec : {M : Type 1} → statement M
-copy-spec =
-    tie.close
-    (tie.spec
-    Inv-loop
-    μ-loop
-    mul-end
-    loop-holds
-    shared-slice-read-to
-    slice-write-to
-    add-i
-    loop-less
-    loop-again
-    same-length
-    returns)
+copy-spec = tie.close (tie.spec mul-end slice-aggregate-bytes bytes-requires same-length returns)
