@@ -1,22 +1,10 @@
-// Words copied, moved and filled in.
+// Words moved and filled in.
 ghost use mathlib.Core.Path.{_≡_};
 ghost use mathlib.Core.List.{_++_};
 ghost use Prim.Native.Nat.{_+_, _-_, _≤_};
 ghost use lib.ListN.{length, take, drop, replicate};
 ghost use Rattle.definitions.specs.Clauses.{width};
 use clause::WIDTH;
-
-// Writes words into a buffer from `at` on.
-pub fn copy_to(from: &[u16], to: &mut [u16], at: usize)
-    requires { ⌜ at + length (now from) ≤ length (now to) ⌝ }
-    ensures { λ _. ⌜ now (to .exit) ≡ take at (now (to .entry)) ++ now (from .entry) ++ drop (at + length (now (from .entry))) (now (to .entry)) ⌝ }
-{
-    let mut i: usize = 0;
-    while i < from.len() {
-        to[at + i] = from[i];
-        i += 1;
-    }
-}
 
 // Fills a buffer with one word from `at` on.
 pub fn fill(words: &mut [u16], at: usize, word: u16)

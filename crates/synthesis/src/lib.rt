@@ -169,7 +169,7 @@ fn take_rows(work: &[u16], count: usize, clauses: &mut [u16])
     ensures { λ _. ⌜ now (clauses .exit) ≡ take (width * count) (now (work .entry)) ++ drop (width * count) (now (clauses .entry)) ⌝ }
 {
     let end = WIDTH * count;
-    clause_set::words::copy_to(&work[..end], clauses, 0);
+    writing::words(&work[..end], clauses, 0);
 }
 
 // The answer where the rounds end, `made` of them, with a set of `count` rows.

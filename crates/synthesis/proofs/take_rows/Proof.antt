@@ -6,16 +6,17 @@ use native.Mathlib.Omega.{arith}
 use lib.ListN.{length, take, drop}
 use lib.Seq.{length-take-le}
 use Rattle.definitions.specs.Clauses.{width}
+use Rattle.writing.proofs.Writes.{wrote-front}
 use borrow.Author.Needs.{needs}
 use Rattle.synthesis.proofs.take_rows.Statement.{statement}
 use Rattle.synthesis.proofs.take_rows.Tie as tie
 
 -- where the rows are shared: the start, and as many words as they have
-abbrev start : tie.After-copy-to-arg → tie.Start
+abbrev start : tie.After-words-arg → tie.Start
 start d = d .before .before .before
 
-words : (d : tie.After-copy-to-arg) → let a = start d .args in length (take (width * a .count) (a .work .now)) ≡ width * a .count
-words d =
+size : (d : tie.After-words-arg) → let a = start d .args in length (take (width * a .count) (a .work .now)) ≡ width * a .count
+size d =
     let a = start d .args in
     length-take-le (width * a .count) (a .work .now) (start d .pre .0)
 
@@ -23,13 +24,13 @@ mul-end : tie.Need-mul-end
 unfolding width
 mul-end c = search needs
 
-slice-aggregate-copy-to : tie.Need-slice-aggregate-copy-to
+slice-aggregate-words : tie.Need-slice-aggregate-words
 unfolding width
-slice-aggregate-copy-to c = sym (words c)
+slice-aggregate-words c = sym (size c)
 
-copy-to-requires : tie.Need-copy-to-requires
+words-requires : tie.Need-words-requires
 unfolding width
-copy-to-requires c κs = omega (arith, words (c .before), start (c .before) .pre .1)
+words-requires c κs = omega (arith, size (c .before), start (c .before) .pre .1)
 
 same-length : tie.Need-same-length
 same-length c = search needs
@@ -40,8 +41,8 @@ returns c =
     let t = c .before .before in
     let d = t .before .before in
     let a = start d .args in
-    let e : 0 + length (take (width * a .count) (a .work .now)) ≡ width * a .count = omega (arith, words d) in
-    t .copy-to .ensures ∙ ap (λ (k : ℕ). take (width * a .count) (a .work .now) ++ drop k (a .clauses .now)) e
+    wrote-front (omega (arith, size d, start d .pre .1)) (t .words .ensures)
+    ∙ ap (λ (k : ℕ). take (width * a .count) (a .work .now) ++ drop k (a .clauses .now)) (size d)
 
 pub take-rows-spec : {M : Type 1} → statement M
-take-rows-spec = tie.close (tie.spec mul-end slice-aggregate-copy-to copy-to-requires same-length returns)
+take-rows-spec = tie.close (tie.spec mul-end slice-aggregate-words words-requires same-length returns)
