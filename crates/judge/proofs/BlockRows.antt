@@ -24,12 +24,17 @@ module _ (atoms : ℕ) (b : List ℕ) (right : operatorRight atoms (operatorIn b
   left-start =
       record {
         parses = read .parses;
-        right = ap (all (rowRight atoms)) (read .rows) ∙ and-right (literalList atoms (operatorIn b .precondition)) (all (rowRight atoms) (operatorIn b .rows)) right;
+        right =
+            ap (all (rowRight atoms)) (read .rows)
+            ∙ and-right (literalList atoms (operatorIn b .precondition)) (all (rowRight atoms) (operatorIn b .rows)) right;
       }
 
   pub precondition-low : allBelow (2 * atoms) (take (end - 1) (drop 1 b)) ≡ true
   unfolding operatorRight
-  precondition-low = ap (allBelow (2 * atoms)) (read .precondition) ∙ list-low atoms (operatorIn b .precondition) (and-left (literalList atoms (operatorIn b .precondition)) (all (rowRight atoms) (operatorIn b .rows)) right)
+  precondition-low =
+      ap (allBelow (2 * atoms)) (read .precondition)
+      ∙ list-low atoms (operatorIn b .precondition)
+      (and-left (literalList atoms (operatorIn b .precondition)) (all (rowRight atoms) (operatorIn b .rows)) right)
 
 module _ (atoms : ℕ) (b : List ℕ) (at k e from end : ℕ) (left : Left atoms b at k) (read : RowRead b at k e from end) where
   conditions : List ℕ
@@ -44,8 +49,14 @@ module _ (atoms : ℕ) (b : List ℕ) (at k e from end : ℕ) (left : Left atoms
 
   pub effect-low : e < 2 * atoms
   unfolding rowRight
-  effect-low = ltb-true e (2 * atoms) (and-left (ltb e (2 * atoms)) (literalList atoms conditions) (and-left (rowRight atoms (row e conditions)) (all (rowRight atoms) (rowsAt b end (k - 1))) both))
+  effect-low =
+      ltb-true e (2 * atoms)
+      (and-left (ltb e (2 * atoms)) (literalList atoms conditions)
+      (and-left (rowRight atoms (row e conditions)) (all (rowRight atoms) (rowsAt b end (k - 1))) both))
 
   pub conditions-low : allBelow (2 * atoms) (take (end - from) (drop from b)) ≡ true
   unfolding rowRight conditions
-  conditions-low = list-low atoms conditions (and-right (ltb e (2 * atoms)) (literalList atoms conditions) (and-left (rowRight atoms (row e conditions)) (all (rowRight atoms) (rowsAt b end (k - 1))) both))
+  conditions-low =
+      list-low atoms conditions
+      (and-right (ltb e (2 * atoms)) (literalList atoms conditions)
+      (and-left (rowRight atoms (row e conditions)) (all (rowRight atoms) (rowsAt b end (k - 1))) both))

@@ -20,11 +20,14 @@ module _ (atoms : ℕ) (ws ls ms : List ℕ) where
   closure-consistent c = consistent-by atoms ms (closure atoms (clausesOf ws) ls) (c .marked) (c .consistent)
 
   -- by propagation's answer
-  pub closure-told : (contradictory atoms (closure atoms (clausesOf ws) ls) ≡ false) × Marked atoms ms (closure atoms (clausesOf ws) ls) → ConsistentClosure atoms ws ls ms
+  pub closure-told :
+      (contradictory atoms (closure atoms (clausesOf ws) ls) ≡ false) × Marked atoms ms (closure atoms (clausesOf ws) ls)
+      → ConsistentClosure atoms ws ls ms
   closure-told k = record { consistent = k .0; marked = k .1 }
 
   -- the same marks
-  pub closure-copied : (ms′ : List ℕ) → ConsistentClosure atoms ws ls ms → ((S : List ℕ) → Marked atoms ms S → Marked atoms ms′ S) → ConsistentClosure atoms ws ls ms′
+  pub closure-copied :
+      (ms′ : List ℕ) → ConsistentClosure atoms ws ls ms → ((S : List ℕ) → Marked atoms ms S → Marked atoms ms′ S) → ConsistentClosure atoms ws ls ms′
   closure-copied ms′ c copied = record { consistent = c .consistent; marked = copied (closure atoms (clausesOf ws) ls) (c .marked) }
 
   -- an equal list
@@ -47,10 +50,12 @@ module _ (atoms : ℕ) (ws ls ms : List ℕ) where
     pub closure-fires : ConsistentClosure atoms ws ls ms → true ≡ canFire atoms (clausesOf ws) ls cs
     closure-fires c = held-fires atoms (clausesOf ws) within ls cs held (c .consistent)
 
-pub contradictory-start : (N : ℕ) (C : List (List ℕ)) (ls ls′ : List ℕ) → ls ≡ ls′ → contradictory N (closure N C ls) ≡ true → contradictory N (closure N C ls′) ≡ true
+pub contradictory-start :
+    (N : ℕ) (C : List (List ℕ)) (ls ls′ : List ℕ) → ls ≡ ls′ → contradictory N (closure N C ls) ≡ true → contradictory N (closure N C ls′) ≡ true
 contradictory-start N C ls ls′ e h = subst (λ (x : List ℕ). contradictory N (closure N C x) ≡ true) e h
 
-pub consistent-copied : (atoms : ℕ) (ms ms′ : List ℕ) → ConsistentMarks atoms ms → ((S : List ℕ) → Marked atoms ms S → Marked atoms ms′ S) → ConsistentMarks atoms ms′
+pub consistent-copied :
+    (atoms : ℕ) (ms ms′ : List ℕ) → ConsistentMarks atoms ms → ((S : List ℕ) → Marked atoms ms S → Marked atoms ms′ S) → ConsistentMarks atoms ms′
 consistent-copied atoms ms ms′ c copied = consistent-by atoms ms′ (c .set) (copied (c .set) (c .marked)) (c .consistent)
 
 pub consistent-room : (atoms : ℕ) (ms : List ℕ) → ConsistentMarks atoms ms → 2 * atoms ≤ length ms

@@ -11,7 +11,9 @@ use Rattle.definitions.proofs.ClosureLeast.{closure-holds}
 use Rattle.propagation.proofs.ClosureLaws.{closure-lowest, closure-ext, closure-under, closure-mono}
 use Rattle.judge.specs.Judging.{canFire}
 
-module _ (N : ℕ) (C : List (List ℕ)) (within : (f : List ℕ) → List·Memᴰ f C → (l : ℕ) → List·Memᴰ l f → l < 2 * N) (ls cs : List ℕ) (held : allIn (closure N C ls) cs ≡ true) where
+module _
+    (N : ℕ) (C : List (List ℕ)) (within : (f : List ℕ) → List·Memᴰ f C → (l : ℕ) → List·Memᴰ l f → l < 2 * N) (ls cs : List ℕ)
+    (held : allIn (closure N C ls) cs ≡ true) where
   pub closure-held : closure N C (ls ++ cs) ≡ closure N C ls
   unfolding allIn
   closure-held =

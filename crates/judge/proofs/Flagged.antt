@@ -55,7 +55,9 @@ flag-length t (f ∷ D) (x ∷ s) = ap suc (flag-length t D s)
 
 -- ---- in place: what is left at clause i
 module _ (t : List ℕ → Bool) (D : List (List ℕ)) (s : List ℕ) (i : ℕ) (f : List ℕ) (at : f ≡ getD D i []) (more : i < length D) (room : i < length s) where
-  flag-here : (s′ : List ℕ) → take (suc i) s′ ≡ take i s ++ (cond (t f) 1 (getD s i 0) ∷ []) → drop (suc i) s′ ≡ drop (suc i) s → take i s ++ flagMore t (drop i D) (drop i s) ≡ take (i + 1) s′ ++ flagMore t (drop (i + 1) D) (drop (i + 1) s′)
+  flag-here :
+      (s′ : List ℕ) → take (suc i) s′ ≡ take i s ++ (cond (t f) 1 (getD s i 0) ∷ []) → drop (suc i) s′ ≡ drop (suc i) s
+      → take i s ++ flagMore t (drop i D) (drop i s) ≡ take (i + 1) s′ ++ flagMore t (drop (i + 1) D) (drop (i + 1) s′)
   unfolding flagMore
   flag-here s′ front rest =
       let g = getD D i [] in
@@ -64,7 +66,9 @@ module _ (t : List ℕ → Bool) (D : List (List ℕ)) (s : List ℕ) (i : ℕ) 
       (ap₂ (λ a b. take i s ++ flagMore t a b) (drop-cons D i [] more) (drop-cons s i 0 room))
 
   pub flag-set : t f ≡ true → take i s ++ flagMore t (drop i D) (drop i s) ≡ take (i + 1) (set s i 1) ++ flagMore t (drop (i + 1) D) (drop (i + 1) (set s i 1))
-  flag-set h = flag-here (set s i 1) (take-suc-set s i 1 room ∙ ap (λ b. take i s ++ (cond b 1 (getD s i 0) ∷ [])) (sym h)) (drop-set-lt (suc i) s i 1 (omega arith))
+  flag-set h =
+      flag-here (set s i 1) (take-suc-set s i 1 room ∙ ap (λ b. take i s ++ (cond b 1 (getD s i 0) ∷ [])) (sym h))
+      (drop-set-lt (suc i) s i 1 (omega arith))
 
   pub flag-stay : t f ≡ false → take i s ++ flagMore t (drop i D) (drop i s) ≡ take (i + 1) s ++ flagMore t (drop (i + 1) D) (drop (i + 1) s)
   flag-stay h = flag-here s (take-suc s i 0 room ∙ ap (λ b. take i s ++ (cond b 1 (getD s i 0) ∷ [])) (sym h)) refl
@@ -75,7 +79,9 @@ flag-end t D s i past = rw (drop-of-length-le D {i = i} past) (take-append-drop 
 
 -- ---- row by row
 module _ (N : ℕ) (C : List (List ℕ)) (o : Operator) (D : List (List ℕ)) where
-  pub rows-on : (r : Row) (rs : List Row) (s : List ℕ) → flagMore (someViolates N C o (r ∷ rs)) D s ≡ flagMore (someViolates N C o rs) D (flagMore (violates N C o r) D s)
+  pub rows-on :
+      (r : Row) (rs : List Row) (s : List ℕ)
+      → flagMore (someViolates N C o (r ∷ rs)) D s ≡ flagMore (someViolates N C o rs) D (flagMore (violates N C o r) D s)
   unfolding someViolates any
   rows-on r rs s = flag-twice (violates N C o r) (someViolates N C o rs) D s
 
@@ -83,7 +89,8 @@ module _ (N : ℕ) (C : List (List ℕ)) (o : Operator) (D : List (List ℕ)) wh
   unfolding someViolates any
   rows-end s = flag-none (λ f. false) D s (λ f m. refl)
 
-  pub rows-fail : contradictory N (closure N C (o .precondition)) ≡ false → flagMore (someViolates N C o (o .rows)) D (replicate (length D) 0) ≡ failFlags N C o D
+  pub rows-fail :
+      contradictory N (closure N C (o .precondition)) ≡ false → flagMore (someViolates N C o (o .rows)) D (replicate (length D) 0) ≡ failFlags N C o D
   unfolding failFlags
   rows-fail h =
       flag-agree (someViolates N C o (o .rows)) (λ f. not (kept N C o f)) D (replicate (length D) 0) (λ f m. sym (kept-rows N C o f h))
@@ -106,7 +113,9 @@ module _ (l : ℕ) (G f : List ℕ) where
   lacks-held h = rw h
 
 -- ---- the flags of a set, one after the other
-pub flags-more : (K s : List ℕ) (i x : ℕ) → i < length s → x ≡ bit (has K i) → ((k : ℕ) → k < i → getD s k 0 ≡ bit (has K k)) → (k : ℕ) → k < i + 1 → getD (set s i x) k 0 ≡ bit (has K k)
+pub flags-more :
+    (K s : List ℕ) (i x : ℕ) → i < length s → x ≡ bit (has K i) → ((k : ℕ) → k < i → getD s k 0 ≡ bit (has K k)) → (k : ℕ) → k < i + 1
+    → getD (set s i x) k 0 ≡ bit (has K k)
 flags-more K s i x inside ex h k low = go (ℕ-discrete k i)
   where
     go : Dec (k ≡ i) → getD (set s i x) k 0 ≡ bit (has K k)

@@ -36,7 +36,9 @@ module _ {A : Type 0} (t p : A → Bool) where
   all-keep [] = refl
   all-keep (x ∷ xs) = go (t x) refl (all-keep xs)
     where
-      go : (b : Bool) → t x ≡ b → all p (keep t xs) ≡ all (λ x. not (t x) || p x) xs → all p (keep t (x ∷ xs)) ≡ ((not (t x) || p x) && all (λ x. not (t x) || p x) xs)
+      go :
+          (b : Bool) → t x ≡ b → all p (keep t xs) ≡ all (λ x. not (t x) || p x) xs
+          → all p (keep t (x ∷ xs)) ≡ ((not (t x) || p x) && all (λ x. not (t x) || p x) xs)
       go true e k = rw (e, keep, k)
       go false e k = rw (e, keep, k)
 
@@ -112,7 +114,9 @@ cond-and true false x = refl
 cond-and false b x = refl
 
 -- the flag of m is set if m is the effect of a row whose conditions lie in K
-pub added-at : (K : List ℕ) (qs : List Row) (S : List ℕ) (m : ℕ) → m < length S → getD (addEffects K qs S) m 0 ≡ cond (any (λ q. eqb (q .effect) m && allIn K (q .conditions)) qs) 1 (getD S m 0)
+pub added-at :
+    (K : List ℕ) (qs : List Row) (S : List ℕ) (m : ℕ) → m < length S
+    → getD (addEffects K qs S) m 0 ≡ cond (any (λ q. eqb (q .effect) m && allIn K (q .conditions)) qs) 1 (getD S m 0)
 unfolding addEffects any
 added-at K [] S m low = refl
 added-at K (q ∷ qs) S m low =
@@ -126,21 +130,25 @@ module _ (N : ℕ) (C : List (List ℕ)) where
   pub dropped-length : (ls : List ℕ) (qs : List Row) (S : List ℕ) → length (dropChanged N C ls qs S) ≡ length S
   unfolding dropChanged
   dropped-length ls [] S = refl
-  dropped-length ls (q ∷ qs) S = dropped-length ls qs (cond (canFire N C ls (q .conditions)) (set S (complement (q .effect)) 0) S) ∙ go (canFire N C ls (q .conditions))
+  dropped-length ls (q ∷ qs) S =
+      dropped-length ls qs (cond (canFire N C ls (q .conditions)) (set S (complement (q .effect)) 0) S) ∙ go (canFire N C ls (q .conditions))
     where
       go : (b : Bool) → length (cond b (set S (complement (q .effect)) 0) S) ≡ length S
       go true = length-set S (complement (q .effect)) 0
       go false = refl
 
   -- the flag of m stays if no row with the complement of m can fire
-  pub dropped-at : (ls : List ℕ) (qs : List Row) (S : List ℕ) (m : ℕ) → m < length S → getD (dropChanged N C ls qs S) m 0 ≡ cond (all (λ q. not (eqb (complement (q .effect)) m && canFire N C ls (q .conditions))) qs) (getD S m 0) 0
+  pub dropped-at :
+      (ls : List ℕ) (qs : List Row) (S : List ℕ) (m : ℕ) → m < length S → getD (dropChanged N C ls qs S) m 0 ≡ cond
+      (all (λ q. not (eqb (complement (q .effect)) m && canFire N C ls (q .conditions))) qs) (getD S m 0) 0
   unfolding dropChanged all
   dropped-at ls [] S m low = refl
   dropped-at ls (q ∷ qs) S m low =
       let b = canFire N C ls (q .conditions) in
       let T = cond b (set S (complement (q .effect)) 0) S in
       dropped-at ls qs T m (subst (λ (k : ℕ). m < k) (sym (set-length b S (complement (q .effect)) 0 m low)) low)
-      ∙ ap (λ x. cond (all (λ q. not (eqb (complement (q .effect)) m && canFire N C ls (q .conditions))) qs) x 0) (set-at-flag b S (complement (q .effect)) 0 m low)
+      ∙ ap (λ x. cond (all (λ q. not (eqb (complement (q .effect)) m && canFire N C ls (q .conditions))) qs) x 0)
+      (set-at-flag b S (complement (q .effect)) 0 m low)
       ∙ cond-and (eqb (complement (q .effect)) m && b) (all (λ q. not (eqb (complement (q .effect)) m && canFire N C ls (q .conditions))) qs) (getD S m 0)
 
   -- both walks leave the flags of the guaranteed literals
@@ -149,12 +157,18 @@ module _ (N : ℕ) (C : List (List ℕ)) where
     unfolding madeTrue rowsWith
     made-any K m = any-keep (λ q. eqb (q .effect) m) (λ q. allIn K (q .conditions)) (o .rows)
 
-    safe-all : (m : ℕ) → all (λ q. contradictory N (closure N C (ls ++ q .conditions))) (rowsWith o (complement m)) ≡ all (λ q. not (eqb (complement (q .effect)) m && canFire N C ls (q .conditions))) (o .rows)
+    safe-all :
+        (m : ℕ) → all (λ q. contradictory N (closure N C (ls ++ q .conditions))) (rowsWith o (complement m)) ≡ all
+        (λ q. not (eqb (complement (q .effect)) m && canFire N C ls (q .conditions))) (o .rows)
     unfolding rowsWith canFire
     safe-all m =
         all-keep (λ q. eqb (q .effect) (complement m)) (λ q. contradictory N (closure N C (ls ++ q .conditions))) (o .rows)
-        ∙ all-same (λ q. not (eqb (q .effect) (complement m)) || contradictory N (closure N C (ls ++ q .conditions))) (λ q. not (eqb (complement (q .effect)) m && canFire N C ls (q .conditions)))
-        (λ q. ap (λ b. not b || contradictory N (closure N C (ls ++ q .conditions))) (complement-eqb (q .effect) m) ∙ go (eqb (complement (q .effect)) m) (contradictory N (closure N C (ls ++ q .conditions)))) (o .rows)
+        ∙ all-same (λ q. not (eqb (q .effect) (complement m)) || contradictory N (closure N C (ls ++ q .conditions)))
+        (λ q. not (eqb (complement (q .effect)) m && canFire N C ls (q .conditions)))
+        (λ q.
+        ap (λ b. not b || contradictory N (closure N C (ls ++ q .conditions))) (complement-eqb (q .effect) m)
+        ∙ go (eqb (complement (q .effect)) m) (contradictory N (closure N C (ls ++ q .conditions))))
+        (o .rows)
       where
         go : (a b : Bool) → (not a || b) ≡ not (a && not b)
         go true true = refl
@@ -206,7 +220,9 @@ module _ (N : ℕ) (C : List (List ℕ)) where
 
     pub guaranteed-has : (m : ℕ) → m < 2 * N → has (guaranteedFlags N C o ls) m ≡ guaranteed N C o ls (closure N C ls) m
     unfolding has guaranteedFlags
-    guaranteed-has m low = ap (λ x. eqb x 1) (table-at (λ m. bit (guaranteed N C o ls (closure N C ls) m)) (2 * N) m low) ∙ bit-back (guaranteed N C o ls (closure N C ls) m)
+    guaranteed-has m low =
+        ap (λ x. eqb x 1) (table-at (λ m. bit (guaranteed N C o ls (closure N C ls) m)) (2 * N) m low)
+        ∙ bit-back (guaranteed N C o ls (closure N C ls) m)
 
 -- ---- the walks over the rows, by the row that comes next
 module _ (K : List ℕ) (rs rs′ : List Row) (e : ℕ) (cs S : List ℕ) (next : rs ≡ record { effect = e; conditions = cs } ∷ rs′) where
@@ -255,7 +271,9 @@ pub add-start : (K : List ℕ) (rs rs′ : List Row) (S : List ℕ) → rs ≡ r
 add-start K rs rs′ S h = rw h
 
 -- by the code's own flags after each walk
-pub guaranteed-made : (N : ℕ) (C : List (List ℕ)) (o : Operator) (ls F E G : List ℕ) → F ≡ flagsOf N (closure N C ls) → E ≡ dropChanged N C ls (o .rows) F → G ≡ addEffects (closure N C ls) (o .rows) E → G ≡ guaranteedFlags N C o ls
+pub guaranteed-made :
+    (N : ℕ) (C : List (List ℕ)) (o : Operator) (ls F E G : List ℕ) → F ≡ flagsOf N (closure N C ls) → E ≡ dropChanged N C ls (o .rows) F
+    → G ≡ addEffects (closure N C ls) (o .rows) E → G ≡ guaranteedFlags N C o ls
 guaranteed-made N C o ls F E G f e g = g ∙ rw (e, f) (guaranteed-walks N C o ls)
 
 -- the literals that an operator guarantees, as the synthesis lists them
@@ -268,8 +286,11 @@ keep-range p q i (suc n) h = go (p i) refl (keep-range p q (suc i) n (λ l k. h 
     go true e rec = let f : q i ≡ true = sym (h i (omega arith)) ∙ e in rw (e, f, keep, rec)
     go false e rec = let f : q i ≡ false = sym (h i (omega arith)) ∙ e in rw (e, f, keep, rec)
 
-pub guarantees-flagged : (t : Task) (C : List (List ℕ)) (o : Operator) → guarantees t C o ≡ keep (has (guaranteedFlags (t .atoms) C o (o .precondition))) (below (2 * t .atoms))
+pub guarantees-flagged :
+    (t : Task) (C : List (List ℕ)) (o : Operator)
+    → guarantees t C o ≡ keep (has (guaranteedFlags (t .atoms) C o (o .precondition))) (below (2 * t .atoms))
 unfolding guarantees below
 guarantees-flagged t C o =
-    keep-range (guaranteed (t .atoms) C o (o .precondition) (closure (t .atoms) C (o .precondition))) (has (guaranteedFlags (t .atoms) C o (o .precondition))) 0 (2 * t .atoms)
+    keep-range (guaranteed (t .atoms) C o (o .precondition) (closure (t .atoms) C (o .precondition)))
+    (has (guaranteedFlags (t .atoms) C o (o .precondition))) 0 (2 * t .atoms)
     (λ l h. sym (guaranteed-has (t .atoms) C o (o .precondition) l (omega arith)))

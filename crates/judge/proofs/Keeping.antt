@@ -69,7 +69,9 @@ module _ (atoms : ℕ) (f : List ℕ) (row : ClauseRead atoms f) where
   one-flag k h = h ∙ sym one-row
 
   -- its flag
-  pub one-fails : (C : List (List ℕ)) (o o′ : Operator) (s : List ℕ) → o ≡ o′ → s ≡ failFlags atoms C o (clausesOf f) → has s 0 ≡ not (kept atoms C o′ (clauseOf f))
+  pub one-fails :
+      (C : List (List ℕ)) (o o′ : Operator) (s : List ℕ) → o ≡ o′ → s ≡ failFlags atoms C o (clausesOf f)
+      → has s 0 ≡ not (kept atoms C o′ (clauseOf f))
   unfolding failFlags has
   one-fails C o o′ s eo e = rw (e, one-clause, eo) (bit-back (not (kept atoms C o′ (clauseOf f))))
 
@@ -119,7 +121,13 @@ module _ (w c f : List ℕ) where
       → finding (kept (taskOf w .atoms) (clausesOf c) (operatorAt (taskOf w) i) (clauseOf f)) ≡ keeps w c f i marks
   unfolding keeps _>>=_ ask askAt
   keeps-found i marks a =
-      rw (a .task .found, a .clauses .read, a .clause .read, lt-ltb i (length (taskOf w .operators)) (a .operator), le-leb (2 * taskOf w .atoms) marks (a .marked))
+      rw (
+        a .task .found,
+        a .clauses .read,
+        a .clause .read,
+        lt-ltb i (length (taskOf w .operators)) (a .operator),
+        le-leb (2 * taskOf w .atoms) marks (a .marked),
+      )
 
 -- ---- the test of one clause under operator i
 not-twice : (b : Bool) → not (not b) ≡ b

@@ -32,19 +32,29 @@ module _ (N : ℕ) (C : List (List ℕ)) (o : Operator) (D : List (List ℕ)) (e
   r = record { effect = e; conditions = cs }
 
   -- K is contradictory
-  pub row-contradictory : contradictory N (closure N C (o .precondition ++ cs)) ≡ true → s ≡ flagMore (violates N C o (record { effect = e; conditions = cs })) D s
+  pub row-contradictory :
+      contradictory N (closure N C (o .precondition ++ cs)) ≡ true → s ≡ flagMore (violates N C o (record { effect = e; conditions = cs })) D s
   unfolding r
   row-contradictory h = sym (flag-none (violates N C o r) D s (λ f m. violates-none N C o r f h))
 
   -- the clauses are judged by the guaranteed literals
-  pub row-judged : ((f : List ℕ) → List·Memᴰ f D → allBelow (2 * N) f ≡ true) → contradictory N (closure N C (o .precondition ++ cs)) ≡ false → (l : ℕ) (s′ : List ℕ) → l ≡ complement e → s′ ≡ flagMore (lacksOther l (guaranteedFlags N C o (o .precondition ++ cs))) D s → s′ ≡ flagMore (violates N C o (record { effect = e; conditions = cs })) D s
+  pub row-judged :
+      ((f : List ℕ) → List·Memᴰ f D → allBelow (2 * N) f ≡ true) → contradictory N (closure N C (o .precondition ++ cs)) ≡ false
+      → (l : ℕ) (s′ : List ℕ) → l ≡ complement e → s′ ≡ flagMore (lacksOther l (guaranteedFlags N C o (o .precondition ++ cs))) D s
+      → s′ ≡ flagMore (violates N C o (record { effect = e; conditions = cs })) D s
   unfolding r
   row-judged low closed l s′ el h =
-      h ∙ rw el (sym (flag-agree (violates N C o r) (lacksOther (complement e) (guaranteedFlags N C o (o .precondition ++ cs))) D s (λ f m. violates-lacking N C o r f (low f m) closed)))
+      h
+      ∙ rw el
+      (sym
+      (flag-agree (violates N C o r) (lacksOther (complement e) (guaranteedFlags N C o (o .precondition ++ cs))) D s
+      (λ f m. violates-lacking N C o r f (low f m) closed)))
 
   -- the walk over the rows
   module _ (rs rs′ : List Row) (next : rs ≡ record { effect = e; conditions = cs } ∷ rs′) where
-    pub turn-on : (s′ : List ℕ) → s′ ≡ flagMore (violates N C o (record { effect = e; conditions = cs })) D s → flagMore (someViolates N C o rs) D s ≡ flagMore (someViolates N C o rs′) D s′
+    pub turn-on :
+        (s′ : List ℕ) → s′ ≡ flagMore (violates N C o (record { effect = e; conditions = cs })) D s
+        → flagMore (someViolates N C o rs) D s ≡ flagMore (someViolates N C o rs′) D s′
     unfolding r
     turn-on s′ h = ap (λ x. flagMore (someViolates N C o x) D s) next ∙ rows-on N C o D r rs′ s ∙ ap (flagMore (someViolates N C o rs′) D) (sym h)
 
@@ -57,14 +67,18 @@ module _ (N : ℕ) (C : List (List ℕ)) (o : Operator) (D : List (List ℕ)) (e
         not-held f m (inl x) = never (any-in (member l) m x) h
         not-held f m (inr x) = x
 
-pub turn-start : (N : ℕ) (C : List (List ℕ)) (o : Operator) (D : List (List ℕ)) (rs rs′ : List Row) (s : List ℕ) → rs ≡ rs′ → flagMore (someViolates N C o rs′) D s ≡ flagMore (someViolates N C o rs) D s
+pub turn-start :
+    (N : ℕ) (C : List (List ℕ)) (o : Operator) (D : List (List ℕ)) (rs rs′ : List Row) (s : List ℕ) → rs ≡ rs′
+    → flagMore (someViolates N C o rs′) D s ≡ flagMore (someViolates N C o rs) D s
 turn-start N C o D rs rs′ s h = rw h
 
 pub turn-end : (N : ℕ) (C : List (List ℕ)) (o : Operator) (D : List (List ℕ)) (rs : List Row) (s : List ℕ) → rs ≡ [] → flagMore (someViolates N C o rs) D s ≡ s
 turn-end N C o D rs s h = rw h (rows-end N C o D s)
 
 -- from flags that are all taken away
-module _ (N : ℕ) (C : List (List ℕ)) (o : Operator) (ws pre z s : List ℕ) (len : length z ≡ rowCount ws) (zeros : s ≡ replicate (length z) 0) (start : pre ≡ o .precondition) where
+module _
+    (N : ℕ) (C : List (List ℕ)) (o : Operator) (ws pre z s : List ℕ) (len : length z ≡ rowCount ws) (zeros : s ≡ replicate (length z) 0)
+    (start : pre ≡ o .precondition) where
   zeros-for : s ≡ replicate (length (clausesOf ws)) 0
   zeros-for = zeros ∙ ap (λ k. replicate k 0) (len ∙ sym (clauses-length ws))
 
@@ -73,5 +87,7 @@ module _ (N : ℕ) (C : List (List ℕ)) (o : Operator) (ws pre z s : List ℕ) 
   fail-none h = zeros-for ∙ contradictory-fail N C o (clausesOf ws) (rw start at h)
 
   -- the rows are judged
-  pub fail-rows : (s′ : List ℕ) → contradictory N (closure N C pre) ≡ false → s′ ≡ flagMore (someViolates N C o (o .rows)) (clausesOf ws) s → s′ ≡ failFlags N C o (clausesOf ws)
+  pub fail-rows :
+      (s′ : List ℕ) → contradictory N (closure N C pre) ≡ false → s′ ≡ flagMore (someViolates N C o (o .rows)) (clausesOf ws) s
+      → s′ ≡ failFlags N C o (clausesOf ws)
   fail-rows s′ h e = e ∙ ap (flagMore (someViolates N C o (o .rows)) (clausesOf ws)) zeros-for ∙ rows-fail N C o (clausesOf ws) (rw start at h)

@@ -69,7 +69,10 @@ unfolding each extended keep
 extended-all f [] = refl
 extended-all f (l ∷ xs) = go (member (atom l) (map atom f)) refl (extended-all f xs)
   where
-    go : (b : Bool) → member (atom l) (map atom f) ≡ b → map (λ l. insertLiteral l f) (keep (λ l. not (member (atom l) (map atom f))) xs) ≡ each (extended f) xs → map (λ l. insertLiteral l f) (keep (λ l. not (member (atom l) (map atom f))) (l ∷ xs)) ≡ each (extended f) (l ∷ xs)
+    go :
+        (b : Bool) → member (atom l) (map atom f) ≡ b
+        → map (λ l. insertLiteral l f) (keep (λ l. not (member (atom l) (map atom f))) xs) ≡ each (extended f) xs
+        → map (λ l. insertLiteral l f) (keep (λ l. not (member (atom l) (map atom f))) (l ∷ xs)) ≡ each (extended f) (l ∷ xs)
     go true e rec = rw (e, keep) rec
     go false e rec = rw (e, keep) (ap (λ (L : List (List ℕ)). insertLiteral l f ∷ L) rec)
 
@@ -79,11 +82,16 @@ module _ (t : Task) (C : List (List ℕ)) (o : Operator) where
   weakened-each f = extended-all f (guarantees t C o)
 
   -- the listed literals are those that the operator guarantees
-  pub listed-guarantees : (atoms : ℕ) (flags : List ℕ) → t .atoms ≡ atoms → flags ≡ guaranteedFlags atoms C o (o .precondition) → keep (has flags) (below (length flags)) ≡ guarantees t C o
+  pub listed-guarantees :
+      (atoms : ℕ) (flags : List ℕ) → t .atoms ≡ atoms → flags ≡ guaranteedFlags atoms C o (o .precondition)
+      → keep (has flags) (below (length flags)) ≡ guarantees t C o
   unfolding guarantees guaranteedFlags
   listed-guarantees atoms flags a e =
       let l : length flags ≡ 2 * atoms = ap length e ∙ size in
-      rw (l, ← a, e, ← a) (keep-agree (has (guaranteedFlags (t .atoms) C o (o .precondition))) (guaranteed (t .atoms) C o (o .precondition) (closure (t .atoms) C (o .precondition))) (below (2 * t .atoms)) (λ x m. guaranteed-has (t .atoms) C o (o .precondition) x (below-of (2 * t .atoms) m)))
+      rw (l, ← a, e, ← a)
+      (keep-agree (has (guaranteedFlags (t .atoms) C o (o .precondition)))
+      (guaranteed (t .atoms) C o (o .precondition) (closure (t .atoms) C (o .precondition))) (below (2 * t .atoms))
+      (λ x m. guaranteed-has (t .atoms) C o (o .precondition) x (below-of (2 * t .atoms) m)))
     where
       size : length (guaranteedFlags atoms C o (o .precondition)) ≡ 2 * atoms
       size = table-length (λ m. bit (guaranteed atoms C o (o .precondition) (closure atoms C (o .precondition)) m)) (2 * atoms)
@@ -100,7 +108,8 @@ module _ (t : Task) (C : List (List ℕ)) (o : Operator) where
     unfolding kept
     fails-consistent f d =
         let e = not-true (kept (t .atoms) C o f) (and-right (eqb (length f) k) (not (kept (t .atoms) C o f)) d) in
-        subst (λ (m : ℕ). contradictory m (closure m C (o .precondition)) ≡ false) counted (or-false-left (contradictory (t .atoms) (closure (t .atoms) C (o .precondition))) _ e)
+        subst (λ (m : ℕ). contradictory m (closure m C (o .precondition)) ≡ false) counted
+        (or-false-left (contradictory (t .atoms) (closure (t .atoms) C (o .precondition))) _ e)
 
     -- the rows' additions are the operator's; the list is not asked where no clause fails
     pub rows-added :
@@ -111,7 +120,9 @@ module _ (t : Task) (C : List (List ℕ)) (o : Operator) where
         each-agree (addedRow C flags list k) (λ i. addedFor t C k o (getD C i [])) (range 0 (length C)) (λ i m. row i (range-of 0 (length C) m .1))
         ∙ each-places (addedFor t C k o) [] C
       where
-        at : (f : List ℕ) (b : Bool) → (eqb (length f) k && not (kept (t .atoms) C o f)) ≡ b → cond b (each (extended f) list) [] ≡ cond b (weakenedBy t C f o) []
+        at :
+            (f : List ℕ) (b : Bool) → (eqb (length f) k && not (kept (t .atoms) C o f)) ≡ b
+            → cond b (each (extended f) list) [] ≡ cond b (weakenedBy t C f o) []
         at f true d = rw (listed (fails-consistent f d)) (sym (weakened-each f))
         at f false d = refl
 
@@ -123,7 +134,10 @@ pub none-added : (t : Task) (C : List (List ℕ)) (o : Operator) (k : ℕ) → s
 unfolding addedBy addedFor someFails
 none-added t C o k h = each-none (addedFor t C k o) C (λ f m. rw (off f m (decide (eqb (length f) k && not (kept (t .atoms) C o f)))))
   where
-    off : (f : List ℕ) → List·Memᴰ f C → ((eqb (length f) k && not (kept (t .atoms) C o f)) ≡ true) ⊎ ((eqb (length f) k && not (kept (t .atoms) C o f)) ≡ false) → (eqb (length f) k && not (kept (t .atoms) C o f)) ≡ false
+    off :
+        (f : List ℕ) → List·Memᴰ f C
+        → ((eqb (length f) k && not (kept (t .atoms) C o f)) ≡ true) ⊎ ((eqb (length f) k && not (kept (t .atoms) C o f)) ≡ false)
+        → (eqb (length f) k && not (kept (t .atoms) C o f)) ≡ false
     off f m (inl e) = never (any-in (λ g. eqb (length g) k && not (kept (t .atoms) C o g)) m e) h
     off f m (inr e) = e
 
@@ -132,7 +146,8 @@ pub listed-low : (flags list : List ℕ) (k : ℕ) → Listed flags list k → l
 unfolding allBelow
 listed-low flags list k l few =
     rw (l .words)
-    (all-of (λ x. ltb x mostLiterals) (keep (has flags) (below (length flags))) (λ x m. let b = below-of (length flags) (keep-of (has flags) (below (length flags)) m .0) in lt-ltb x mostLiterals (omega arith)))
+    (all-of (λ x. ltb x mostLiterals) (keep (has flags) (below (length flags)))
+    (λ x m. let b = below-of (length flags) (keep-of (has flags) (below (length flags)) m .0) in lt-ltb x mostLiterals (omega arith)))
 
 pub no-words : (list : List ℕ) → allBelow mostLiterals (take 0 list) ≡ true
 unfolding allBelow all
@@ -147,7 +162,10 @@ pub list-more : (N M : ℕ) (f : List ℕ) → N ≤ M → literalList N f ≡ t
 unfolding literalList
 list-more N M f h e =
     let a = and-left (ascending f && allBelow (2 * N) f) (ascending (map atom f)) e in
-    and-both (and-both (and-left (ascending f) (allBelow (2 * N) f) a) (below-more (2 * N) (2 * M) f (omega arith) (and-right (ascending f) (allBelow (2 * N) f) a))) (and-right (ascending f && allBelow (2 * N) f) (ascending (map atom f)) e)
+    and-both
+    (and-both (and-left (ascending f) (allBelow (2 * N) f) a)
+    (below-more (2 * N) (2 * M) f (omega arith) (and-right (ascending f) (allBelow (2 * N) f) a)))
+    (and-right (ascending f && allBelow (2 * N) f) (ascending (map atom f)) e)
 
 pub rows-more : (N M : ℕ) (w : List ℕ) → N ≤ M → RightRows N w → RightRows M w
 unfolding clauseRight
@@ -158,7 +176,8 @@ rows-more N M w h r = record { ascending = r .ascending; right = λ i k. right i
         let f = clauseOf (rowAt w i) in
         let same = isSame (compareWords (rowAt w i) (rowOf f)) in
         let a = and-left (not (empty f) && literalList N f) same e in
-        and-both (and-both (and-left (not (empty f)) (literalList N f) a) (list-more N M f h (and-right (not (empty f)) (literalList N f) a))) (and-right (not (empty f) && literalList N f) same e)
+        and-both (and-both (and-left (not (empty f)) (literalList N f) a) (list-more N M f h (and-right (not (empty f)) (literalList N f) a)))
+        (and-right (not (empty f) && literalList N f) same e)
 
 -- a flag for each clause
 pub fail-count : (C : List (List ℕ)) (o : Operator) (atoms : ℕ) (flags : List ℕ) → flags ≡ failFlags atoms C o C → length flags ≡ length C

@@ -54,20 +54,26 @@ module _ (c flags : List ℕ) where
             let b = rows-words c in
             omega (arith, mul-suc width count)
 
-        pub copy-row : (getD flags i 0 ≡ 1 → ⊥) → (row w′ : List ℕ) → row ≡ rowAt c i → w′ ≡ take (width * count) w ++ row ++ drop (width * count + length row) w → wordsWithout c flags ≡ take (width * (count + 1)) w′ ++ each (rowsWithout c flags) (range (i + 1) (size - (i + 1)))
+        pub copy-row :
+            (getD flags i 0 ≡ 1 → ⊥) → (row w′ : List ℕ) → row ≡ rowAt c i → w′ ≡ take (width * count) w ++ row ++ drop (width * count + length row) w
+            → wordsWithout c flags ≡ take (width * (count + 1)) w′ ++ each (rowsWithout c flags) (range (i + 1) (size - (i + 1)))
         copy-row h row w′ r e =
             let long : length row ≡ width = ap length r ∙ row-length c i (omega arith) in
             let front : length (take (width * count) w) ≡ width * count = length-take-le (width * count) w (let z = copy-room in omega arith) in
             let both : length (take (width * count) w ++ row) ≡ width * (count + 1) = rw (length-append, add-one) (omega (arith, mul-suc width count)) in
-            let first : take (width * (count + 1)) w′ ≡ take (width * count) w ++ row = rw e (take-at (take (width * count) w ++ row) (drop (width * count + length row) w) (width * (count + 1)) both) in
-            inv ∙ rw (split, row-unflagged i h, first, ← r) (sym (append-assoc (take (width * count) w) row (each (rowsWithout c flags) (range (i + 1) (size - (i + 1))))))
+            let first : take (width * (count + 1)) w′ ≡ take (width * count) w ++ row =
+            rw e (take-at (take (width * count) w ++ row) (drop (width * count + length row) w) (width * (count + 1)) both) in
+            inv
+            ∙ rw (split, row-unflagged i h, first, ← r)
+            (sym (append-assoc (take (width * count) w) row (each (rowsWithout c flags) (range (i + 1) (size - (i + 1))))))
 
     pub copy-end : size ≤ i → size ≡ rowCount c → count ≤ size → length c ≤ length w → Copied c flags w count
     copy-end past same few fits =
         let h : count ≤ rowCount c = omega arith in
         let a = mul-le-mul-left width h in
         let b = rows-words c in
-        let e : take (width * count) w ≡ wordsWithout c flags = sym (inv ∙ rw (range-done (rowsWithout c flags) i (size - i) (omega arith)) (append-nil (take (width * count) w))) in
+        let e : take (width * count) w ≡ wordsWithout c flags =
+        sym (inv ∙ rw (range-done (rowsWithout c flags) i (size - i) (omega arith)) (append-nil (take (width * count) w))) in
         record {
           few = omega arith;
           words = e;

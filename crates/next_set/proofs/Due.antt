@@ -45,11 +45,14 @@ module _ (rows : ℕ) (C : List (List ℕ)) (flags list : List ℕ) (k i : ℕ) 
   unfolding addedRow
   row-some h f e = rw (h, e)
 
-pub row-extensible : (w flags list f : List ℕ) (k i : ℕ) → Weakening w flags list k → i < rowCount w → isDue (clausesOf w) flags k i ≡ true → f ≡ clauseOf (rowAt w i) → Extensible f
+pub row-extensible :
+    (w flags list f : List ℕ) (k i : ℕ) → Weakening w flags list k → i < rowCount w → isDue (clausesOf w) flags k i ≡ true → f ≡ clauseOf (rowAt w i)
+    → Extensible f
 unfolding isDue
 row-extensible w flags list f k i g h due e =
     let at = clauses-at w i h in
-    let n : length (getD (clausesOf w) i []) ≡ k = eqb-true (length (getD (clausesOf w) i [])) k (and-left (eqb (length (getD (clausesOf w) i [])) k) (has flags i) due) in
+    let n : length (getD (clausesOf w) i []) ≡ k =
+    eqb-true (length (getD (clausesOf w) i [])) k (and-left (eqb (length (getD (clausesOf w) i [])) k) (has flags i) due) in
     let m : length f ≡ k = ap length (e ∙ sym at) ∙ n in
     record {
       good = rw e (clause-good mostAtoms w (g .rows) (clauseOf (rowAt w i)) (clause-in w i h));

@@ -76,7 +76,8 @@ module _ (flags : List ℕ) where
   unfolding has
   has-not l e = ne-eqb (getD flags l 0) 1 e
 
-  module _ (list : List ℕ) (count l : ℕ) (inv : keep (has flags) (below (length flags)) ≡ take count list ++ keep (has flags) (range l (length flags - l))) where
+  module _
+      (list : List ℕ) (count l : ℕ) (inv : keep (has flags) (below (length flags)) ≡ take count list ++ keep (has flags) (range l (length flags - l))) where
     module _ (more : l < length flags) where
       next : (xs : List ℕ) → keep (has flags) (l ∷ range (suc l) (length flags - suc l)) ≡ xs → keep (has flags) (range l (length flags - l)) ≡ xs
       unfolding range
@@ -84,14 +85,22 @@ module _ (flags : List ℕ) where
           let e : length flags - l ≡ suc (length flags - suc l) = omega arith in
           rw e h
 
-      pub list-skip : (getD flags l 0 ≡ 1 → ⊥) → keep (has flags) (below (length flags)) ≡ take count list ++ keep (has flags) (range (l + 1) (length flags - (l + 1)))
-      list-skip h = inv ∙ ap (λ (xs : List ℕ). take count list ++ xs) (next _ (keep-no (has flags) l (range (suc l) (length flags - suc l)) (has-not l h))) ∙ rw add-one
+      pub list-skip :
+          (getD flags l 0 ≡ 1 → ⊥)
+          → keep (has flags) (below (length flags)) ≡ take count list ++ keep (has flags) (range (l + 1) (length flags - (l + 1)))
+      list-skip h =
+          inv
+          ∙ ap (λ (xs : List ℕ). take count list ++ xs) (next _ (keep-no (has flags) l (range (suc l) (length flags - suc l)) (has-not l h)))
+          ∙ rw add-one
 
-      pub list-take : getD flags l 0 ≡ 1 → count < length list → keep (has flags) (below (length flags)) ≡ take (count + 1) (set list count l) ++ keep (has flags) (range (l + 1) (length flags - (l + 1)))
+      pub list-take :
+          getD flags l 0 ≡ 1 → count < length list
+          → keep (has flags) (below (length flags)) ≡ take (count + 1) (set list count l) ++ keep (has flags) (range (l + 1) (length flags - (l + 1)))
       list-take h room =
           inv
           ∙ ap (λ (xs : List ℕ). take count list ++ xs) (next _ (keep-yes (has flags) l (range (suc l) (length flags - suc l)) (has-one l h)))
-          ∙ rw (add-one count, take-suc-set list count l room, add-one l) (sym (append-snoc (take count list) l (keep (has flags) (range (suc l) (length flags - suc l)))))
+          ∙ rw (add-one count, take-suc-set list count l room, add-one l)
+          (sym (append-snoc (take count list) l (keep (has flags) (range (suc l) (length flags - suc l)))))
 
     pub list-end : length flags ≤ l → count ≤ length flags → Listed flags list count
     unfolding range keep

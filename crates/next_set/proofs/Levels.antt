@@ -117,7 +117,9 @@ module _ (N rows : ℕ) (few : N ≤ mostAtoms) (U : List (List ℕ)) (good : Go
         go false e false h = rw (e, h) (full e h)
 
   -- clauses of one length are put in one after the other
-  pub puts : (j : ℕ) (W D : List (List ℕ)) → Stage j D → ((f : List ℕ) → List·Memᴰ f W → List·Memᴰ f U × (length f ≡ suc j)) → Grown j D W (putAll rows W (some D))
+  pub puts :
+      (j : ℕ) (W D : List (List ℕ)) → Stage j D → ((f : List ℕ) → List·Memᴰ f W → List·Memᴰ f U × (length f ≡ suc j))
+      → Grown j D W (putAll rows W (some D))
   unfolding putAll
   puts j [] D s h = (s, λ g m. m, λ g m l. absurd (List·Memᴰ·not-nil m))
   puts j (f ∷ W) D s h =
@@ -134,7 +136,9 @@ module _ (N rows : ℕ) (few : N ≤ mostAtoms) (U : List (List ℕ)) (good : Go
           pick g (inl e) l = b .1 g (a .2 g (List·Memᴰ·head e) l)
           pick g (inr m) l = b .2 g m l
 
-      go : (q : Option (List (List ℕ))) → Grown j D (f ∷ []) q → ((E : List (List ℕ)) → Stage j E → Grown j E W (putAll rows W (some E))) → Grown j D (f ∷ W) (putAll rows W q)
+      go :
+          (q : Option (List (List ℕ))) → Grown j D (f ∷ []) q → ((E : List (List ℕ)) → Stage j E → Grown j E W (putAll rows W (some E)))
+          → Grown j D (f ∷ W) (putAll rows W q)
       go none a rec = rw (puts-none rows W) a
       go (some E) a rec = join E a (putAll rows W (some E)) (rec E (a .0))
 

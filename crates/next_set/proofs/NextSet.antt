@@ -3,7 +3,8 @@ use mathlib.Core.Bool.{Bool, true, false, not, _&&_, _||_, cond, false≢true}
 use mathlib.Core.Logic.{_⊎_, inl, inr}
 use mathlib.Core.Option.{Option, none, some}
 use mathlib.Core.Path.{_≡_, refl, sym, _∙_, ap, subst}
-use mathlib.Core.List.{List, [], _∷_, _++_, map, List·Memᴰ, List·Memᴰ·head, List·Memᴰ·tail, List·Memᴰ·not-nil, List·Memᴰ·cases-cons, Memᴰ·append-left, Memᴰ·append-right}
+use mathlib.Core.List.{List, [], _∷_, _++_, map, List·Memᴰ, List·Memᴰ·head, List·Memᴰ·tail, List·Memᴰ·not-nil, List·Memᴰ·cases-cons}
+use mathlib.Core.List.{Memᴰ·append-left, Memᴰ·append-right}
 use Prim.Native.Nat.{ℕ, zero, suc, _+_, _-_, _*_, _≤_, _<_}
 use native.Mathlib.Omega.{arith}
 use lib.Dec.{eqb, ltb, leb}
@@ -15,7 +16,8 @@ use Rattle.definitions.specs.Image.{Operator, Task}
 use Rattle.definitions.specs.Clauses.{width}
 use Rattle.definitions.specs.Closure.{closure}
 use Rattle.definitions.specs.Kept.{kept, guaranteed}
-use Rattle.definitions.specs.Synthesis.{insertLiteral, insertClause, insertAll, contains, undominated, Tested, tested, passes, guarantees, weakenedBy, weakened, nextOf, next, fits}
+use Rattle.definitions.specs.Synthesis.{insertLiteral, insertClause, insertAll, contains, undominated, Tested, tested, passes, guarantees}
+use Rattle.definitions.specs.Synthesis.{weakenedBy, weakened, nextOf, next, fits}
 use Rattle.definitions.proofs.ListLaws.{decide, never, and-left, and-right, and-both, map-in, map-of, keep-in, keep-of}
 use Rattle.definitions.proofs.OrderLaws.{up, insertAll-up, keep-up}
 use Rattle.definitions.proofs.SetLaws.{each-of, below-of, insertClause-of, insertAll-of, insertLiteral-keeps}
@@ -74,7 +76,9 @@ module _ (t : Task) (C : List (List ℕ)) where
   none-fails f [] = refl
   none-fails f (o ∷ os) = go (fine o f) refl (none-fails f os)
     where
-      go : (b : Bool) → fine o f ≡ b → empty (keep (λ o. not (fine o f)) os) ≡ all (λ o. fine o f) os → empty (keep (λ o. not (fine o f)) (o ∷ os)) ≡ all (λ o. fine o f) (o ∷ os)
+      go :
+          (b : Bool) → fine o f ≡ b → empty (keep (λ o. not (fine o f)) os) ≡ all (λ o. fine o f) os
+          → empty (keep (λ o. not (fine o f)) (o ∷ os)) ≡ all (λ o. fine o f) (o ∷ os)
       go true e rec = rw (e, keep) rec
       go false e rec = rw (e, keep)
 
@@ -87,7 +91,10 @@ module _ (t : Task) (C : List (List ℕ)) where
   survive [] = refl
   survive (f ∷ D) = go (all (λ o. fine o f) (t .operators)) refl (survive D)
     where
-      go : (b : Bool) → all (λ o. fine o f) (t .operators) ≡ b → map (λ x. x .clause) (keep passes (map mark D)) ≡ keep (λ f. all (λ o. fine o f) (t .operators)) D → map (λ x. x .clause) (keep passes (mark f ∷ map mark D)) ≡ keep (λ f. all (λ o. fine o f) (t .operators)) (f ∷ D)
+      go :
+          (b : Bool) → all (λ o. fine o f) (t .operators) ≡ b
+          → map (λ x. x .clause) (keep passes (map mark D)) ≡ keep (λ f. all (λ o. fine o f) (t .operators)) D
+          → map (λ x. x .clause) (keep passes (mark f ∷ map mark D)) ≡ keep (λ f. all (λ o. fine o f) (t .operators)) (f ∷ D)
       go true e rec =
           ap (map (λ x. x .clause)) (keep-yes passes (mark f) (map mark D) (passes-all f ∙ e))
           ∙ ap (λ (l : List (List ℕ)). f ∷ l) rec
@@ -176,7 +183,9 @@ module _ (t : Task) (C : List (List ℕ)) where
         let b = each-of (addedFor t C k (a .it)) C (a .there) in
         go (a .it) (a .mem) (b .it) (b .mem) (eqb (length (b .it)) k && not (fine (a .it) (b .it))) refl (b .there)
       where
-        go : (o : Operator) → List·Memᴰ o (t .operators) → (f : List ℕ) → List·Memᴰ f C → (b : Bool) → (eqb (length f) k && not (fine o f)) ≡ b → List·Memᴰ g (addedFor t C k o f) → (w : Weak g) × (length (w .clause) ≡ k)
+        go :
+            (o : Operator) → List·Memᴰ o (t .operators) → (f : List ℕ) → List·Memᴰ f C → (b : Bool) → (eqb (length f) k && not (fine o f)) ≡ b
+            → List·Memᴰ g (addedFor t C k o f) → (w : Weak g) × (length (w .clause) ≡ k)
         go o mo f mf true e j = (
           record {
             clause = f;
@@ -203,7 +212,9 @@ module _ (t : Task) (C : List (List ℕ)) where
   survivors-up order = keep-up (λ f. all (λ o. fine o f) (t .operators)) C order
 
 -- ---- C is a set of the synthesis, in a buffer of its rows
-module _ (t : Task) (n rows : ℕ) (C : List (List ℕ)) (few : t .atoms ≤ mostAtoms) (some-n : 1 ≤ n) (narrow : n ≤ width) (good : (f : List ℕ) → List·Memᴰ f C → GoodClause (t .atoms) n f) (order : up C ≡ true) (anti : Antichain C) (inside : length C ≤ rows) where
+module _
+    (t : Task) (n rows : ℕ) (C : List (List ℕ)) (few : t .atoms ≤ mostAtoms) (some-n : 1 ≤ n) (narrow : n ≤ width)
+    (good : (f : List ℕ) → List·Memᴰ f C → GoodClause (t .atoms) n f) (order : up C ≡ true) (anti : Antichain C) (inside : length C ≤ rows) where
   abbrev U : List (List ℕ)
   U = insertAll (each (weakened t n C) (tested t C)) (map (λ x. x .clause) (keep passes (tested t C)))
 
@@ -301,7 +312,8 @@ module _ (t : Task) (n rows : ℕ) (C : List (List ℕ)) (few : t .atoms ≤ mos
       subst (λ (m : ℕ). Staged m D) q s
   levels (suc j) k D e s p =
       rw (puts-append rows (addedAt t C k) (addedFrom t C (suc k) j) (some D))
-      (go (putAll rows (addedAt t C k) (some D)) (puts (t .atoms) rows few U goods k (addedAt t C k) D s each-right) (λ E a b. levels j (suc k) E (omega arith) a b))
+      (go (putAll rows (addedAt t C k) (some D)) (puts (t .atoms) rows few U goods k (addedAt t C k) D s each-right)
+      (λ E a b. levels j (suc k) E (omega arith) a b))
     where
       each-right : (f : List ℕ) → List·Memᴰ f (addedAt t C k) → List·Memᴰ f U × (length f ≡ suc k)
       each-right f m =
@@ -309,13 +321,18 @@ module _ (t : Task) (n rows : ℕ) (C : List (List ℕ)) (few : t .atoms ≤ mos
           let h = w .1 in
           (weak-in (w .0) (omega arith), weak-length (w .0) ∙ ap suc h)
 
-      there : (E : List (List ℕ)) → Grown (t .atoms) rows few U goods k D (addedAt t C k) (some E) → (f : List ℕ) → List·Memᴰ f (undominated U) → length f ≡ suc k → From f → List·Memᴰ f E
+      there :
+          (E : List (List ℕ)) → Grown (t .atoms) rows few U goods k D (addedAt t C k) (some E) → (f : List ℕ) → List·Memᴰ f (undominated U)
+          → length f ≡ suc k → From f → List·Memᴰ f E
       there E g f m l (inl q) = g .1 f (p f q)
       there E g f m l (inr w) =
           let h = weak-length (w .0) in
           g .2 f (added-in t C (w .0) k (omega arith)) m
 
-      go : (q : Option (List (List ℕ))) → Grown (t .atoms) rows few U goods k D (addedAt t C k) q → ((E : List (List ℕ)) → Staged (suc k) E → Part (survivors t C) E → Final (putAll rows (addedFrom t C (suc k) j) (some E))) → Final (putAll rows (addedFrom t C (suc k) j) q)
+      go :
+          (q : Option (List (List ℕ))) → Grown (t .atoms) rows few U goods k D (addedAt t C k) q
+          → ((E : List (List ℕ)) → Staged (suc k) E → Part (survivors t C) E → Final (putAll rows (addedFrom t C (suc k) j) (some E)))
+          → Final (putAll rows (addedFrom t C (suc k) j) q)
       go none g rec = rw (puts-none rows (addedFrom t C (suc k) j)) g
       go (some E) g rec =
           rec E (next-stage (t .atoms) rows few U goods k E (g .0) (λ f m l. there E g f m l (from (least-of U f m .0)))) (λ f m. g .1 f (p f m))

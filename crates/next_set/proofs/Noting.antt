@@ -78,13 +78,18 @@ module _ (p : List ℕ → Bool) (C : List (List ℕ)) (at : ℕ) where
           }
 
       -- a clause with its flag
-      pub adding-put : getD flags j 0 ≡ 1 → (k : ℕ) → k ≡ length (getD C j []) → length due ≡ length due₀ → Adding to₀ (set to j 1) due₀ (set due (at + k) 1) (j + 1)
+      pub adding-put :
+          getD flags j 0 ≡ 1 → (k : ℕ) → k ≡ length (getD C j []) → length due ≡ length due₀
+          → Adding to₀ (set to j 1) due₀ (set due (at + k) 1) (j + 1)
       unfolding any
       adding-put h k size same =
           let on = flag-yes p C flags e j more h in
           record {
             flags = a .flags ∙ flag-set p C to j (getD C j []) refl inside (omega arith) on;
-            noted = λ i d. a .noted i d ∙ rw (left-here C j [] (getD C j []) refl inside, on, put-has due (at + k) i (omega arith), size) (or-swap (eqb (at + length (getD C j [])) i) (any (λ f. p f && eqb (at + length f) i) (drop (j + 1) C)) (has due i));
+            noted =
+                λ i d. a .noted i d
+                ∙ rw (left-here C j [] (getD C j []) refl inside, on, put-has due (at + k) i (omega arith), size)
+                (or-swap (eqb (at + length (getD C j [])) i) (any (λ f. p f && eqb (at + length f) i) (drop (j + 1) C)) (has due i));
           }
 
 -- ---- all operators
@@ -119,14 +124,17 @@ same-place i j k x a b d e q = omega arith
 module _ (C : List (List ℕ)) (sizes : (f : List ℕ) → List·Memᴰ f C → (1 ≤ length f) × (length f ≤ width)) (p : List ℕ → Bool) where
   -- the places of an operator have the flags of its own clauses
   same-operator : (j k : ℕ) → any (λ f. p f && eqb (width * j + length f) (width * j + k)) C ≡ any (λ f. eqb (length f) k && p f) C
-  same-operator j k = any-agree (λ f. p f && eqb (width * j + length f) (width * j + k)) (λ f. eqb (length f) k && p f) C (λ f m. rw (shift (length f) (decide (eqb (length f) k))) (and-swap (p f) (eqb (length f) k)))
+  same-operator j k =
+      any-agree (λ f. p f && eqb (width * j + length f) (width * j + k)) (λ f. eqb (length f) k && p f) C
+      (λ f m. rw (shift (length f) (decide (eqb (length f) k))) (and-swap (p f) (eqb (length f) k)))
     where
       shift : (x : ℕ) → (eqb x k ≡ true) ⊎ (eqb x k ≡ false) → eqb (width * j + x) (width * j + k) ≡ eqb x k
       shift x (inl e) = rw e (eq-eqb (width * j + x) (width * j + k) (ap (λ (z : ℕ). width * j + z) (eqb-true x k e)))
       shift x (inr e) = rw e (ne-eqb (width * j + x) (width * j + k) (λ q. eqb-false x k e (omega arith)))
 
   other-operator : (i j k : ℕ) → (i ≡ j → ⊥) → 1 ≤ k → k ≤ width → any (λ f. p f && eqb (width * j + length f) (width * i + k)) C ≡ false
-  other-operator i j k ne low high = any-none (λ f. p f && eqb (width * j + length f) (width * i + k)) C (λ f m. rw (off (length f) (sizes f m .0) (sizes f m .1)) (and-false (p f)))
+  other-operator i j k ne low high =
+      any-none (λ f. p f && eqb (width * j + length f) (width * i + k)) C (λ f m. rw (off (length f) (sizes f m .0) (sizes f m .1)) (and-false (p f)))
     where
       off : (x : ℕ) → 1 ≤ x → x ≤ width → eqb (width * j + x) (width * i + k) ≡ false
       off x a b = ne-eqb (width * j + x) (width * i + k) (λ q. ne (same-place i j k x low high a b q))
@@ -152,21 +160,28 @@ module _ (t : Task) (C : List (List ℕ)) where
   pub tested-end : (failing due : List ℕ) → TestedBelow failing due (length (t .operators)) → FailuresNoted t C due
   tested-end failing due b = record { flag = λ i k h. b .done i k h }
 
-  module _ (sizes : (f : List ℕ) → List·Memᴰ f C → (1 ≤ length f) × (length f ≤ width)) (atoms j : ℕ) (counted : atoms ≡ t .atoms) (failing failing′ due due′ : List ℕ) where
+  module _
+      (sizes : (f : List ℕ) → List·Memᴰ f C → (1 ≤ length f) × (length f ≤ width)) (atoms j : ℕ) (counted : atoms ≡ t .atoms)
+      (failing failing′ due due′ : List ℕ) where
     abbrev fails : List ℕ → Bool
     fails = λ f. not (kept atoms C (operatorAt t j) f)
 
-    pub tested-next : TestedBelow failing due j → FlagsAdded fails C (width * j) failing failing′ due due′ → length due′ ≡ length due → TestedBelow failing′ due′ (j + 1)
+    pub tested-next :
+        TestedBelow failing due j → FlagsAdded fails C (width * j) failing failing′ due due′ → length due′ ≡ length due
+        → TestedBelow failing′ due′ (j + 1)
     unfolding someFails
     tested-next b a same =
         record {
           flags = fails-turn t C atoms j failing failing′ counted (b .flags) (a .flags);
           done = λ i k h low high room. here i k low high (rw same at room) (below-suc i j h);
-          left = λ i k h low high room. a .noted (width * i + k) (rw same at room) ∙ rw (other-operator C sizes fails i j k (λ e. omega arith) low high) (b .left i k (omega arith) low high (rw same at room));
+          left =
+              λ i k h low high room. a .noted (width * i + k) (rw same at room)
+              ∙ rw (other-operator C sizes fails i j k (λ e. omega arith) low high) (b .left i k (omega arith) low high (rw same at room));
         }
       where
         here : (i k : ℕ) → 1 ≤ k → k ≤ width → width * i + k < length due → (i < j) ⊎ (i ≡ j) → has due′ (width * i + k) ≡ someFails t C k (operatorAt t i)
-        here i k low high room (inl h) = a .noted (width * i + k) room ∙ rw (other-operator C sizes fails i j k (λ e. omega arith) low high) (b .done i k h low high room)
+        here i k low high room (inl h) =
+            a .noted (width * i + k) room ∙ rw (other-operator C sizes fails i j k (λ e. omega arith) low high) (b .done i k h low high room)
         here i k low high room (inr e) =
             subst (λ (x : ℕ). has due′ (width * x + k) ≡ someFails t C k (operatorAt t x)) (sym e)
             (a .noted (width * j + k) (rw e at room)

@@ -42,7 +42,9 @@ unfolding each keep
 each-keep g p [] = refl
 each-keep g p (x ∷ xs) = go (p x) refl (each-keep g p xs)
   where
-    go : (b : Bool) → p x ≡ b → each g (keep p xs) ≡ each (λ x. cond (p x) (g x) []) xs → each g (keep p (x ∷ xs)) ≡ cond (p x) (g x) [] ++ each (λ x. cond (p x) (g x) []) xs
+    go :
+        (b : Bool) → p x ≡ b → each g (keep p xs) ≡ each (λ x. cond (p x) (g x) []) xs
+        → each g (keep p (x ∷ xs)) ≡ cond (p x) (g x) [] ++ each (λ x. cond (p x) (g x) []) xs
     go true e rec = rw (keep-yes p x xs e, e, rec)
     go false e rec = rw (keep-no p x xs e, e, rec)
 
@@ -104,7 +106,11 @@ module _ (w c : List ℕ) (atoms most rows : ℕ) (r : Round w c atoms most rows
         row i h =
             let l : length flags ≡ rowCount c = flags-length (failsBelow t C (length (t .operators))) C flags failing ∙ clauses-length c in
             let q : i < rowCount c = omega arith in
-            rw (flag-has (failsBelow t C (length (t .operators))) C flags failing i (omega arith), fails-all t C (getD C i []), row-at atoms c (read-right atoms c (r .read .clauses)) i q)
+            rw (
+              flag-has (failsBelow t C (length (t .operators))) C flags failing i (omega arith),
+              fails-all t C (getD C i []),
+              row-at atoms c (read-right atoms c (r .read .clauses)) i q,
+            )
             (cond-not (all (λ o. kept (t .atoms) C o (getD C i [])) (t .operators)) [] (rowOf (getD C i [])))
 
     survivors-good : Goods mostAtoms (survivors t C)
@@ -119,7 +125,11 @@ module _ (w c : List ℕ) (atoms most rows : ℕ) (r : Round w c atoms most rows
 
     module _ (k : ℕ) (v : List ℕ) (copied : Copied c flags v k) (fits : width * rows ≤ length v) where
       size : length (survivors t C) ≡ k
-      size = cancel (length (survivors t C)) k (sym (words-length mostAtoms width (omega arith) (omega arith) (survivors t C) survivors-good) ∙ ap length (sym survivor-words) ∙ copied .size)
+      size =
+          cancel (length (survivors t C)) k
+          (sym (words-length mostAtoms width (omega arith) (omega arith) (survivors t C) survivors-good)
+          ∙ ap length (sym survivor-words)
+          ∙ copied .size)
 
       inside : k ≤ rows
       inside = let a = copied .few in let b = r .size in omega arith

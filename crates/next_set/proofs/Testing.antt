@@ -99,20 +99,26 @@ module _ (t : Task) (C : List (List ℕ)) where
       ∙ rw add-one
 
   -- a clause passes exactly if it fails under none of the operators
-  below-all : (f : List ℕ) (os : List Operator) (j : ℕ) → j ≤ length os → ((i : ℕ) → i < j → getD os i noOperator ≡ operatorAt t i) → failsBelow t C j f ≡ not (all (λ o. kept (t .atoms) C o f) (take j os))
+  below-all :
+      (f : List ℕ) (os : List Operator) (j : ℕ) → j ≤ length os → ((i : ℕ) → i < j → getD os i noOperator ≡ operatorAt t i)
+      → failsBelow t C j f ≡ not (all (λ o. kept (t .atoms) C o f) (take j os))
   unfolding failsBelow all
   below-all f os zero h e = refl
   below-all f os (suc j) h e =
       rw (take-suc os j noOperator (omega arith), below-all f os j (omega arith) (λ i k. e i (omega arith)), e j (omega arith))
       (last (take j os) (operatorAt t j))
     where
-      last : (xs : List Operator) (o : Operator) → (not (kept (t .atoms) C o f) || not (all (λ o. kept (t .atoms) C o f) xs)) ≡ not (all (λ o. kept (t .atoms) C o f) (xs ++ (o ∷ [])))
+      last :
+          (xs : List Operator) (o : Operator)
+          → (not (kept (t .atoms) C o f) || not (all (λ o. kept (t .atoms) C o f) xs)) ≡ not (all (λ o. kept (t .atoms) C o f) (xs ++ (o ∷ [])))
       last [] o = one (kept (t .atoms) C o f)
         where
           one : (b : Bool) → (not b || not true) ≡ not (b && true)
           one true = refl
           one false = refl
-      last (x ∷ xs) o = both (kept (t .atoms) C o f) (kept (t .atoms) C x f) (all (λ o. kept (t .atoms) C o f) xs) (all (λ o. kept (t .atoms) C o f) (xs ++ (o ∷ []))) (last xs o)
+      last (x ∷ xs) o =
+          both (kept (t .atoms) C o f) (kept (t .atoms) C x f) (all (λ o. kept (t .atoms) C o f) xs)
+          (all (λ o. kept (t .atoms) C o f) (xs ++ (o ∷ []))) (last xs o)
         where
           both : (a b c d : Bool) → (not a || not c) ≡ not d → (not a || not (b && c)) ≡ not (b && d)
           both true true c d h = h
@@ -125,7 +131,9 @@ module _ (t : Task) (C : List (List ℕ)) where
   fails-all f = below-all f (t .operators) (length (t .operators)) (omega arith) (λ i h. refl) ∙ rw (take-length (t .operators))
 
   -- no flag exactly if all pass
-  pub none-flagged : (flags : List ℕ) → flags ≡ map (λ f. bit (failsBelow t C (length (t .operators)) f)) C → any (λ x. eqb x 1) flags ≡ not (all passes (tested t C))
+  pub none-flagged :
+      (flags : List ℕ) → flags ≡ map (λ f. bit (failsBelow t C (length (t .operators)) f)) C
+      → any (λ x. eqb x 1) flags ≡ not (all passes (tested t C))
   unfolding tested any all
   none-flagged flags e = rw (e, all-pass t C C) (go C)
     where
@@ -133,6 +141,10 @@ module _ (t : Task) (C : List (List ℕ)) where
       or-not true b = refl
       or-not false b = refl
 
-      go : (D : List (List ℕ)) → any (λ x. eqb x 1) (map (λ f. bit (failsBelow t C (length (t .operators)) f)) D) ≡ not (all (λ f. all (λ o. kept (t .atoms) C o f) (t .operators)) D)
+      go :
+          (D : List (List ℕ)) → any (λ x. eqb x 1) (map (λ f. bit (failsBelow t C (length (t .operators)) f)) D) ≡ not
+          (all (λ f. all (λ o. kept (t .atoms) C o f) (t .operators)) D)
       go [] = refl
-      go (f ∷ D) = rw (bit-back (failsBelow t C (length (t .operators)) f), fails-all f, go D) (or-not (all (λ o. kept (t .atoms) C o f) (t .operators)) (all (λ f. all (λ o. kept (t .atoms) C o f) (t .operators)) D))
+      go (f ∷ D) =
+          rw (bit-back (failsBelow t C (length (t .operators)) f), fails-all f, go D)
+          (or-not (all (λ o. kept (t .atoms) C o f) (t .operators)) (all (λ f. all (λ o. kept (t .atoms) C o f) (t .operators)) D))

@@ -12,7 +12,8 @@ use Rattle.definitions.specs.Lists.{any, all, keep, below, member}
 use Rattle.definitions.specs.Image.{Task, initialState}
 use Rattle.definitions.specs.Clauses.{rowOf, rowLess}
 use Rattle.definitions.specs.Synthesis.{contains, undominated, firstSet, nextOf, next, setAt}
-use Rattle.definitions.proofs.ListLaws.{decide, never, and-left, and-right, and-both, any-in, any-of, all-at, all-of, keep-in, keep-of, map-of, member-in, member-of}
+use Rattle.definitions.proofs.ListLaws.{decide, never, and-left, and-right, and-both, any-in, any-of, all-at, all-of, keep-in, keep-of}
+use Rattle.definitions.proofs.ListLaws.{map-of, member-in, member-of}
 use Rattle.definitions.proofs.OrderLaws.{up, upFrom}
 use Rattle.clause.proofs.RowOrder.{row-irrefl}
 use Rattle.clause.proofs.ClauseLaws.{above-all}

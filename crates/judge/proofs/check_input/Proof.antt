@@ -15,7 +15,7 @@ use Rattle.judge.proofs.check_input.Tie as tie
 
 -- where all is read or refused: the start
 abbrev start : tie.After-read-all → tie.Start
-start d = d .before .before .before .before
+start d = let p = d .before .before .before in p .before
 
 abbrev image : tie.After-read-all → List ℕ
 image d = start d .args .image .now
@@ -68,7 +68,8 @@ returns-2 : tie.Need-returns-2
 returns-2 c =
     let o = c .before .before in
     let d = was-read (o .before) in
-    input-operator (image d) (clauses d) (clause d) (start d .args .operator) (start d .args .marks) (is-read (o .before)) (omega (arith, c .before .if1 .taken, o .operators .ensures .0)) (c .refuse .result) (c .refuse .ensures)
+    input-operator (image d) (clauses d) (clause d) (start d .args .operator) (start d .args .marks) (is-read (o .before))
+    (omega (arith, c .before .if1 .taken, o .operators .ensures .0)) (c .refuse .result) (c .refuse .ensures)
 
 atoms-requires : tie.Need-atoms-requires
 atoms-requires c κs = is-read (read-of c) .task
@@ -84,7 +85,8 @@ returns-3 c =
     let a = c .before .before in
     let e = a .before in
     let d = was-read (read-of e) in
-    input-marks (image d) (clauses d) (clause d) (start d .args .operator) (start d .args .marks) (is-read (read-of e)) (inside e) (omega (arith, c .before .if2 .taken, a .atoms .ensures .0)) (c .refuse2 .result) (c .refuse2 .ensures)
+    input-marks (image d) (clauses d) (clause d) (start d .args .operator) (start d .args .marks) (is-read (read-of e)) (inside e)
+    (omega (arith, c .before .if2 .taken, a .atoms .ensures .0)) (c .refuse2 .result) (c .refuse2 .ensures)
 
 returns-4 : tie.Need-returns-4
 returns-4 c =

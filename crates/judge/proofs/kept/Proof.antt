@@ -16,7 +16,7 @@ abbrev asked : Type 0
 asked = tie.After-check-input
 
 abbrev start : asked → tie.Start
-start d = d .before .before .before .before .before .before
+start d = let p = d .before .before .before in p .before .before .before
 
 abbrev number : asked → ℕ
 number d = d .before .wide .result
@@ -58,10 +58,13 @@ test-requires c κs = let r = c .before in answered (r .before .before) Fine (r 
 same-length : tie.Need-same-length
 same-length c = search needs
 
+abbrev asked-from-test : tie.After-test → asked
+asked-from-test c = let p = c .before .before .before in p .before
+
 returns-2 : tie.Need-returns-2
 returns-2 c =
     let t = c .before .before in
-    t .test .ensures ∙ same-number (t .before .before .before .before)
+    t .test .ensures ∙ same-number (asked-from-test t)
 
 pub kept-spec : {M : Type 1} → statement M
 kept-spec =

@@ -14,7 +14,7 @@ use Rattle.judge.proofs.read_all.Tie as tie
 
 -- where the image was asked: the start
 abbrev start : tie.After-read → tie.Start
-start d = d .before .before .before .before
+start d = let p = d .before .before .before in p .before
 
 abbrev image : tie.After-read → List ℕ
 image d = start d .args .image .now

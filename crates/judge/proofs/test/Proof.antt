@@ -11,15 +11,15 @@ abbrev found : Type 0
 found = tie.After-operator-block
 
 abbrev start : found → tie.Start
-start d = d .before .before .before .before .before .before
+start d = let p = d .before .before .before in p .before .before .before
 
 -- where the clause is judged: the block
 abbrev block-of : tie.After-judge → found
-block-of c = c .before .before .before .before
+block-of c = let p = c .before .before .before in p .before
 
 -- after the flag that is looked at: the judging
 abbrev judged : tie.After-has → tie.After-judge
-judged c = c .before .before .before .before .before
+judged c = let p = c .before .before .before in p .before .before
 
 atoms-requires : tie.Need-atoms-requires
 atoms-requires c κs = search needs
@@ -38,7 +38,8 @@ judge-requires c κs =
     let d = c .before .before .before in
     let s = start d in
     let atoms = d .before .atoms in
-    asks-bulk _ _ _ (s .args .operator) (s .args .marks .now) (s .pre) (atoms .result) (atoms .ensures .0) (atoms .ensures .1) _ _ (d .operator-block .ensures) (c .before .before .one .ensures)
+    asks-bulk _ _ _ (s .args .operator) (s .args .marks .now) (s .pre) (atoms .result) (atoms .ensures .0) (atoms .ensures .1) _ _
+    (d .operator-block .ensures) (c .before .before .one .ensures)
 
 slice-aggregate-has : tie.Need-slice-aggregate-has
 slice-aggregate-has c = search needs
@@ -60,7 +61,8 @@ returns c =
     let s = start d in
     let atoms = d .before .atoms in
     c .whether .ensures
-    ∙ asks-answer _ _ _ (s .args .operator) (s .args .marks .now) (s .pre) (atoms .result) (atoms .ensures .0) _ _ (h .has .result) (d .operator-block .ensures .operator) (j .judge .ensures) (h .has .ensures)
+    ∙ asks-answer _ _ _ (s .args .operator) (s .args .marks .now) (s .pre) (atoms .result) (atoms .ensures .0) _ _ (h .has .result)
+    (d .operator-block .ensures .operator) (j .judge .ensures) (h .has .ensures)
 
 pub test-spec : {M : Type 1} → statement M
 test-spec =

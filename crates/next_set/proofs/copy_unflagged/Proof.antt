@@ -16,7 +16,9 @@ use Rattle.next_set.proofs.copy_unflagged.Statement.{statement}
 use Rattle.next_set.proofs.copy_unflagged.Tie as tie
 
 abbrev Inv-loop : tie.InvT-loop
-Inv-loop clauses flags work₀ size count₀ i₀ work count i = (size ≡ rowCount clauses) × (count ≤ i) × (i ≤ size) × (length work ≡ length work₀) × (wordsWithout clauses flags ≡ take (width * count) work ++ each (rowsWithout clauses flags) (range i (size - i)))
+Inv-loop clauses flags work₀ size count₀ i₀ work count i =
+    (size ≡ rowCount clauses) × (count ≤ i) × (i ≤ size) × (length work ≡ length work₀) ×
+    (wordsWithout clauses flags ≡ take (width * count) work ++ each (rowsWithout clauses flags) (range i (size - i)))
 
 abbrev μ-loop : tie.MeasureT-loop
 μ-loop clauses flags work₀ size count₀ i₀ work count i = size - i
@@ -24,8 +26,103 @@ abbrev μ-loop : tie.MeasureT-loop
 rows-requires : tie.Need-rows-requires Inv-loop μ-loop
 rows-requires c κs = search needs
 
+-- the places of the function
+abbrev at-start : tie.After-shared-slice-known Inv-loop μ-loop → tie.Start Inv-loop μ-loop
+at-start c = c .before
+
+abbrev after-shared-slice-known : tie.After-rows Inv-loop μ-loop → tie.After-shared-slice-known Inv-loop μ-loop
+after-shared-slice-known c = c .before .before .before
+
+abbrev after-rows : tie.At-loop Inv-loop μ-loop → tie.After-rows Inv-loop μ-loop
+after-rows c = c .before
+
+abbrev at-start-from-loop′′ : tie.At-loop Inv-loop μ-loop → tie.Start Inv-loop μ-loop
+at-start-from-loop′′ c = at-start (after-shared-slice-known ((after-rows c)))
+
+abbrev at-loop-of-loop : tie.After-loop Inv-loop μ-loop → tie.At-loop Inv-loop μ-loop
+at-loop-of-loop c = c .before
+
+abbrev at-loop-of-loop′ : tie.In-loop Inv-loop μ-loop → tie.At-loop Inv-loop μ-loop
+at-loop-of-loop′ c = c .before
+
+abbrev at-start-from-loop : tie.After-loop Inv-loop μ-loop → tie.Start Inv-loop μ-loop
+at-start-from-loop c = at-start-from-loop′′ (at-loop-of-loop c)
+
+abbrev at-start-from-loop′ : tie.In-loop Inv-loop μ-loop → tie.Start Inv-loop μ-loop
+at-start-from-loop′ c = at-start-from-loop′′ (at-loop-of-loop′ c)
+
+abbrev in-loop-of-else1 : tie.Else1 Inv-loop μ-loop → tie.In-loop Inv-loop μ-loop
+in-loop-of-else1 c = c .before .before
+
+abbrev in-loop-of-then1 : tie.Then1 Inv-loop μ-loop → tie.In-loop Inv-loop μ-loop
+in-loop-of-then1 c = c .before .before
+
+abbrev at-start-from-then1 : tie.Then1 Inv-loop μ-loop → tie.Start Inv-loop μ-loop
+at-start-from-then1 c = at-start-from-loop′ (in-loop-of-then1 c)
+
+abbrev after-rows-from-then1 : tie.Then1 Inv-loop μ-loop → tie.After-rows Inv-loop μ-loop
+after-rows-from-then1 c = after-rows (at-loop-of-loop′ ((in-loop-of-then1 c)))
+
+abbrev at-start-from-else1 : tie.Else1 Inv-loop μ-loop → tie.Start Inv-loop μ-loop
+at-start-from-else1 c = at-start-from-loop′ (in-loop-of-else1 c)
+
+abbrev after-rows-from-else1 : tie.Else1 Inv-loop μ-loop → tie.After-rows Inv-loop μ-loop
+after-rows-from-else1 c = after-rows (at-loop-of-loop′ ((in-loop-of-else1 c)))
+
+abbrev else1 : tie.After-row Inv-loop μ-loop → tie.Else1 Inv-loop μ-loop
+else1 c = c .before
+
+abbrev at-loop-from-row : tie.After-row Inv-loop μ-loop → tie.At-loop Inv-loop μ-loop
+at-loop-from-row c = at-loop-of-loop′ (in-loop-of-else1 ((else1 c)))
+
+abbrev at-start-from-row : tie.After-row Inv-loop μ-loop → tie.Start Inv-loop μ-loop
+at-start-from-row c = at-start-from-else1 (else1 c)
+
+abbrev after-rows-from-row : tie.After-row Inv-loop μ-loop → tie.After-rows Inv-loop μ-loop
+after-rows-from-row c = after-rows-from-else1 (else1 c)
+
+abbrev after-row : tie.After-copy-to-arg Inv-loop μ-loop → tie.After-row Inv-loop μ-loop
+after-row c = c .before
+
+abbrev at-loop-from-copy-to-arg : tie.After-copy-to-arg Inv-loop μ-loop → tie.At-loop Inv-loop μ-loop
+at-loop-from-copy-to-arg c = at-loop-from-row (after-row c)
+
+abbrev at-start-from-copy-to-arg : tie.After-copy-to-arg Inv-loop μ-loop → tie.Start Inv-loop μ-loop
+at-start-from-copy-to-arg c = at-start-from-row (after-row c)
+
+abbrev after-rows-from-copy-to-arg : tie.After-copy-to-arg Inv-loop μ-loop → tie.After-rows Inv-loop μ-loop
+after-rows-from-copy-to-arg c = after-rows-from-row (after-row c)
+
+abbrev in-loop-from-copy-to-arg : tie.After-copy-to-arg Inv-loop μ-loop → tie.In-loop Inv-loop μ-loop
+in-loop-from-copy-to-arg c = in-loop-of-else1 (else1 ((after-row c)))
+
+abbrev after-copy-to-arg : tie.After-slice-known2 Inv-loop μ-loop → tie.After-copy-to-arg Inv-loop μ-loop
+after-copy-to-arg c = c .before .before .before
+
+abbrev at-loop-from-slice-known2 : tie.After-slice-known2 Inv-loop μ-loop → tie.At-loop Inv-loop μ-loop
+at-loop-from-slice-known2 c = at-loop-from-copy-to-arg (after-copy-to-arg c)
+
+abbrev at-start-from-slice-known2 : tie.After-slice-known2 Inv-loop μ-loop → tie.Start Inv-loop μ-loop
+at-start-from-slice-known2 c = at-start-from-copy-to-arg (after-copy-to-arg c)
+
+abbrev after-rows-from-slice-known2 : tie.After-slice-known2 Inv-loop μ-loop → tie.After-rows Inv-loop μ-loop
+after-rows-from-slice-known2 c = after-rows-from-copy-to-arg (after-copy-to-arg c)
+
+abbrev in-loop-from-slice-known2 : tie.After-slice-known2 Inv-loop μ-loop → tie.In-loop Inv-loop μ-loop
+in-loop-from-slice-known2 c = in-loop-from-copy-to-arg (after-copy-to-arg c)
+
+abbrev else1-from-slice-known2 : tie.After-slice-known2 Inv-loop μ-loop → tie.Else1 Inv-loop μ-loop
+else1-from-slice-known2 c = else1 (after-row ((after-copy-to-arg c)))
+
 loop-holds : tie.Need-loop-holds Inv-loop μ-loop
-loop-holds c = (c .rows .ensures, omega arith, omega arith, refl, copy-start (now (c .before .before .before .before .args .clauses)) (now (c .before .before .before .before .args .flags)) (c .rows .result) (now (c .before .before .before .before .args .work)) (c .rows .ensures))
+loop-holds c = (
+  c .rows .ensures,
+  omega arith,
+  omega arith,
+  refl,
+  copy-start (now (at-start (after-shared-slice-known c) .args .clauses)) (now (at-start (after-shared-slice-known c) .args .flags))
+      (c .rows .result) (now (at-start (after-shared-slice-known c) .args .work)) (c .rows .ensures),
+)
 
 add-i : tie.Need-add-i Inv-loop μ-loop
 add-i c = search needs
@@ -39,8 +136,14 @@ loop-less c = search needs
 loop-again : tie.Need-loop-again Inv-loop μ-loop
 loop-again c =
     let l = c .before .before .before .loop in
-    let a = c .before .before .before .before .before .before .before .before .args in
-    (l .inv .0, omega arith, omega arith, l .inv .3, copy-skip (now (a .clauses)) (now (a .flags)) (l .work) (c .before .before .before .before .rows .result) (l .count) (l .i) (l .inv .4) (c .before .before .loop-test .taken) (c .if1 .taken))
+    let a = at-start-from-then1 c .args in (
+      l .inv .0,
+      omega arith,
+      omega arith,
+      l .inv .3,
+      copy-skip (now (a .clauses)) (now (a .flags)) (l .work) (after-rows-from-then1 c .rows .result) (l .count) (l .i) (l .inv .4)
+          (c .before .before .loop-test .taken) (c .if1 .taken),
+    )
 
 row-requires : tie.Need-row-requires Inv-loop μ-loop
 row-requires c κs = search needs
@@ -48,16 +151,26 @@ row-requires c κs = search needs
 mul-copy-to : tie.Need-mul-copy-to Inv-loop μ-loop
 unfolding width
 mul-copy-to c =
-    let l = c .before .before .before .before .before .loop in
-    let a = c .before .before .before .before .before .before .before .before .before .before .args in
-    omega (arith, copy-room (now (a .clauses)) (now (a .flags)) (l .work) (c .before .before .before .before .before .before .rows .result) (l .count) (l .i) (l .inv .4) (c .before .before .before .before .loop-test .taken) (l .inv .0) (l .inv .1) (omega (arith, l .inv .3, c .before .before .before .before .before .before .before .before .before .before .pre .1)))
+    let l = at-loop-from-copy-to-arg c .loop in
+    let a = at-start-from-copy-to-arg c .args in
+    omega (
+      arith,
+      copy-room (now (a .clauses)) (now (a .flags)) (l .work) (after-rows-from-copy-to-arg c .rows .result) (l .count) (l .i) (l .inv .4)
+          (in-loop-from-copy-to-arg c .loop-test .taken) (l .inv .0) (l .inv .1) (omega (arith, l .inv .3, at-start-from-copy-to-arg c .pre .1)),
+    )
 
 copy-to-requires : tie.Need-copy-to-requires Inv-loop μ-loop
 unfolding width
 copy-to-requires c κs =
-    let l = c .before .before .before .before .before .loop in
-    let a = c .before .before .before .before .before .before .before .before .before .before .args in
-    omega (arith, ap length (c .before .row .ensures), row-length (now (a .clauses)) (l .i) (omega arith), copy-room (now (a .clauses)) (now (a .flags)) (l .work) (c .before .before .before .before .before .before .rows .result) (l .count) (l .i) (l .inv .4) (c .before .before .before .before .loop-test .taken) (l .inv .0) (l .inv .1) (omega (arith, l .inv .3, c .before .before .before .before .before .before .before .before .before .before .pre .1)))
+    let l = at-loop-from-copy-to-arg c .loop in
+    let a = at-start-from-copy-to-arg c .args in
+    omega (
+      arith,
+      ap length (c .before .row .ensures),
+      row-length (now (a .clauses)) (l .i) (omega arith),
+      copy-room (now (a .clauses)) (now (a .flags)) (l .work) (after-rows-from-copy-to-arg c .rows .result) (l .count) (l .i) (l .inv .4)
+          (in-loop-from-copy-to-arg c .loop-test .taken) (l .inv .0) (l .inv .1) (omega (arith, l .inv .3, at-start-from-copy-to-arg c .pre .1)),
+    )
 
 add-count : tie.Need-add-count Inv-loop μ-loop
 add-count c = search needs
@@ -68,9 +181,17 @@ loop-less-2 c = search needs
 loop-again-2 : tie.Need-loop-again-2 Inv-loop μ-loop
 unfolding width
 loop-again-2 c =
-    let l = c .before .before .before .before .before .before .before .before .loop in
-    let a = c .before .before .before .before .before .before .before .before .before .before .before .before .before .args in
-    (l .inv .0, omega arith, omega arith, c .before .before .copy-to .kept .1 .0 ∙ l .inv .3, copy-row (now (a .clauses)) (now (a .flags)) (l .work) (c .before .before .before .before .before .before .before .before .before .rows .result) (l .count) (l .i) (l .inv .4) (c .before .before .before .before .before .before .before .loop-test .taken) (l .inv .0) (l .inv .1) (omega (arith, l .inv .3, c .before .before .before .before .before .before .before .before .before .before .before .before .before .pre .1)) (c .before .before .before .before .before .if1 .left) (now (c .before .before .before .before .row .result)) (c .before .before .copy-to .last .1 .0) (c .before .before .before .before .row .ensures) (c .before .before .copy-to .ensures))
+    let l = at-loop-from-slice-known2 c .loop in
+    let a = at-start-from-slice-known2 c .args in (
+      l .inv .0,
+      omega arith,
+      omega arith,
+      c .before .before .copy-to .kept .1 .0 ∙ l .inv .3,
+      copy-row (now (a .clauses)) (now (a .flags)) (l .work) (after-rows-from-slice-known2 c .rows .result) (l .count) (l .i) (l .inv .4)
+          (in-loop-from-slice-known2 c .loop-test .taken) (l .inv .0) (l .inv .1) (omega (arith, l .inv .3, at-start-from-slice-known2 c .pre .1))
+          (else1-from-slice-known2 c .if1 .left) (now (after-row (after-copy-to-arg c) .row .result)) (c .before .before .copy-to .last .1 .0)
+          (after-row (after-copy-to-arg c) .row .ensures) (c .before .before .copy-to .ensures),
+    )
 
 same-length : tie.Need-same-length Inv-loop μ-loop
 same-length c = c .before .loop .inv .3
@@ -78,8 +199,9 @@ same-length c = c .before .loop .inv .3
 returns : tie.Need-returns Inv-loop μ-loop
 returns c =
     let l = c .before .loop in
-    let a = c .before .before .before .before .before .before .args in
-    copy-end (now (a .clauses)) (now (a .flags)) (l .work) (c .before .before .rows .result) (l .count) (l .i) (l .inv .4) (c .loop-test .left) (l .inv .0) (omega arith) (omega (arith, l .inv .3, c .before .before .before .before .before .before .pre .1))
+    let a = at-start-from-loop c .args in
+    copy-end (now (a .clauses)) (now (a .flags)) (l .work) (c .before .before .rows .result) (l .count) (l .i) (l .inv .4) (c .loop-test .left)
+    (l .inv .0) (omega arith) (omega (arith, l .inv .3, at-start-from-loop c .pre .1))
 
 pub copy-unflagged-spec : {M : Type 1} → statement M
 copy-unflagged-spec =

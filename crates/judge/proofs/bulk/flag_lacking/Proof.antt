@@ -16,7 +16,9 @@ use Rattle.judge.proofs.bulk.flag_lacking.Statement.{statement}
 use Rattle.judge.proofs.bulk.flag_lacking.Tie as tie
 
 abbrev Inv-loop : tie.InvT-loop
-Inv-loop judged l flags fails₀ count i₀ fails i = (i ≤ count) × (count ≡ rowCount judged) × (length fails ≡ count) × (length fails ≡ length fails₀) × (flagMore (lacksOther l flags) (clausesOf judged) fails₀ ≡ take i fails ++ flagMore (lacksOther l flags) (drop i (clausesOf judged)) (drop i fails))
+Inv-loop judged l flags fails₀ count i₀ fails i =
+    (i ≤ count) × (count ≡ rowCount judged) × (length fails ≡ count) × (length fails ≡ length fails₀) ×
+    (flagMore (lacksOther l flags) (clausesOf judged) fails₀ ≡ take i fails ++ flagMore (lacksOther l flags) (drop i (clausesOf judged)) (drop i fails))
 
 abbrev μ-loop : tie.MeasureT-loop
 μ-loop judged l flags fails₀ count i₀ fails i = count - i
@@ -24,8 +26,45 @@ abbrev μ-loop : tie.MeasureT-loop
 rows-requires : tie.Need-rows-requires Inv-loop μ-loop
 rows-requires c κs = search needs
 
+-- the places of the function
+abbrev at-start : tie.After-shared-slice-known Inv-loop μ-loop → tie.Start Inv-loop μ-loop
+at-start c = c .before
+
+abbrev after-shared-slice-known : tie.After-rows Inv-loop μ-loop → tie.After-shared-slice-known Inv-loop μ-loop
+after-shared-slice-known c = c .before .before .before
+
+abbrev after-rows : tie.At-loop Inv-loop μ-loop → tie.After-rows Inv-loop μ-loop
+after-rows c = c .before
+
+abbrev at-start-from-loop′′ : tie.At-loop Inv-loop μ-loop → tie.Start Inv-loop μ-loop
+at-start-from-loop′′ c = at-start (after-shared-slice-known ((after-rows c)))
+
+abbrev at-loop-of-loop : tie.After-loop Inv-loop μ-loop → tie.At-loop Inv-loop μ-loop
+at-loop-of-loop c = c .before
+
+abbrev at-loop-of-loop′ : tie.In-loop Inv-loop μ-loop → tie.At-loop Inv-loop μ-loop
+at-loop-of-loop′ c = c .before
+
+abbrev at-start-from-loop : tie.After-loop Inv-loop μ-loop → tie.Start Inv-loop μ-loop
+at-start-from-loop c = at-start-from-loop′′ (at-loop-of-loop c)
+
+abbrev at-start-from-loop′ : tie.In-loop Inv-loop μ-loop → tie.Start Inv-loop μ-loop
+at-start-from-loop′ c = at-start-from-loop′′ (at-loop-of-loop′ c)
+
+abbrev in-loop-of-else1 : tie.Else1 Inv-loop μ-loop → tie.In-loop Inv-loop μ-loop
+in-loop-of-else1 c = c .before .before .before
+
+abbrev in-loop-of-then1 : tie.Then1 Inv-loop μ-loop → tie.In-loop Inv-loop μ-loop
+in-loop-of-then1 c = c .before .before .before
+
+abbrev at-start-from-then1 : tie.Then1 Inv-loop μ-loop → tie.Start Inv-loop μ-loop
+at-start-from-then1 c = at-start-from-loop′ (in-loop-of-then1 c)
+
+abbrev at-start-from-else1 : tie.Else1 Inv-loop μ-loop → tie.Start Inv-loop μ-loop
+at-start-from-else1 c = at-start-from-loop′ (in-loop-of-else1 c)
+
 loop-holds : tie.Need-loop-holds Inv-loop μ-loop
-loop-holds c = (omega arith, c .rows .ensures, omega (arith, c .rows .ensures, c .before .before .before .before .pre), refl, refl)
+loop-holds c = (omega arith, c .rows .ensures, omega (arith, c .rows .ensures, at-start (after-shared-slice-known c) .pre), refl, refl)
 
 add-i : tie.Need-add-i Inv-loop μ-loop
 add-i c = search needs
@@ -41,9 +80,9 @@ loop-less c = search needs
 
 loop-again : tie.Need-loop-again Inv-loop μ-loop
 loop-again c =
-    let i = c .before .before .before .before .loop .inv in
-    let w = now (c .before .before .before .before .before .before .before .before .before .args .judged) in
-    let h : c .before .before .before .before .loop .i < rowCount w = omega (arith, i .1) in (
+    let i = at-loop-of-loop′ (in-loop-of-then1 c) .loop .inv in
+    let w = now (at-start-from-then1 c .args .judged) in
+    let h : (at-loop-of-loop′ (in-loop-of-then1 c)) .loop .i < rowCount w = omega (arith, i .1) in (
       omega arith,
       i .1,
       i .2,
@@ -57,16 +96,16 @@ loop-again c =
     )
 
 slice-write-fails : tie.Need-slice-write-fails Inv-loop μ-loop
-slice-write-fails c = omega (arith, c .before .before .before .before .loop .inv .2)
+slice-write-fails c = omega (arith, at-loop-of-loop′ (in-loop-of-else1 c) .loop .inv .2)
 
 loop-less-2 : tie.Need-loop-less-2 Inv-loop μ-loop
 loop-less-2 c = search needs
 
 loop-again-2 : tie.Need-loop-again-2 Inv-loop μ-loop
 loop-again-2 c =
-    let i = c .before .before .before .before .loop .inv in
-    let w = now (c .before .before .before .before .before .before .before .before .before .args .judged) in
-    let h : c .before .before .before .before .loop .i < rowCount w = omega (arith, i .1) in (
+    let i = at-loop-of-loop′ (in-loop-of-else1 c) .loop .inv in
+    let w = now (at-start-from-else1 c .args .judged) in
+    let h : (at-loop-of-loop′ (in-loop-of-else1 c)) .loop .i < rowCount w = omega (arith, i .1) in (
       omega arith,
       i .1,
       simp length-set (i .2),
@@ -85,7 +124,7 @@ same-length c = c .before .loop .inv .3
 returns : tie.Need-returns Inv-loop μ-loop
 returns c =
     let i = c .before .loop .inv in
-    let w = now (c .before .before .before .before .before .before .args .judged) in
+    let w = now (at-start-from-loop c .args .judged) in
     sym (i .4 ∙ flag-end (lacksOther _ _) (clausesOf w) (c .before .loop .fails) (c .before .loop .i) (omega (arith, i .1, clauses-length w)))
 
 pub flag-lacking-spec : {M : Type 1} → statement M

@@ -17,7 +17,7 @@ abbrev lent : Type 0
 lent = tie.After-flags
 
 abbrev start : lent → tie.Start
-start b = b .before .before .before .before .before .before .before
+start b = let p = b .before .before .before in let q = p .before .before .before in q .before
 
 abbrev size : lent → ℕ
 size b = 2 * start b .args .atoms
@@ -62,10 +62,13 @@ flag-lacking-requires c κs = search needs
 same-length : tie.Need-same-length
 same-length c = search needs
 
+abbrev flagged-from-flag-lacking : tie.After-flag-lacking → flagged
+flagged-from-flag-lacking c = let p = c .before .before .before in p .before
+
 returns : tie.Need-returns
 returns c =
     let l = c .before .before in
-    let d = l .before .before .before .before in
+    let d = flagged-from-flag-lacking l in
     let a = start (d .before) .args in
     λ ls closed. l .flag-lacking .ensures
     ∙ ap (λ G. flagMore (lacksOther (a .l) G) (clausesOf (a .judged .now)) (a .fails .now)) (back d .part ∙ d .flag-guaranteed .ensures ls closed)

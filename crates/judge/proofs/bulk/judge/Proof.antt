@@ -14,7 +14,7 @@ abbrev lent : Type 0
 lent = tie.After-flags
 
 abbrev start : lent → tie.Start
-start b = b .before .before .before .before .before .before .before .before .before
+start b = let p = b .before .before .before in let q = p .before .before .before in q .before .before .before
 
 abbrev local : lent → List ℕ
 local b = b .before .before .before .marks .result
@@ -43,8 +43,11 @@ same-length c = search needs
 same-length-2 : tie.Need-same-length-2
 same-length-2 c = search needs
 
+abbrev judge-guaranteed-from-flags2 : tie.After-flags2 → tie.After-judge-guaranteed
+judge-guaranteed-from-flags2 c = let p = c .before .before .before in p .before .before
+
 returns : tie.Need-returns
-returns c = c .before .before .before .before .before .judge-guaranteed .ensures .0
+returns c = judge-guaranteed-from-flags2 c .judge-guaranteed .ensures .0
 
 pub judge-spec : {M : Type 1} → statement M
 judge-spec =

@@ -20,7 +20,7 @@ abbrev lent : Type 0
 lent = tie.After-base
 
 abbrev start : lent → tie.Start
-start b = b .before .before .before .before .before .before .before .before .before
+start b = let p = b .before .before .before in let q = p .before .before .before in q .before .before .before
 
 abbrev size : lent → ℕ
 size b = 2 * start b .args .atoms
@@ -70,9 +70,12 @@ array-share-prefix-base c = back (c .before) .room
 slice-aggregate-judge-closed : tie.Need-slice-aggregate-judge-closed
 slice-aggregate-judge-closed c = back (c .before .before) .whole
 
+abbrev copied-from-judge-closed : tie.After-judge-closed-arg3 → copied
+copied-from-judge-closed c = let p = c .before .before .before in p .before .before
+
 judge-closed-requires : tie.Need-judge-closed-requires
 judge-closed-requires c κs =
-    let d = c .before .before .before .before .before in
+    let d = copied-from-judge-closed c in
     let p = start (d .before) .pre in (
       record {
         given = p .0 .given;
@@ -93,8 +96,11 @@ same-length-2 c = search needs
 same-length-3 : tie.Need-same-length-3
 same-length-3 c = search needs
 
+abbrev judge-closed-from-slice-known6 : tie.After-slice-known6 → tie.After-judge-closed
+judge-closed-from-slice-known6 c = let p = c .before .before .before in p .before .before .before
+
 returns : tie.Need-returns
-returns c = c .before .before .before .before .before .before .judge-closed .ensures
+returns c = judge-closed-from-slice-known6 c .judge-closed .ensures
 
 pub judge-consistent-spec : {M : Type 1} → statement M
 judge-consistent-spec =

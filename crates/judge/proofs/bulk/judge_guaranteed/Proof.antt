@@ -18,7 +18,7 @@ abbrev cleared : headed → tie.After-clear
 cleared h = h .before .before .before
 
 abbrev start : headed → tie.Start
-start h = cleared h .before .before .before .before .before .before .before .before
+start h = let p = cleared h .before .before .before in let q = p .before .before .before in q .before .before
 
 abbrev judged : headed → List ℕ
 judged h = start h .args .judged .now
@@ -32,10 +32,10 @@ head-of d = d .before .before .before
 
 -- where it is contradictory, and where it is not
 abbrev clashing : tie.After-enum-told → tie.After-close
-clashing c = c .before .before .before .before
+clashing c = let p = c .before .before .before in p .before
 
 abbrev closing : tie.After-enum-told2 → tie.After-close
-closing c = c .before .before .before .before
+closing c = let p = c .before .before .before in p .before
 
 clear-requires : tie.Need-clear-requires
 clear-requires c κs = search needs
@@ -108,16 +108,25 @@ same-length-4 c = search needs
 same-length-5 : tie.Need-same-length-5
 same-length-5 c = search needs
 
+abbrev judge-consistent-from-slice-known8 : tie.After-slice-known8 → tie.After-judge-consistent
+judge-consistent-from-slice-known8 c = let p = c .before .before .before in p .before .before .before
+
+abbrev enum-told2-from-judge-consistent : tie.After-judge-consistent → tie.After-enum-told2
+enum-told2-from-judge-consistent c = let p = c .before .before .before in p .before
+
 returns-2 : tie.Need-returns-2
 returns-2 c =
-    let j = c .before .before .before .before .before .before in
-    let e = j .before .before .before .before in
+    let j = judge-consistent-from-slice-known8 c in
+    let e = enum-told2-from-judge-consistent j in
     let d = closing e in
     let h = head-of d in
     let pre = h .head .ensures .precondition in
     let told = told-consistent _ _ _ _ _ (d .close .ensures .1) (e .enum-told2 .given .1) in
-    let consistent = closure-start _ _ _ _ _ pre (closure-told _ _ _ _ told) .consistent in
-    (fail-rows _ _ _ (judged h) _ (fails h) _ (start h .pre .0 .flagged) (cleared h .clear .ensures) pre _ (told .0) (j .judge-consistent .ensures .0), (consistent, j .judge-consistent .ensures .1))
+    let consistent = closure-start _ _ _ _ _ pre (closure-told _ _ _ _ told) .consistent in (
+      fail-rows _ _ _ (judged h) _ (fails h) _ (start h .pre .0 .flagged) (cleared h .clear .ensures) pre _ (told .0)
+          (j .judge-consistent .ensures .0),
+      (consistent, j .judge-consistent .ensures .1),
+    )
 
 pub judge-guaranteed-spec : {M : Type 1} → statement M
 judge-guaranteed-spec =

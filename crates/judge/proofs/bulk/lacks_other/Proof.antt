@@ -22,10 +22,18 @@ literals-requires c κs = search needs
 other-flagged-requires : tie.Need-other-flagged-requires
 other-flagged-requires c κs = search needs
 
+-- the places of the function
+abbrev at-start : tie.After-has-literal → tie.Start
+at-start c = c .before .before .before
+
+abbrev after-has-literal : tie.After-other-flagged → tie.After-has-literal
+after-has-literal c = c .before .before .before
+
 returns-2 : tie.Need-returns-2
 returns-2 c =
-    let a = c .before .before .before .before .before .before .args in
-    ap not (c .other-flagged .ensures ∙ ap (any (isOther (now (a .flags)) (a .l))) (c .before .literals .ensures)) ∙ sym (lacks-held _ _ _ (sym (c .before .before .before .has-literal .ensures) ∙ not-false _ (c .before .before .if1 .left)))
+    let a = at-start (after-has-literal c) .args in
+    ap not (c .other-flagged .ensures ∙ ap (any (isOther (now (a .flags)) (a .l))) (c .before .literals .ensures))
+    ∙ sym (lacks-held _ _ _ (sym (c .before .before .before .has-literal .ensures) ∙ not-false _ (c .before .before .if1 .left)))
 
 pub lacks-other-spec : {M : Type 1} → statement M
 lacks-other-spec =

@@ -28,8 +28,21 @@ shared-slice-read-is-other c = search needs
 is-other-requires : tie.Need-is-other-requires Inv-loop μ-loop
 is-other-requires c κs = search needs
 
+-- the places of the function
+abbrev at-loop : tie.In-loop Inv-loop μ-loop → tie.At-loop Inv-loop μ-loop
+at-loop c = c .before
+
+abbrev in-loop-of-else1 : tie.Else1 Inv-loop μ-loop → tie.In-loop Inv-loop μ-loop
+in-loop-of-else1 c = c .before .before .before
+
+abbrev in-loop-of-then1 : tie.Then1 Inv-loop μ-loop → tie.In-loop Inv-loop μ-loop
+in-loop-of-then1 c = c .before .before .before
+
 returns : tie.Need-returns Inv-loop μ-loop
-returns c = sym (c .before .before .before .before .loop .inv .1 ∙ any-found _ _ 0 _ refl (c .before .before .before .loop-test .taken) (isOther _ _) (sym (c .before .is-other .ensures) ∙ (c .if1 .taken)))
+returns c =
+    sym
+    (at-loop (in-loop-of-then1 c) .loop .inv .1
+    ∙ any-found _ _ 0 _ refl (c .before .before .before .loop-test .taken) (isOther _ _) (sym (c .before .is-other .ensures) ∙ (c .if1 .taken)))
 
 add-i : tie.Need-add-i Inv-loop μ-loop
 add-i c = search needs
@@ -38,7 +51,11 @@ loop-less : tie.Need-loop-less Inv-loop μ-loop
 loop-less c = search needs
 
 loop-again : tie.Need-loop-again Inv-loop μ-loop
-loop-again c = (omega arith, c .before .before .before .before .loop .inv .1 ∙ any-on _ _ 0 _ refl (c .before .before .before .loop-test .taken) (isOther _ _) (sym (c .before .is-other .ensures) ∙ (c .if1 .left)))
+loop-again c = (
+  omega arith,
+  at-loop (in-loop-of-else1 c) .loop .inv .1
+      ∙ any-on _ _ 0 _ refl (c .before .before .before .loop-test .taken) (isOther _ _) (sym (c .before .is-other .ensures) ∙ (c .if1 .left)),
+)
 
 returns-2 : tie.Need-returns-2 Inv-loop μ-loop
 returns-2 c = sym (c .before .loop .inv .1 ∙ any-end (isOther _ _) _ _ (c .loop-test .left))

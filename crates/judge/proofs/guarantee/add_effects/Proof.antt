@@ -20,7 +20,9 @@ use Rattle.judge.proofs.guarantee.add_effects.Tie as tie
 abbrev Inv-loop : tie.InvT-loop
 Inv-loop block marks flags₀ end rows at₀ left₀ flags at left =
     (parsesAt block at left ≡ true) × (length flags ≡ length flags₀)
-    × ((atoms : ℕ) (K : List ℕ) → operatorRight atoms (operatorIn block) ≡ true → Marked atoms marks K → Left atoms block at left × (addEffects K (operatorIn block .rows) flags₀ ≡ addEffects K (rowsAt block at left) flags))
+    ×
+    ((atoms : ℕ) (K : List ℕ) → operatorRight atoms (operatorIn block) ≡ true → Marked atoms marks K → Left atoms block at left ×
+    (addEffects K (operatorIn block .rows) flags₀ ≡ addEffects K (rowsAt block at left) flags))
 
 abbrev μ-loop : tie.MeasureT-loop
 μ-loop block marks flags₀ end rows at₀ left₀ flags at left = left
@@ -32,7 +34,8 @@ add-at : tie.Need-add-at Inv-loop μ-loop
 add-at c = search needs
 
 loop-holds : tie.Need-loop-holds Inv-loop μ-loop
-loop-holds c = (c .head .ensures .parses, refl, λ atoms K right m. (left-start atoms _ right _ _ (c .head .ensures), add-start K _ _ _ (c .head .ensures .rows)))
+loop-holds c =
+    (c .head .ensures .parses, refl, λ atoms K right m. (left-start atoms _ right _ _ (c .head .ensures), add-start K _ _ _ (c .head .ensures .rows)))
 
 row-requires : tie.Need-row-requires Inv-loop μ-loop
 row-requires c κs = (c .before .loop .inv .0, c .loop-test .taken)
@@ -58,15 +61,59 @@ holds-all-requires c κs = search needs
 loop-less : tie.Need-loop-less Inv-loop μ-loop
 loop-less c = search needs
 
+-- the places of the function
+abbrev at-loop : tie.After-row Inv-loop μ-loop → tie.At-loop Inv-loop μ-loop
+at-loop c = c .before .before
+
+abbrev after-row : tie.After-holds-all Inv-loop μ-loop → tie.After-row Inv-loop μ-loop
+after-row c = c .before .before
+
+abbrev after-holds-all-of-else1 : tie.Else1 Inv-loop μ-loop → tie.After-holds-all Inv-loop μ-loop
+after-holds-all-of-else1 c = c .before
+
+abbrev after-holds-all-of-then1 : tie.Then1 Inv-loop μ-loop → tie.After-holds-all Inv-loop μ-loop
+after-holds-all-of-then1 c = c .before
+
+abbrev at-loop-from-then1 : tie.Then1 Inv-loop μ-loop → tie.At-loop Inv-loop μ-loop
+at-loop-from-then1 c = at-loop (after-row ((after-holds-all-of-then1 c)))
+
+abbrev at-loop-from-else1 : tie.Else1 Inv-loop μ-loop → tie.At-loop Inv-loop μ-loop
+at-loop-from-else1 c = at-loop (after-row ((after-holds-all-of-else1 c)))
+
+abbrev else1 : tie.After-put-arg Inv-loop μ-loop → tie.Else1 Inv-loop μ-loop
+else1 c = c .before
+
+abbrev at-loop-from-put-arg : tie.After-put-arg Inv-loop μ-loop → tie.At-loop Inv-loop μ-loop
+at-loop-from-put-arg c = at-loop-from-else1 (else1 c)
+
+abbrev after-row-from-put-arg : tie.After-put-arg Inv-loop μ-loop → tie.After-row Inv-loop μ-loop
+after-row-from-put-arg c = after-row (after-holds-all-of-else1 ((else1 c)))
+
+abbrev after-put-arg : tie.After-slice-known2 Inv-loop μ-loop → tie.After-put-arg Inv-loop μ-loop
+after-put-arg c = c .before .before .before
+
+abbrev at-loop-from-slice-known2 : tie.After-slice-known2 Inv-loop μ-loop → tie.At-loop Inv-loop μ-loop
+at-loop-from-slice-known2 c = at-loop-from-put-arg (after-put-arg c)
+
+abbrev after-row-from-slice-known2 : tie.After-slice-known2 Inv-loop μ-loop → tie.After-row Inv-loop μ-loop
+after-row-from-slice-known2 c = after-row-from-put-arg (after-put-arg c)
+
+abbrev after-holds-all-from-slice-known2 : tie.After-slice-known2 Inv-loop μ-loop → tie.After-holds-all Inv-loop μ-loop
+after-holds-all-from-slice-known2 c = after-holds-all-of-else1 (else1 ((after-put-arg c)))
+
 loop-again : tie.Need-loop-again Inv-loop μ-loop
 loop-again c =
-    let i = c .before .before .before .before .before .loop .inv in
+    let i = at-loop-from-then1 c .loop .inv in
     let r = c .before .before .before .row .ensures in (
       r .next,
       i .1,
       λ atoms K right m.
-          let j = i .2 atoms K right m in
-          (left-next atoms _ _ _ _ _ _ (j .0) r, j .1 ∙ add-passed K _ _ _ _ _ (r .row) (sym (c .before .holds-all .ensures atoms K m (conditions-low atoms _ _ _ _ _ _ (j .0) r)) ∙ not-true _ (c .if1 .taken))),
+          let j = i .2 atoms K right m in (
+            left-next atoms _ _ _ _ _ _ (j .0) r,
+            j .1
+                ∙ add-passed K _ _ _ _ _ (r .row)
+                (sym (c .before .holds-all .ensures atoms K m (conditions-low atoms _ _ _ _ _ _ (j .0) r)) ∙ not-true _ (c .if1 .taken)),
+          ),
     )
 
 put-requires : tie.Need-put-requires Inv-loop μ-loop
@@ -77,13 +124,18 @@ loop-less-2 c = search needs
 
 loop-again-2 : tie.Need-loop-again-2 Inv-loop μ-loop
 loop-again-2 c =
-    let i = c .before .before .before .before .before .before .before .before .before .loop .inv in
-    let r = c .before .before .before .before .before .before .before .row .ensures in (
+    let i = at-loop-from-slice-known2 c .loop .inv in
+    let r = after-row-from-slice-known2 c .row .ensures in (
       r .next,
       c .before .before .put .kept .0 ∙ i .1,
       λ atoms K right m.
-          let j = i .2 atoms K right m in
-          (left-next atoms _ _ _ _ _ _ (j .0) r, j .1 ∙ add-made K _ _ _ _ _ (r .row) _ (c .before .before .put .ensures) (sym (c .before .before .before .before .before .holds-all .ensures atoms K m (conditions-low atoms _ _ _ _ _ _ (j .0) r)) ∙ not-false _ (c .before .before .before .before .if1 .left))),
+          let j = i .2 atoms K right m in (
+            left-next atoms _ _ _ _ _ _ (j .0) r,
+            j .1
+                ∙ add-made K _ _ _ _ _ (r .row) _ (c .before .before .put .ensures)
+                (sym (after-holds-all-from-slice-known2 c .holds-all .ensures atoms K m (conditions-low atoms _ _ _ _ _ _ (j .0) r))
+                ∙ not-false _ (else1 (after-put-arg c) .if1 .left)),
+          ),
     )
 
 same-length : tie.Need-same-length Inv-loop μ-loop

@@ -43,8 +43,14 @@ loop-less c = search needs
 loop-again : tie.Need-loop-again Inv-loop μ-loop
 loop-again c =
     let i = c .before .before .before .loop .inv in
-    let t = c .before .before .loop-test .taken in
-    (omega arith, simp length-set (i .1), simp length-set (i .2), λ K m. flags-more K (c .before .before .before .loop .flags) (c .before .before .before .loop .l) _ (omega (arith, i .1)) (c .byte .ensures ∙ ap bit (c .before .holds .ensures _ K m t)) (i .3 K m))
+    let t = c .before .before .loop-test .taken in (
+      omega arith,
+      simp length-set (i .1),
+      simp length-set (i .2),
+      λ K m.
+          flags-more K (c .before .before .before .loop .flags) (c .before .before .before .loop .l) _ (omega (arith, i .1))
+          (c .byte .ensures ∙ ap bit (c .before .holds .ensures _ K m t)) (i .3 K m),
+    )
 
 same-length : tie.Need-same-length Inv-loop μ-loop
 same-length c = c .before .loop .inv .2

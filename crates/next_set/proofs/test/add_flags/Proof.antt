@@ -29,7 +29,7 @@ abbrev at-row : Type 0
 at-row = tie.In-loop Inv-loop μ-loop
 
 abbrev start : at-row → tie.Start Inv-loop μ-loop
-start r = r .before .before .before .before .before .before
+start r = let p = r .before .before .before in p .before .before .before
 
 abbrev words : at-row → List ℕ
 words r = start r .args .clauses .now
@@ -45,7 +45,7 @@ abbrev read : Type 0
 read = tie.After-put-arg Inv-loop μ-loop
 
 abbrev read-row : read → at-row
-read-row d = d .before .before .before .before .before
+read-row d = let p = d .before .before .before in p .before .before
 
 size : (d : read) → d .before .literals .result .now ≡ getD (clausesOf (words (read-row d))) (row (read-row d)) []
 size d =
@@ -59,9 +59,12 @@ short d =
     let k = ap length (d .before .literals .ensures ∙ ap clauseOf (d .before .before .row .ensures)) in
     omega (arith, k, clause-short (rowAt (words r) (row r)), row-length (words r) (row r) (in-rows r))
 
+abbrev start-from-slice-known2 : tie.After-slice-known2 Inv-loop μ-loop → tie.Start Inv-loop μ-loop
+start-from-slice-known2 c = let p = c .before .before .before in p .before
+
 loop-holds : tie.Need-loop-holds Inv-loop μ-loop
 loop-holds c =
-    let a = c .before .before .before .before .args in
+    let a = start-from-slice-known2 c .args in
     (refl, refl, λ p e. adding-start p (clausesOf (a .clauses .now)) (a .at) (a .to .now) (a .due .now))
 
 add-i : tie.Need-add-i Inv-loop μ-loop
@@ -77,8 +80,13 @@ loop-again : tie.Need-loop-again Inv-loop μ-loop
 loop-again c =
     let r = c .before .before in
     let l = r .before .loop in
-    let a = start r .args in
-    (l .inv .0, l .inv .1, λ p e. adding-pass p (clausesOf (words r)) (a .at) (a .to .now) (l .to) (a .due .now) (l .due) (l .i) (l .inv .2 p e) (a .flags .now) e (r .loop-test .taken) (start r .pre .1 ∙ sym (l .inv .0)) (λ q. omega (arith, c .if1 .taken, q)))
+    let a = start r .args in (
+      l .inv .0,
+      l .inv .1,
+      λ p e.
+          adding-pass p (clausesOf (words r)) (a .at) (a .to .now) (l .to) (a .due .now) (l .due) (l .i) (l .inv .2 p e) (a .flags .now) e
+          (r .loop-test .taken) (start r .pre .1 ∙ sym (l .inv .0)) (λ q. omega (arith, c .if1 .taken, q)),
+    )
 
 slice-write-to : tie.Need-slice-write-to Inv-loop μ-loop
 slice-write-to c = search needs
@@ -105,8 +113,16 @@ loop-again-2 c =
     let r = read-row d in
     let l = r .before .loop in
     let a = start r .args in
-    let put = c .before .before .put in
-    (simp length-set (l .inv .0), put .kept .0 ∙ l .inv .1, λ p e. subst (λ (x : List ℕ). Adding p (clausesOf (words r)) (a .at) (a .to .now) (set (l .to) (l .i) 1) (a .due .now) x (l .i + 1)) (sym (put .ensures)) (adding-put p (clausesOf (words r)) (a .at) (a .to .now) (l .to) (a .due .now) (l .due) (l .i) (l .inv .2 p e) (a .flags .now) e (r .loop-test .taken) (start r .pre .1 ∙ sym (l .inv .0)) (omega (arith, d .before .before .before .if1 .left)) (length (d .before .literals .result .now)) (ap length (size d)) (l .inv .1)))
+    let put = c .before .before .put in (
+      simp length-set (l .inv .0),
+      put .kept .0 ∙ l .inv .1,
+      λ p e.
+          subst (λ (x : List ℕ). Adding p (clausesOf (words r)) (a .at) (a .to .now) (set (l .to) (l .i) 1) (a .due .now) x (l .i + 1))
+          (sym (put .ensures))
+          (adding-put p (clausesOf (words r)) (a .at) (a .to .now) (l .to) (a .due .now) (l .due) (l .i) (l .inv .2 p e) (a .flags .now) e
+          (r .loop-test .taken) (start r .pre .1 ∙ sym (l .inv .0)) (omega (arith, d .before .before .before .if1 .left))
+          (length (d .before .literals .result .now)) (ap length (size d)) (l .inv .1)),
+    )
 
 same-length : tie.Need-same-length Inv-loop μ-loop
 same-length c = c .before .loop .inv .0
@@ -114,11 +130,16 @@ same-length c = c .before .loop .inv .0
 same-length-2 : tie.Need-same-length-2 Inv-loop μ-loop
 same-length-2 c = c .before .loop .inv .1
 
+abbrev start-from-loop : tie.After-loop Inv-loop μ-loop → tie.Start Inv-loop μ-loop
+start-from-loop c = let p = c .before .before .before in p .before .before .before
+
 returns : tie.Need-returns Inv-loop μ-loop
 returns c =
     let l = c .before .loop in
-    let a = c .before .before .before .before .before .before .args in
-    λ p e. adding-end p (clausesOf (a .clauses .now)) (a .at) (a .to .now) (l .to) (a .due .now) (l .due) (l .i) (l .inv .2 p e) (omega (arith, c .loop-test .left, flags-length p (clausesOf (a .clauses .now)) (a .flags .now) e))
+    let a = start-from-loop c .args in
+    λ p e.
+    adding-end p (clausesOf (a .clauses .now)) (a .at) (a .to .now) (l .to) (a .due .now) (l .due) (l .i) (l .inv .2 p e)
+    (omega (arith, c .loop-test .left, flags-length p (clausesOf (a .clauses .now)) (a .flags .now) e))
 
 pub add-flags-spec : {M : Type 1} → statement M
 add-flags-spec =

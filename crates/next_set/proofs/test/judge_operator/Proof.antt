@@ -12,19 +12,23 @@ abbrev found : Type 0
 found = tie.After-operator-block
 
 abbrev start : found → tie.Start
-start d = d .before .before .before .before .before
+start d = let p = d .before .before .before in p .before .before
 
 abbrev judged : tie.After-judge → found
 judged c = c .before .before .before
 
+abbrev start-from-slice-known2 : tie.After-slice-known2 → tie.Start
+start-from-slice-known2 c = let p = c .before .before .before in p .before
+
 operator-block-requires : tie.Need-operator-block-requires
-operator-block-requires c κs = (c .before .before .before .before .pre .0 .read .task, c .before .before .before .before .pre .1)
+operator-block-requires c κs = (start-from-slice-known2 c .pre .0 .read .task, start-from-slice-known2 c .pre .1)
 
 judge-requires : tie.Need-judge-requires
 judge-requires c κs =
     let d = c .before .before in
     let a = start d .args in
-    read-bulk (a .image .now) (a .clauses .now) _ (a .atoms) (a .operator) (a .marks .now) (a .fails .now) (start d .pre .0) (start d .pre .1) (d .operator-block .ensures)
+    read-bulk (a .image .now) (a .clauses .now) _ (a .atoms) (a .operator) (a .marks .now) (a .fails .now) (start d .pre .0) (start d .pre .1)
+    (d .operator-block .ensures)
 
 same-length : tie.Need-same-length
 same-length c = search needs
@@ -32,9 +36,12 @@ same-length c = search needs
 same-length-2 : tie.Need-same-length-2
 same-length-2 c = search needs
 
+abbrev judge-from-slice-known4 : tie.After-slice-known4 → tie.After-judge
+judge-from-slice-known4 c = let p = c .before .before .before in p .before
+
 returns : tie.Need-returns
 returns c =
-    let j = c .before .before .before .before in
+    let j = judge-from-slice-known4 c in
     let d = judged j in
     let a = start d .args in
     j .judge .ensures ∙ ap (λ o. failFlags (a .atoms) (clausesOf (a .clauses .now)) o (clausesOf (a .clauses .now))) (d .operator-block .ensures .operator)

@@ -23,8 +23,22 @@ loop-holds c = refl
 shared-slice-read-if1 : tie.Need-shared-slice-read-if1 Inv-loop μ-loop
 shared-slice-read-if1 c = search needs
 
+-- the places of the function
+abbrev at-start : tie.At-loop Inv-loop μ-loop → tie.Start Inv-loop μ-loop
+at-start c = c .before
+
+abbrev at-loop-of-else1 : tie.Else1 Inv-loop μ-loop → tie.At-loop Inv-loop μ-loop
+at-loop-of-else1 c = c .before .before .before
+
+abbrev at-loop-of-then1 : tie.Then1 Inv-loop μ-loop → tie.At-loop Inv-loop μ-loop
+at-loop-of-then1 c = c .before .before .before
+
 returns : tie.Need-returns Inv-loop μ-loop
-returns c = sym (c .before .before .before .loop .inv ∙ any-found (c .before .before .before .before .args .flags .now) (c .before .before .before .loop .i) 0 _ refl (c .before .before .loop-test .taken) (λ x. eqb x 1) (eq-eqb _ _ (c .if1 .taken)))
+returns c =
+    sym
+    (c .before .before .before .loop .inv
+    ∙ any-found (at-start (at-loop-of-then1 c) .args .flags .now) (c .before .before .before .loop .i) 0 _ refl (c .before .before .loop-test .taken)
+    (λ x. eqb x 1) (eq-eqb _ _ (c .if1 .taken)))
 
 add-i : tie.Need-add-i Inv-loop μ-loop
 add-i c = search needs
@@ -33,7 +47,10 @@ loop-less : tie.Need-loop-less Inv-loop μ-loop
 loop-less c = search needs
 
 loop-again : tie.Need-loop-again Inv-loop μ-loop
-loop-again c = c .before .before .before .loop .inv ∙ any-on (c .before .before .before .before .args .flags .now) (c .before .before .before .loop .i) 0 _ refl (c .before .before .loop-test .taken) (λ x. eqb x 1) (ne-eqb _ _ (c .if1 .left))
+loop-again c =
+    c .before .before .before .loop .inv
+    ∙ any-on (at-start (at-loop-of-else1 c) .args .flags .now) (c .before .before .before .loop .i) 0 _ refl (c .before .before .loop-test .taken)
+    (λ x. eqb x 1) (ne-eqb _ _ (c .if1 .left))
 
 returns-2 : tie.Need-returns-2 Inv-loop μ-loop
 returns-2 c = sym (c .before .loop .inv ∙ any-end (λ x. eqb x 1) (c .before .before .args .flags .now) (c .before .loop .i) (c .loop-test .left))

@@ -29,10 +29,10 @@ abbrev at-loop : Type 0
 at-loop = tie.At-loop Inv-loop μ-loop
 
 abbrev cleared : at-loop → tie.After-clear Inv-loop μ-loop
-cleared l = l .before .before .before .before .before .before .before
+cleared l = let p = l .before .before .before in let q = p .before .before .before in q .before
 
 abbrev start : at-loop → tie.Start Inv-loop μ-loop
-start l = cleared l .before .before .before .before .before .before .before .before .before
+start l = let p = cleared l .before .before .before in let q = p .before .before .before in q .before .before .before
 
 abbrev task : at-loop → Task
 task l = taskOf (start l .args .image .now)
@@ -51,10 +51,13 @@ abbrev tested : Type 0
 tested = tie.After-test-operator Inv-loop μ-loop
 
 abbrev loop-of : tested → at-loop
-loop-of d = d .before .before .before .before .before .before
+loop-of d = let p = d .before .before .before in p .before .before .before
+
+abbrev start-from-slice-known4 : tie.After-slice-known4 Inv-loop μ-loop → tie.Start Inv-loop μ-loop
+start-from-slice-known4 c = let p = c .before .before .before in p .before .before .before
 
 operators-requires : tie.Need-operators-requires Inv-loop μ-loop
-operators-requires c κs = c .before .before .before .before .before .before .pre .0 .read .task
+operators-requires c κs = start-from-slice-known4 c .pre .0 .read .task
 
 clear-requires : tie.Need-clear-requires Inv-loop μ-loop
 clear-requires c κs = search needs
@@ -62,10 +65,16 @@ clear-requires c κs = search needs
 clear-requires-2 : tie.Need-clear-requires-2 Inv-loop μ-loop
 clear-requires-2 c κs = search needs
 
+abbrev clear-from-slice-known6 : tie.After-slice-known6 Inv-loop μ-loop → tie.After-clear Inv-loop μ-loop
+clear-from-slice-known6 c = let p = c .before .before .before in p .before .before .before
+
+abbrev start-from-clear : tie.After-clear Inv-loop μ-loop → tie.Start Inv-loop μ-loop
+start-from-clear c = let p = c .before .before .before in let q = p .before .before .before in q .before .before .before
+
 loop-holds : tie.Need-loop-holds Inv-loop μ-loop
 loop-holds c =
-    let d = c .before .before .before .before .before .before in
-    let s = d .before .before .before .before .before .before .before .before .before in
+    let d = clear-from-slice-known6 c in
+    let s = start-from-clear d in
     let t = taskOf (s .args .image .now) in
     let C = clausesOf (s .args .clauses .now) in
     let done = subst (λ (x : List ℕ). TestedBelow t C x (c .before .before .clear2 .last .0) 0) (sym (d .clear .ensures))
@@ -73,16 +82,22 @@ loop-holds c =
     (tested-start t C (length (s .args .failing .now)) (length (s .args .due .now)) (s .pre .1 ∙ sym (clauses-length (s .args .clauses .now))))) in
     (d .before .before .operators .ensures .0, omega arith, refl, refl, refl, refl, done)
 
+abbrev at-loop-from-test-operator : tie.After-test-operator-arg4 Inv-loop μ-loop → at-loop
+at-loop-from-test-operator c = let p = c .before .before .before in p .before .before
+
+abbrev loop-from-test-operator : tie.After-test-operator-arg4 Inv-loop μ-loop → tie.In-loop Inv-loop μ-loop
+loop-from-test-operator c = let p = c .before .before .before in p .before
+
 test-operator-requires : tie.Need-test-operator-requires Inv-loop μ-loop
 test-operator-requires c κs =
-    let l = c .before .before .before .before .before in
+    let l = at-loop-from-test-operator c in
     let p = start l .pre in (
       record {
         read = p .0 .read;
         room = omega (arith, l .loop .inv .2, p .0 .room);
         flagged = l .loop .inv .3 ∙ p .0 .flagged;
       },
-      omega (arith, l .loop .inv .0, c .before .before .before .before .loop-test .taken),
+      omega (arith, l .loop .inv .0, loop-from-test-operator c .loop-test .taken),
       same-failing l ∙ p .1,
     )
 
@@ -92,13 +107,24 @@ add-operator c = search needs
 loop-less : tie.Need-loop-less Inv-loop μ-loop
 loop-less c = search needs
 
+abbrev tested-from-slice-known10 : tie.After-slice-known10 Inv-loop μ-loop → tested
+tested-from-slice-known10 c = let p = c .before .before .before in let q = p .before .before .before in q .before .before
+
 loop-again : tie.Need-loop-again Inv-loop μ-loop
 loop-again c =
-    let d = c .before .before .before .before .before .before .before .before in
+    let d = tested-from-slice-known10 c in
     let l = loop-of d in
     let o = d .test-operator in
-    let p = start l .pre in
-    (l .loop .inv .0, omega arith, o .kept .1 .1 .1 .1 .0 ∙ l .loop .inv .2, o .kept .1 .1 .1 .1 .1 .0 ∙ l .loop .inv .3, o .kept .1 .1 .1 .1 .1 .1 .0 ∙ l .loop .inv .4, o .kept .1 .1 .1 .1 .1 .1 .1 .0 ∙ l .loop .inv .5, tested-next (task l) (clauses l) (read-sizes _ _ _ (p .0 .read)) (start l .args .atoms) (l .loop .operator) (p .0 .read .counted) (l .loop .failing) _ (l .loop .due) _ (l .loop .inv .6) (o .ensures) (o .kept .1 .1 .1 .1 .1 .1 .1 .0))
+    let p = start l .pre in (
+      l .loop .inv .0,
+      omega arith,
+      o .kept .1 .1 .1 .1 .0 ∙ l .loop .inv .2,
+      o .kept .1 .1 .1 .1 .1 .0 ∙ l .loop .inv .3,
+      o .kept .1 .1 .1 .1 .1 .1 .0 ∙ l .loop .inv .4,
+      o .kept .1 .1 .1 .1 .1 .1 .1 .0 ∙ l .loop .inv .5,
+      tested-next (task l) (clauses l) (read-sizes _ _ _ (p .0 .read)) (start l .args .atoms) (l .loop .operator) (p .0 .read .counted)
+          (l .loop .failing) _ (l .loop .due) _ (l .loop .inv .6) (o .ensures) (o .kept .1 .1 .1 .1 .1 .1 .1 .0),
+    )
 
 same-length : tie.Need-same-length Inv-loop μ-loop
 same-length c = c .before .loop .inv .2

@@ -22,7 +22,7 @@ abbrev judged : Type 0
 judged = tie.After-judge-operator
 
 abbrev start : judged → tie.Start
-start d = d .before .before .before .before .before .before .before .before .before
+start d = let p = d .before .before .before in let q = p .before .before .before in q .before .before .before
 
 abbrev fails : judged → List ℕ
 fails d = d .judge-operator .last .1 .1 .1 .1 .1 .0
@@ -35,17 +35,23 @@ few d =
 flagged : (d : judged) → length (fails d) ≡ rowCount (start d .args .clauses .now)
 flagged d = d .judge-operator .kept .1 .1 .1 .1 .1 .0 ∙ start d .pre .0 .flagged
 
+abbrev start-from-judge-operator : tie.After-judge-operator-arg2 → tie.Start
+start-from-judge-operator c = let p = c .before .before .before in let q = p .before .before .before in q .before .before
+
 judge-operator-requires : tie.Need-judge-operator-requires
-judge-operator-requires c κs = let p = c .before .before .before .before .before .before .before .before .pre in (p .0, p .1)
+judge-operator-requires c κs = let p = start-from-judge-operator c .pre in (p .0, p .1)
+
+abbrev judged-from-add-flags : tie.After-add-flags-arg3 → judged
+judged-from-add-flags c = let p = c .before .before .before in let q = p .before .before .before in q .before
 
 mul-add-flags : tie.Need-mul-add-flags
 unfolding width
-mul-add-flags c = record { fits = omega (arith, few (c .before .before .before .before .before .before .before)) }
+mul-add-flags c = record { fits = omega (arith, few (judged-from-add-flags c)) }
 
 add-flags-requires : tie.Need-add-flags-requires
 unfolding width
 add-flags-requires c κs =
-    let d = c .before .before .before .before .before .before .before in
+    let d = judged-from-add-flags c in
     (flagged d, flagged d ∙ sym (start d .pre .2), omega (arith, few d))
 
 same-length : tie.Need-same-length
@@ -60,11 +66,17 @@ same-length-3 c = search needs
 same-length-4 : tie.Need-same-length-4
 same-length-4 c = search needs
 
+abbrev add-flags-from-slice-known8 : tie.After-slice-known8 → tie.After-add-flags
+add-flags-from-slice-known8 c = let p = c .before .before .before in p .before
+
+abbrev judged-from-add-flags-2 : tie.After-add-flags → judged
+judged-from-add-flags-2 c = let p = c .before .before .before in let q = p .before .before .before in q .before .before
+
 returns : tie.Need-returns
 unfolding failFlags width
 returns c =
-    let e = c .before .before .before .before in
-    let d = e .before .before .before .before .before .before .before .before in
+    let e = add-flags-from-slice-known8 c in
+    let d = judged-from-add-flags-2 e in
     let a = start d .args in
     let o = operatorAt (taskOf (a .image .now)) (a .operator) in
     e .add-flags .ensures (λ f. not (kept (a .atoms) (clausesOf (a .clauses .now)) o f)) (d .judge-operator .ensures)

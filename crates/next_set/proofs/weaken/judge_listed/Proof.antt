@@ -26,7 +26,7 @@ abbrev lent : Type 0
 lent = tie.After-flags
 
 abbrev start : lent → tie.Start
-start b = b .before .before .before .before .before .before .before .before .before
+start b = let p = b .before .before .before in let q = p .before .before .before in q .before .before .before
 
 abbrev size : lent → ℕ
 size b = 2 * start b .args .atoms
@@ -61,7 +61,7 @@ guarantees d r e = subst (Guarantees (start (d .before) .args .atoms) (clauses d
 
 -- where the flags are listed
 abbrev listing : tie.After-list-flagged → judged
-listing c = c .before .before .before .before .before .before .before .before .before
+listing c = let p = c .before .before .before in let q = p .before .before .before in q .before .before .before
 
 listed : (c : tie.After-list-flagged) → Listed (flags (listing c)) (c .list-flagged .last .1 .0) (c .list-flagged .result)
 listed c = subst (λ (z : List ℕ). Listed z (c .list-flagged .last .1 .0) (c .list-flagged .result)) (back (listing c) .part) (c .list-flagged .ensures)
@@ -87,21 +87,33 @@ same-length c = search needs
 same-length-2 : tie.Need-same-length-2
 same-length-2 c = search needs
 
+abbrev judged-from-then1 : tie.Then1 → judged
+judged-from-then1 c = let p = c .before .before .before in p .before .before .before
+
 returns : tie.Need-returns
 returns c =
-    let d = c .before .before .before .before .before .before in
+    let d = judged-from-then1 c in
     let h = guarantees d false (not-true (d .judge-guaranteed .result) (c .if1 .taken)) in
     (d .judge-guaranteed .ensures .0, record { few = omega arith; low = no-words (start (d .before) .args .list .now); words = λ t e k. never h k })
 
+abbrev judged-from-else1 : tie.Else1 → judged
+judged-from-else1 c = let p = c .before .before .before in p .before .before .before
+
 array-share-prefix-flags : tie.Need-array-share-prefix-flags
-array-share-prefix-flags c = back (c .before .before .before .before .before .before) .room
+array-share-prefix-flags c = back (judged-from-else1 c) .room
+
+abbrev judged-from-flags3 : tie.After-flags3 → judged
+judged-from-flags3 c = let p = c .before .before .before in let q = p .before .before .before in q .before
 
 slice-aggregate-list-flagged : tie.Need-slice-aggregate-list-flagged
-slice-aggregate-list-flagged c = back (c .before .before .before .before .before .before .before) .whole
+slice-aggregate-list-flagged c = back (judged-from-flags3 c) .whole
+
+abbrev judged-from-list-flagged : tie.After-list-flagged-arg → judged
+judged-from-list-flagged c = let p = c .before .before .before in let q = p .before .before .before in q .before .before
 
 list-flagged-requires : tie.Need-list-flagged-requires
 list-flagged-requires c κs =
-    let d = c .before .before .before .before .before .before .before .before in
+    let d = judged-from-list-flagged c in
     let e = back d .whole in
     (omega (arith, few (d .before), start (d .before) .pre .1, e), omega (arith, few (d .before), e))
 
@@ -114,13 +126,16 @@ same-length-4 c = search needs
 same-length-5 : tie.Need-same-length-5
 same-length-5 c = search needs
 
+abbrev else1-from-slice-known6 : tie.After-slice-known6 → tie.Else1
+else1-from-slice-known6 c = let p = c .before .before .before in p .before .before
+
 returns-2 : tie.Need-returns-2
 returns-2 c =
     let i = c .before .before in
     let d = listing i in
     let s = start (d .before) in
     let l = listed i in
-    let h = guarantees d true (not-false (d .judge-guaranteed .result) (c .before .before .before .before .before .if1 .left)) in (
+    let h = guarantees d true (not-false (d .judge-guaranteed .result) (else1-from-slice-known6 c .if1 .left)) in (
       d .judge-guaranteed .ensures .0,
       record {
         few = omega (arith, l .few, back d .size, few (d .before), s .pre .1, i .list-flagged .kept .1 .0);

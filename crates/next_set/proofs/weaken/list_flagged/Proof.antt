@@ -13,7 +13,9 @@ use Rattle.next_set.proofs.weaken.list_flagged.Statement.{statement}
 use Rattle.next_set.proofs.weaken.list_flagged.Tie as tie
 
 abbrev Inv-loop : tie.InvT-loop
-Inv-loop flags list₀ count₀ l₀ list count l = (count ≤ l) × (l ≤ length flags) × (length list ≡ length list₀) × (keep (has flags) (below (length flags)) ≡ take count list ++ keep (has flags) (range l (length flags - l)))
+Inv-loop flags list₀ count₀ l₀ list count l =
+    (count ≤ l) × (l ≤ length flags) × (length list ≡ length list₀) ×
+    (keep (has flags) (below (length flags)) ≡ take count list ++ keep (has flags) (range l (length flags - l)))
 
 abbrev μ-loop : tie.MeasureT-loop
 μ-loop flags list₀ count₀ l₀ list count l = length flags - l
@@ -30,10 +32,25 @@ shared-slice-read-if1 c = search needs
 loop-less : tie.Need-loop-less Inv-loop μ-loop
 loop-less c = search needs
 
+-- the places of the function
+abbrev at-start : tie.At-loop Inv-loop μ-loop → tie.Start Inv-loop μ-loop
+at-start c = c .before
+
+abbrev at-loop-of-else1 : tie.Else1 Inv-loop μ-loop → tie.At-loop Inv-loop μ-loop
+at-loop-of-else1 c = c .before .before .before
+
+abbrev at-loop-of-then1 : tie.Then1 Inv-loop μ-loop → tie.At-loop Inv-loop μ-loop
+at-loop-of-then1 c = c .before .before .before
+
 loop-again : tie.Need-loop-again Inv-loop μ-loop
 loop-again c =
-    let l = c .before .before .before .loop in
-    (search needs, search needs, l .inv .2, list-skip (c .before .before .before .before .args .flags .now) (l .list) (l .count) (l .l) (l .inv .3) (c .before .before .loop-test .taken) (c .if1 .taken))
+    let l = c .before .before .before .loop in (
+      search needs,
+      search needs,
+      l .inv .2,
+      list-skip (at-start (at-loop-of-then1 c) .args .flags .now) (l .list) (l .count) (l .l) (l .inv .3) (c .before .before .loop-test .taken)
+          (c .if1 .taken),
+    )
 
 cast-list : tie.Need-cast-list Inv-loop μ-loop
 cast-list c = search needs
@@ -52,8 +69,13 @@ loop-less-2 c = search needs
 
 loop-again-2 : tie.Need-loop-again-2 Inv-loop μ-loop
 loop-again-2 c =
-    let l = c .before .before .before .loop in
-    (search needs, search needs, simp length-set (l .inv .2), list-take (c .before .before .before .before .args .flags .now) (l .list) (l .count) (l .l) (l .inv .3) (c .before .before .loop-test .taken) (c .if1 .left) (omega arith))
+    let l = c .before .before .before .loop in (
+      search needs,
+      search needs,
+      simp length-set (l .inv .2),
+      list-take (at-start (at-loop-of-else1 c) .args .flags .now) (l .list) (l .count) (l .l) (l .inv .3) (c .before .before .loop-test .taken)
+          (c .if1 .left) (omega arith),
+    )
 
 same-length : tie.Need-same-length Inv-loop μ-loop
 same-length c = c .before .loop .inv .2

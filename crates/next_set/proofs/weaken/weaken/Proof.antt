@@ -33,7 +33,7 @@ abbrev at-loop : Type 0
 at-loop = tie.At-loop Inv-loop μ-loop
 
 abbrev start : at-loop → tie.Start Inv-loop μ-loop
-start l = l .before .before .before .before .before .before .before
+start l = let p = l .before .before .before in let q = p .before .before .before in q .before
 
 abbrev added : at-loop → ℕ → List (List ℕ)
 added l = addedAt (taskOf (start l .args .image .now)) (clausesOf (start l .args .clauses .now))
@@ -53,7 +53,7 @@ abbrev done : Type 0
 done = tie.After-weaken-operators Inv-loop μ-loop
 
 abbrev loop-of : done → tie.In-loop Inv-loop μ-loop
-loop-of d = d .before .before .before .before
+loop-of d = let p = d .before .before .before in p .before
 
 same-marks : (d : done) → length (d .weaken-operators .last .1 .1 .1 .1 .1 .0) ≡ length (start (loop-of d .before) .args .marks .now)
 same-marks d = d .weaken-operators .kept .1 .1 .1 .1 .1 .0 ∙ loop-of d .before .loop .inv .2
@@ -64,16 +64,28 @@ same-fails d = d .weaken-operators .kept .1 .1 .1 .1 .1 .1 .0 ∙ loop-of d .bef
 same-work : (d : done) → length (d .weaken-operators .last .1 .1 .1 .1 .1 .1 .1 .0) ≡ length (start (loop-of d .before) .args .work .now)
 same-work d = d .weaken-operators .kept .1 .1 .1 .1 .1 .1 .1 .0 ∙ loop-of d .before .loop .inv .4
 
+abbrev start-from-slice-known3 : tie.After-slice-known3 Inv-loop μ-loop → tie.Start Inv-loop μ-loop
+start-from-slice-known3 c = let p = c .before .before .before in p .before .before .before
+
 loop-holds : tie.Need-loop-holds Inv-loop μ-loop
 unfolding addedFrom
 loop-holds c =
-    let s = c .before .before .before .before .before .before in
-    let a = s .args in
-    (omega arith, s .pre .0 .some-literal, refl, refl, refl, pending-start (a .rows) (addedFrom (taskOf (a .image .now)) (clausesOf (a .clauses .now)) 1 (a .most - 1)) (a .count) (a .work .now) (s .pre .1))
+    let s = start-from-slice-known3 c in
+    let a = s .args in (
+      omega arith,
+      s .pre .0 .some-literal,
+      refl,
+      refl,
+      refl,
+      pending-start (a .rows) (addedFrom (taskOf (a .image .now)) (clausesOf (a .clauses .now)) 1 (a .most - 1)) (a .count) (a .work .now) (s .pre .1),
+    )
+
+abbrev at-loop-from-weaken-operators : tie.After-weaken-operators-arg3 Inv-loop μ-loop → at-loop
+at-loop-from-weaken-operators c = let p = c .before .before .before in p .before
 
 weaken-operators-requires : tie.Need-weaken-operators-requires Inv-loop μ-loop
 weaken-operators-requires c κs =
-    let l = c .before .before .before .before in
+    let l = at-loop-from-weaken-operators c in
     let v = l .loop .inv in
     let w = start l .pre .0 in (
       record {
@@ -87,20 +99,24 @@ weaken-operators-requires c κs =
 enum-told : tie.Need-enum-told Inv-loop μ-loop
 enum-told c = c .match .keys1
 
+abbrev done-from-enum-told : tie.After-enum-told Inv-loop μ-loop → done
+done-from-enum-told c = let p = c .before .before .before in let q = p .before .before .before in q .before .before
+
 same-length : tie.Need-same-length Inv-loop μ-loop
-same-length c = same-marks (c .before .before .before .before .before .before .before .before)
+same-length c = same-marks (done-from-enum-told c)
 
 same-length-2 : tie.Need-same-length-2 Inv-loop μ-loop
-same-length-2 c = same-fails (c .before .before .before .before .before .before .before .before)
+same-length-2 c = same-fails (done-from-enum-told c)
 
 same-length-3 : tie.Need-same-length-3 Inv-loop μ-loop
-same-length-3 c = same-work (c .before .before .before .before .before .before .before .before)
+same-length-3 c = same-work (done-from-enum-told c)
 
 returns : tie.Need-returns Inv-loop μ-loop
 returns c =
-    let d = c .before .before .before .before .before .before .before .before in
+    let d = done-from-enum-told c in
     let l = loop-of d .before in
-    pending-full (start l .args .rows) _ _ (l .loop .taken) (l .loop .work) (l .loop .inv .5) _ _ (left-at (loop-of d)) _ (d .weaken-operators .result) (d .weaken-operators .ensures) (c .enum-told .given .1)
+    pending-full (start l .args .rows) _ _ (l .loop .taken) (l .loop .work) (l .loop .inv .5) _ _ (left-at (loop-of d)) _
+    (d .weaken-operators .result) (d .weaken-operators .ensures) (c .enum-told .given .1)
 
 enum-known-built : tie.Need-enum-known-built Inv-loop μ-loop
 enum-known-built c = c .match .keys2
@@ -111,12 +127,22 @@ add-k c = search needs
 loop-less : tie.Need-loop-less Inv-loop μ-loop
 loop-less c = search needs
 
+abbrev done-from-known-told : tie.After-known-told Inv-loop μ-loop → done
+done-from-known-told c = let p = c .before .before .before in let q = p .before .before .before in q .before .before .before
+
 loop-again : tie.Need-loop-again Inv-loop μ-loop
 loop-again c =
-    let d = c .before .before .before .before .before .before .before .before .before in
+    let d = done-from-known-told c in
     let l = loop-of d .before in
-    let built = c .before .built .given in
-    (omega arith, omega arith, same-marks d, same-fails d, same-work d, pending-on (start l .args .rows) _ _ (l .loop .taken) (l .loop .work) (l .loop .inv .5) _ _ (left-at (loop-of d)) _ (d .weaken-operators .result) (d .weaken-operators .ensures) (built .0 .0) (built .1))
+    let built = c .before .built .given in (
+      omega arith,
+      omega arith,
+      same-marks d,
+      same-fails d,
+      same-work d,
+      pending-on (start l .args .rows) _ _ (l .loop .taken) (l .loop .work) (l .loop .inv .5) _ _ (left-at (loop-of d)) _
+          (d .weaken-operators .result) (d .weaken-operators .ensures) (built .0 .0) (built .1),
+    )
 
 same-length-4 : tie.Need-same-length-4 Inv-loop μ-loop
 same-length-4 c = c .before .loop .inv .2
@@ -130,8 +156,11 @@ same-length-6 c = c .before .loop .inv .4
 returns-2 : tie.Need-returns-2 Inv-loop μ-loop
 returns-2 c =
     let l = c .before in
-    let k = l .loop .k in
-    (l .loop .inv .5 .room, pending-end (start l .args .rows) _ _ (l .loop .taken) (l .loop .work) (l .loop .inv .5) (range-done (added l) k (start l .args .most - k) (omega (arith, c .loop-test .left))))
+    let k = l .loop .k in (
+      l .loop .inv .5 .room,
+      pending-end (start l .args .rows) _ _ (l .loop .taken) (l .loop .work) (l .loop .inv .5)
+          (range-done (added l) k (start l .args .most - k) (omega (arith, c .loop-test .left))),
+    )
 
 pub weaken-spec : {M : Type 1} → statement M
 weaken-spec =

@@ -24,7 +24,7 @@ abbrev asking : Type 0
 asking = tie.After-slice-known3
 
 abbrev start : asking → tie.Start
-start b = b .before .before .before .before .before .before
+start b = let p = b .before .before .before in p .before .before .before
 
 few : (b : asking) → start b .args .operator < mostOperators
 few b =
@@ -55,8 +55,11 @@ returns c =
     let s = start (q .before) in
     let a = s .args in
     let w = s .pre .0 in
-    let z = zero-place (a .due .now) (width * a .operator + a .k) (q .is-zero .result) (q .is-zero .ensures) (c .if1 .taken) in
-    (s .pre .2, put-none (taskOf (a .image .now)) (clausesOf (a .clauses .now)) (a .due .now) (w .tested .noted) (a .operator) (a .k) (s .pre .1) (w .some-literal) (omega (arith, w .short)) (z .1) (z .0) (a .rows) (some (held (a .count) (a .work .now))))
+    let z = zero-place (a .due .now) (width * a .operator + a .k) (q .is-zero .result) (q .is-zero .ensures) (c .if1 .taken) in (
+      s .pre .2,
+      put-none (taskOf (a .image .now)) (clausesOf (a .clauses .now)) (a .due .now) (w .tested .noted) (a .operator) (a .k) (s .pre .1)
+          (w .some-literal) (omega (arith, w .short)) (z .1) (z .0) (a .rows) (some (held (a .count) (a .work .now))),
+    )
 
 operator-block-requires : tie.Need-operator-block-requires
 operator-block-requires c κs = let s = start (c .before .before) in (s .pre .0 .tested .given .read .task, s .pre .1)
@@ -65,8 +68,12 @@ weaken-under-requires : tie.Need-weaken-under-requires
 weaken-under-requires c κs =
     let d = c .before .before .before in
     let a = begun d .args in
-    let p = begun d .pre in
-    (read-bulk (a .image .now) (a .clauses .now) _ (a .atoms) (a .operator) (a .marks .now) (a .fails .now) (p .0 .tested .given) (p .1) (d .operator-block .ensures), p .0 .short, p .2)
+    let p = begun d .pre in (
+      read-bulk (a .image .now) (a .clauses .now) _ (a .atoms) (a .operator) (a .marks .now) (a .fails .now) (p .0 .tested .given) (p .1)
+          (d .operator-block .ensures),
+      p .0 .short,
+      p .2,
+    )
 
 same-length : tie.Need-same-length
 same-length c = search needs
@@ -77,13 +84,22 @@ same-length-2 c = search needs
 same-length-3 : tie.Need-same-length-3
 same-length-3 c = search needs
 
+abbrev weaken-under-from-slice-known6 : tie.After-slice-known6 → tie.After-weaken-under
+weaken-under-from-slice-known6 c = let p = c .before .before .before in p .before .before .before
+
+abbrev found-from-weaken-under : tie.After-weaken-under → found
+found-from-weaken-under c = let p = c .before .before .before in p .before
+
 returns-2 : tie.Need-returns-2
 returns-2 c =
-    let e = c .before .before .before .before .before .before in
-    let d = e .before .before .before .before in
+    let e = weaken-under-from-slice-known6 c in
+    let d = found-from-weaken-under e in
     let a = begun d .args in
     let t : Task = taskOf (a .image .now) in
-    subst (λ (o : Operator). Holds (a .rows) (e .weaken-under .result) (e .weaken-under .last .1 .1 .1 .1 .1 .1 .0) (putAll (a .rows) (addedBy t (clausesOf (a .clauses .now)) (a .k) o) (some (held (a .count) (a .work .now)))))
+    subst
+    (λ (o : Operator).
+    Holds (a .rows) (e .weaken-under .result) (e .weaken-under .last .1 .1 .1 .1 .1 .1 .0)
+    (putAll (a .rows) (addedBy t (clausesOf (a .clauses .now)) (a .k) o) (some (held (a .count) (a .work .now)))))
     (d .operator-block .ensures .operator)
     (e .weaken-under .ensures t (sym (begun d .pre .0 .tested .given .read .counted)))
 

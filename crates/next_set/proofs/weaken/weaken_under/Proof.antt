@@ -20,7 +20,7 @@ abbrev judged : Type 0
 judged = tie.After-judge-listed
 
 abbrev start : judged → tie.Start
-start d = d .before .before .before .before .before .before .before .before .before .before
+start d = let p = d .before .before .before in let q = p .before .before .before in let r = q .before .before .before in r .before
 
 abbrev words : judged → List ℕ
 words d = start d .args .clauses .now
@@ -46,15 +46,24 @@ judge-listed-requires c κs = search needs
 array-share-prefix-list : tie.Need-array-share-prefix-list
 array-share-prefix-list c = search needs
 
+abbrev judged-from-list3 : tie.After-list3 → judged
+judged-from-list3 c = let p = c .before .before .before in let q = p .before .before .before in q .before
+
 slice-aggregate-weaken-rows : tie.Need-slice-aggregate-weaken-rows
-slice-aggregate-weaken-rows c = let d = c .before .before .before .before .before .before .before in sym (length-take-le _ (room d) (d .judge-listed .ensures .1 .few))
+slice-aggregate-weaken-rows c = let d = judged-from-list3 c in sym (length-take-le _ (room d) (d .judge-listed .ensures .1 .few))
+
+abbrev judged-from-weaken-rows : tie.After-weaken-rows-arg2 → judged
+judged-from-weaken-rows c = let p = c .before .before .before in let q = p .before .before .before in q .before .before
 
 weaken-rows-requires : tie.Need-weaken-rows-requires
 weaken-rows-requires c κs =
-    let d = c .before .before .before .before .before .before .before .before in
+    let d = judged-from-weaken-rows c in
     let g = start d .pre .0 .given in
-    let a = start d .args in
-    (weakening (words d) (operator d) (a .atoms) (a .k) (fails d) (d .judge-listed .ensures .0) (g .few) (g .rows) _ (d .judge-listed .ensures .1 .low) (start d .pre .1), start d .pre .2)
+    let a = start d .args in (
+      weakening (words d) (operator d) (a .atoms) (a .k) (fails d) (d .judge-listed .ensures .0) (g .few) (g .rows) _
+          (d .judge-listed .ensures .1 .low) (start d .pre .1),
+      start d .pre .2,
+    )
 
 same-length : tie.Need-same-length
 same-length c = search needs
@@ -65,14 +74,18 @@ same-length-2 c = search needs
 same-length-3 : tie.Need-same-length-3
 same-length-3 c = search needs
 
+abbrev judged-from-slice-known6 : tie.After-slice-known6 → judged
+judged-from-slice-known6 c = let p = c .before .before .before in let q = p .before .before .before in let r = q .before .before .before in r .before .before
+
 returns : tie.Need-returns
 returns c =
     let r = c .before .before .weaken-rows in
-    let d = c .before .before .before .before .before .before .before .before .before .before .before in
+    let d = judged-from-slice-known6 c in
     let a = start d .args in
     let s : Option (List (List ℕ)) = some (held (a .count) (a .work .now)) in
     λ t e. subst (λ (z : Option (List (List ℕ))). Holds (a .rows) (r .result) (r .last .1 .1 .1 .1 .0) z)
-    (under-added (words d) (operator d) (a .atoms) (a .k) (fails d) (d .judge-listed .ensures .0) t e (a .rows) s (take (d .judge-listed .result) (room d)) (d .judge-listed .ensures .1 .words t e))
+    (under-added (words d) (operator d) (a .atoms) (a .k) (fails d) (d .judge-listed .ensures .0) t e (a .rows) s
+    (take (d .judge-listed .result) (room d)) (d .judge-listed .ensures .1 .words t e))
     (r .ensures)
 
 pub weaken-under-spec : {M : Type 1} → statement M
