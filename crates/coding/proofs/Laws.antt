@@ -153,7 +153,9 @@ module _ (t : FdrTask) (s : List ℕ) (a : ℕ) (m : List ℕ) (w : Walked t s a
   walked-all : length s ≤ a → (v : ℕ) → trueValues v (t .atoms) s ≡ valuesOf (getD m v 0)
   unfolding trueValues
   walked-all past v =
-      w .all-values v ∙ rw (drop-of-length-le s {i = a} past) (ap (λ (l : List ℕ). valuesOf (getD m v 0) ++ l) (nothing (drop a (t .atoms))) ∙ append-nil (valuesOf (getD m v 0)))
+      w .all-values v
+      ∙ rw (drop-of-length-le s {i = a} past)
+      (ap (λ (l : List ℕ). valuesOf (getD m v 0) ++ l) (nothing (drop a (t .atoms))) ∙ append-nil (valuesOf (getD m v 0)))
     where
       nothing : (P : List Place) → trueValues v P [] ≡ []
       nothing [] = refl
@@ -162,7 +164,9 @@ module _ (t : FdrTask) (s : List ℕ) (a : ℕ) (m : List ℕ) (w : Walked t s a
   pub found-all : length s ≤ a → Found t s m true
   found-all past = record { size = w .size; low = w .low; one = λ h. walked-all past; two = λ h. never refl h }
 
-  module _ (inside : a < length s) (source : length s ≡ length (t .atoms)) (v x b : ℕ) (ev : v ≡ getD (t .atoms) a (place 0 0) .variable) (ex : x ≡ getD (t .atoms) a (place 0 0) .value) (eb : b ≡ getD s a 0) where
+  module _
+      (inside : a < length s) (source : length s ≡ length (t .atoms)) (v x b : ℕ) (ev : v ≡ getD (t .atoms) a (place 0 0) .variable)
+      (ex : x ≡ getD (t .atoms) a (place 0 0) .value) (eb : b ≡ getD s a 0) where
     next : (u : ℕ) → trueValues u (drop a (t .atoms)) (drop a s) ≡ withAtom u v x b (trueValues u (drop (a + 1) (t .atoms)) (drop (a + 1) s))
     unfolding trueValues withAtom
     next u =
@@ -174,7 +178,10 @@ module _ (t : FdrTask) (s : List ℕ) (a : ℕ) (m : List ℕ) (w : Walked t s a
         record {
           size = n .size ∙ w .size;
           low = n .low (w .low);
-          all-values = λ u. w .all-values u ∙ ap (λ (l : List ℕ). valuesOf (getD m u 0) ++ l) (next u) ∙ n .one e u (trueValues u (drop (a + 1) (t .atoms)) (drop (a + 1) s));
+          all-values =
+              λ u. w .all-values u
+              ∙ ap (λ (l : List ℕ). valuesOf (getD m u 0) ++ l) (next u)
+              ∙ n .one e u (trueValues u (drop (a + 1) (t .atoms)) (drop (a + 1) s));
         }
 
     pub found-two : v < length (t .domains) → (m′ : List ℕ) (r : Bool) → Noted b v x m m′ r → r ≡ false → Found t s m′ false

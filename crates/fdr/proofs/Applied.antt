@@ -86,12 +86,17 @@ unfolding fdrConflict
 clash-conflict rs c = any-in (λ r. any (clash r) rs) (c .r-in) (any-in (clash (c .r)) (c .q-in) (c .hit))
 
 -- what two rows in conflict have
-clash-of : (r q : FdrRow) → clash r q ≡ true → (r .variable ≡ q .variable) × (isSet r ≡ true) × (cond (isSet q) (not (eqb (r .value) (q .value))) (eqb (r .value) (q .value)) ≡ true)
+clash-of :
+    (r q : FdrRow) → clash r q ≡ true
+    → (r .variable ≡ q .variable) × (isSet r ≡ true) × (cond (isSet q) (not (eqb (r .value) (q .value))) (eqb (r .value) (q .value)) ≡ true)
 unfolding clash
 clash-of r q h =
     let c = cond (isSet q) (not (eqb (r .value) (q .value))) (eqb (r .value) (q .value)) in
-    let p = and-left (eqb (r .variable) (q .variable) && isSet r) c h in
-    (eqb-true (r .variable) (q .variable) (and-left (eqb (r .variable) (q .variable)) (isSet r) p), and-right (eqb (r .variable) (q .variable)) (isSet r) p, and-right (eqb (r .variable) (q .variable) && isSet r) c h)
+    let p = and-left (eqb (r .variable) (q .variable) && isSet r) c h in (
+      eqb-true (r .variable) (q .variable) (and-left (eqb (r .variable) (q .variable)) (isSet r) p),
+      and-right (eqb (r .variable) (q .variable)) (isSet r) p,
+      and-right (eqb (r .variable) (q .variable) && isSet r) c h,
+    )
 
 module _ (s : List ℕ) (rs : List FdrRow) (low : Rows mostAtoms rs) where
   -- ---- conflict
@@ -131,7 +136,8 @@ module _ (s : List ℕ) (rs : List FdrRow) (low : Rows mostAtoms rs) where
             let z = set-there (x .r .variable) k p in
             let y = x .set in
             let same : k ≡ x .r .value = omega arith in
-            clash-conflict rs (record { r = q .0; q = x .r; r-in = q .1; q-in = x .r-in; hit = clear-clash (q .0) (x .r) (q .2) (x .clear) (q .3) (q .4 ∙ same) })
+            clash-conflict rs
+            (record { r = q .0; q = x .r; r-in = q .1; q-in = x .r-in; hit = clear-clash (q .0) (x .r) (q .2) (x .clear) (q .3) (q .4 ∙ same) })
 
     module _ (m′ : List ℕ) (em′ : noteRows s 1 rs m ≡ some m′) where
       clears : Clears s rs m m′
@@ -202,7 +208,8 @@ module _ (s : List ℕ) (rs : List FdrRow) (low : Rows mostAtoms rs) where
         pub nones-is : nonesThere (t .domains) m′ ≡ noneThere t s rs
         unfolding nonesThere noneThere domainAt
         nones-is =
-            all-same (λ v. not (eqb (getD m′ v 0) 1 && eqb (getD (t .domains) v noDomain .none) 0)) (λ v. not (sentToNone t s rs v && eqb (getD (t .domains) v noDomain .none) 0)) (below (length (t .domains)))
+            all-same (λ v. not (eqb (getD m′ v 0) 1 && eqb (getD (t .domains) v noDomain .none) 0))
+            (λ v. not (sentToNone t s rs v && eqb (getD (t .domains) v noDomain .none) 0)) (below (length (t .domains)))
             (λ v. rw (sent-is t v))
 
         -- the state after the step
@@ -233,6 +240,7 @@ module _ (s : List ℕ) (rs : List FdrRow) (low : Rows mostAtoms rs) where
                 let q = set-some rs v x e in
                 let z = set-noted v x e in
                 let y = right (q .0) (q .1) in
-                let w : getD (t .domains) (q .0 .variable) noDomain .values ≡ getD (t .domains) v noDomain .values = ap (λ (k : ℕ). getD (t .domains) k noDomain .values) (q .3) in
+                let w : getD (t .domains) (q .0 .variable) noDomain .values ≡ getD (t .domains) v noDomain .values =
+                ap (λ (k : ℕ). getD (t .domains) k noDomain .values) (q .3) in
                 let u = q .4 in
                 omega arith

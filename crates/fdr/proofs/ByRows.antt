@@ -60,7 +60,9 @@ module _ (rows rest : List FdrRow) (r : FdrRow) (er : rows ≡ r ∷ rest) where
       unfolding nonesIn all
       nones-on e = rw (er, ← eb, e)
 
-    pub written-next : (s : List ℕ) (x : ℕ) → x ≡ become (getD D (r .variable) noDomain) (getD m (r .variable) 0) (getD s (r .variable) 0) → written D m rows s ≡ written D m rest (set s (r .variable) x)
+    pub written-next :
+        (s : List ℕ) (x : ℕ) → x ≡ become (getD D (r .variable) noDomain) (getD m (r .variable) 0) (getD s (r .variable) 0)
+        → written D m rows s ≡ written D m rest (set s (r .variable) x)
     written-next s x ex = ap (λ (l : List FdrRow). written D m l s) er ∙ ap (λ (y : ℕ). written D m rest (set s (r .variable) y)) (sym ex)
 
   pub unnoted-next : (m : List ℕ) → unnoted rows m ≡ unnoted rest (set m (r .variable) 0)
@@ -92,7 +94,10 @@ unnoted-at (r ∷ rows) m v h = go (eqb v (r .variable)) refl (unnoted-at rows (
     same true = refl
     same false = refl
 
-    go : (b : Bool) → eqb v (r .variable) ≡ b → getD (unnoted rows (set m (r .variable) 0)) v 0 ≡ cond (named rows v) 0 (getD (set m (r .variable) 0) v 0) → getD (unnoted rows (set m (r .variable) 0)) v 0 ≡ cond (eqb v (r .variable) || named rows v) 0 (getD m v 0)
+    go :
+        (b : Bool) → eqb v (r .variable) ≡ b
+        → getD (unnoted rows (set m (r .variable) 0)) v 0 ≡ cond (named rows v) 0 (getD (set m (r .variable) 0) v 0)
+        → getD (unnoted rows (set m (r .variable) 0)) v 0 ≡ cond (eqb v (r .variable) || named rows v) 0 (getD m v 0)
     go true e rest =
         let p : v ≡ r .variable = eqb-true v (r .variable) e in
         let q : getD (set m (r .variable) 0) v 0 ≡ 0 = rw (← p) (getD-set-same m v 0 0 h) in
@@ -100,7 +105,8 @@ unnoted-at (r ∷ rows) m v h = go (eqb v (r .variable)) refl (unnoted-at rows (
     go false e rest = rest ∙ rw (getD-set-other m (r .variable) v 0 0 (eqb-false v (r .variable) e), e)
 
 pub notes-gone : (rows : List FdrRow) (m₀ m m′ : List ℕ) → m₀ ≡ noChanges → length m ≡ length m₀ → NotedFor rows m₀ m → m′ ≡ unnoted rows m → m′ ≡ m₀
-notes-gone rows m₀ m m′ e₀ size nf e = e ∙ ext-getD 0 (unnoted rows m) m₀ (unnoted-length rows m ∙ size) (λ v h. at v (let l = unnoted-length rows m in omega arith) (named rows v) refl)
+notes-gone rows m₀ m m′ e₀ size nf e =
+    e ∙ ext-getD 0 (unnoted rows m) m₀ (unnoted-length rows m ∙ size) (λ v h. at v (let l = unnoted-length rows m in omega arith) (named rows v) refl)
   where
     at : (v : ℕ) → v < length m → (b : Bool) → named rows v ≡ b → getD (unnoted rows m) v 0 ≡ getD m₀ v 0
     at v h true p = unnoted-at rows m v h ∙ rw p (sym (ap (λ (l : List ℕ). getD l v 0) e₀ ∙ blank v))
@@ -123,7 +129,8 @@ module _ (D : List Domain) (m : List ℕ) where
 
   written-length : (rows : List FdrRow) (s : List ℕ) → length (written D m rows s) ≡ length s
   written-length [] s = refl
-  written-length (r ∷ rows) s = let x = made (r .variable) (getD s (r .variable) 0) in written-length rows (set s (r .variable) x) ∙ length-set s (r .variable) x
+  written-length (r ∷ rows) s =
+      let x = made (r .variable) (getD s (r .variable) 0) in written-length rows (set s (r .variable) x) ∙ length-set s (r .variable) x
 
   written-at : (rows : List FdrRow) (s : List ℕ) (v : ℕ) → v < length s → getD (written D m rows s) v 0 ≡ cond (named rows v) (made v (getD s v 0)) (getD s v 0)
   unfolding named any
@@ -140,10 +147,13 @@ module _ (D : List Domain) (m : List ℕ) where
       same true y e = rw e (become-twice (getD D v noDomain) (getD m v 0) (getD s v 0))
       same false y e = e
 
-      go : (b : Bool) → eqb v (r .variable) ≡ b → getD (written D m rows s₁) v 0 ≡ cond (named rows v) (made v (getD s₁ v 0)) (getD s₁ v 0) → getD (written D m rows s₁) v 0 ≡ cond (eqb v (r .variable) || named rows v) (made v (getD s v 0)) (getD s v 0)
+      go :
+          (b : Bool) → eqb v (r .variable) ≡ b → getD (written D m rows s₁) v 0 ≡ cond (named rows v) (made v (getD s₁ v 0)) (getD s₁ v 0)
+          → getD (written D m rows s₁) v 0 ≡ cond (eqb v (r .variable) || named rows v) (made v (getD s v 0)) (getD s v 0)
       go true e rest =
           let p : v ≡ r .variable = eqb-true v (r .variable) e in
-          let q : getD s₁ v 0 ≡ made v (getD s v 0) = ap (λ (k : ℕ). getD (set s k (made k (getD s k 0))) v 0) (sym p) ∙ getD-set-same s v (made v (getD s v 0)) 0 h in
+          let q : getD s₁ v 0 ≡ made v (getD s v 0) =
+          ap (λ (k : ℕ). getD (set s k (made k (getD s k 0))) v 0) (sym p) ∙ getD-set-same s v (made v (getD s v 0)) 0 h in
           rest ∙ rw e (same (named rows v) (getD s₁ v 0) q)
       go false e rest =
           let q : getD s₁ v 0 ≡ getD s v 0 = getD-set-other s (r .variable) v x 0 (eqb-false v (r .variable) e) in

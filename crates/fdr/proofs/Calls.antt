@@ -85,7 +85,9 @@ module _ (t : FdrTask) (s : List ℕ) (rs : List FdrRow) where
         (ap finding e ∙ question-yes 22 (noneThere t s rs) _ h ∙ question-yes 21 (not (fdrConflict rs)) _ (ap not q21))
 
 -- ---- right rows
-row-tests : (D : List Domain) (r : FdrRow) → fdrRowRight D r ≡ true → (r .kind ≤ 1) × (r .variable < length D) × (r .value < getD D (r .variable) noDomain .values)
+row-tests :
+    (D : List Domain) (r : FdrRow) → fdrRowRight D r ≡ true
+    → (r .kind ≤ 1) × (r .variable < length D) × (r .value < getD D (r .variable) noDomain .values)
 unfolding fdrRowRight isAtomValue atomValues
 row-tests D r h =
     let k = leb (r .kind) 1 in

@@ -96,8 +96,12 @@ noted-true : (m m′ : List ℕ) → noted true m′ ≡ some m → m′ ≡ m
 unfolding noted
 noted-true m m′ e = cc
 
-module _ (s : List ℕ) (pass : ℕ) (rows rest : List FdrRow) (r : FdrRow) (er : rows ≡ r ∷ rest) (fires : Bool) (ef : fires ≡ fdrAllTrue s (r .conditions)) (m m′ : List ℕ) where
-  kept : (b : Bool) → fires ≡ b → keep (λ r. fdrAllTrue s (r .conditions)) rows ≡ cond b (r ∷ keep (λ r. fdrAllTrue s (r .conditions)) rest) (keep (λ r. fdrAllTrue s (r .conditions)) rest)
+module _
+    (s : List ℕ) (pass : ℕ) (rows rest : List FdrRow) (r : FdrRow) (er : rows ≡ r ∷ rest) (fires : Bool) (ef : fires ≡ fdrAllTrue s (r .conditions))
+    (m m′ : List ℕ) where
+  kept :
+      (b : Bool) → fires ≡ b → keep (λ r. fdrAllTrue s (r .conditions)) rows ≡ cond b (r ∷ keep (λ r. fdrAllTrue s (r .conditions)) rest)
+      (keep (λ r. fdrAllTrue s (r .conditions)) rest)
   unfolding keep
   kept true e = rw (er, ← ef, e, keep)
   kept false e = rw (er, ← ef, e, keep)
@@ -110,19 +114,27 @@ module _ (s : List ℕ) (pass : ℕ) (rows rest : List FdrRow) (r : FdrRow) (er 
       go true e = ap (λ l. noteRows s pass l m) (kept true e) ∙ rw (← (rw (e, noteIf) at en), noteRows)
       go false e = absurd (noted-false m m′ (rw (e, noteIf) at en))
 
-  pub rows-next : noted true m′ ≡ noteIf fires (noteRow s pass r m) m → noteRows s pass (keep (λ r. fdrAllTrue s (r .conditions)) rows) m ≡ noteRows s pass (keep (λ r. fdrAllTrue s (r .conditions)) rest) m′
+  pub rows-next :
+      noted true m′ ≡ noteIf fires (noteRow s pass r m) m
+      → noteRows s pass (keep (λ r. fdrAllTrue s (r .conditions)) rows) m ≡ noteRows s pass (keep (λ r. fdrAllTrue s (r .conditions)) rest) m′
   unfolding noteRows noteIf noted
   rows-next en = go fires refl
     where
-      go : (b : Bool) → fires ≡ b → noteRows s pass (keep (λ r. fdrAllTrue s (r .conditions)) rows) m ≡ noteRows s pass (keep (λ r. fdrAllTrue s (r .conditions)) rest) m′
+      go :
+          (b : Bool) → fires ≡ b
+          → noteRows s pass (keep (λ r. fdrAllTrue s (r .conditions)) rows) m ≡ noteRows s pass (keep (λ r. fdrAllTrue s (r .conditions)) rest) m′
       go true e = ap (λ l. noteRows s pass l m) (kept true e) ∙ rw (← (rw (e, noteIf) at en), noteRows)
       go false e = ap (λ l. noteRows s pass l m) (kept false e) ∙ rw (noted-true m m′ (rw (e, noteIf) at en))
 
-pub rows-end : (s : List ℕ) (pass : ℕ) (rows : List FdrRow) (m : List ℕ) → rows ≡ [] → noteRows s pass (keep (λ r. fdrAllTrue s (r .conditions)) rows) m ≡ noted true m
+pub rows-end :
+    (s : List ℕ) (pass : ℕ) (rows : List FdrRow) (m : List ℕ) → rows ≡ []
+    → noteRows s pass (keep (λ r. fdrAllTrue s (r .conditions)) rows) m ≡ noted true m
 unfolding noteRows keep noted
 rows-end s pass rows m e = rw e
 
-pub low-row : (n : ℕ) (rows rest : List FdrRow) (r : FdrRow) → rows ≡ r ∷ rest → all (λ r. ltb (r .variable) n) rows ≡ true → (r .variable < n) × (all (λ r. ltb (r .variable) n) rest ≡ true)
+pub low-row :
+    (n : ℕ) (rows rest : List FdrRow) (r : FdrRow) → rows ≡ r ∷ rest → all (λ r. ltb (r .variable) n) rows ≡ true
+    → (r .variable < n) × (all (λ r. ltb (r .variable) n) rest ≡ true)
 unfolding all
 low-row n rows rest r e h =
     let h′ = rw e at h in

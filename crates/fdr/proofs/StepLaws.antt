@@ -173,7 +173,8 @@ module _ (r : FdrRow) (rs : List FdrRow) (m m′ : List ℕ) where
           go false e = apart w (eqb-false w (r .variable) e)
 
       given : (q : FdrRow) → isSet q ≡ true → (q ≡ r) ⊎ List·Memᴰ q rs → getD m′ (q .variable) 0 ≡ q .value + 2
-      given q h (inl e) = subst (λ (z : FdrRow). getD m′ (z .variable) 0 ≡ z .value + 2) (sym e) (more .kept (r .variable) (λ z. let y = here in omega arith) ∙ here)
+      given q h (inl e) =
+          subst (λ (z : FdrRow). getD m′ (z .variable) 0 ≡ z .value + 2) (sym e) (more .kept (r .variable) (λ z. let y = here in omega arith) ∙ here)
       given q h (inr k) = more .given q k h
 
   -- a clear is passed over
@@ -228,7 +229,9 @@ module _ (s : List ℕ) (n : ℕ) where
       (record { size = refl; given = λ q mem h. absurd (List·Memᴰ·not-nil mem); kept = λ w f. refl; unset = λ w f. refl })
   sets-some (r ∷ rs) m m′ low size e = go (isSet r) refl (noteRow s 0 r m) refl (λ m₁ sz h. sets-some rs m₁ m′ (rows-later low) sz h)
     where
-      go : (b : Bool) → isSet r ≡ b → (o : Option (List ℕ)) → noteRow s 0 r m ≡ o → ((m₁ : List ℕ) → length m₁ ≡ n → noteRows s 0 rs m₁ ≡ some m′ → Sets rs m₁ m′) → Sets (r ∷ rs) m m′
+      go :
+          (b : Bool) → isSet r ≡ b → (o : Option (List ℕ)) → noteRow s 0 r m ≡ o
+          → ((m₁ : List ℕ) → length m₁ ≡ n → noteRows s 0 rs m₁ ≡ some m′ → Sets rs m₁ m′) → Sets (r ∷ rs) m m′
       go b h none f rec = some-none (sym (rw (f, noteRows) at e))
       go true h (some m₁) f rec =
           let one = set-noted (r .variable) (r .value) m (let z = rows-first low .0 in omega arith) m₁ (sym (row-set s r m h) ∙ f) in
@@ -249,7 +252,9 @@ module _ (s : List ℕ) (n : ℕ) where
       later-clash c = record { r = c .r; q = c .q; r-in = List·Memᴰ·tail (c .r-in); q-in = List·Memᴰ·tail (c .q-in); hit = c .hit }
 
       -- a later set that is in conflict with r, or with what was noted before
-      late : (m₁ : List ℕ) → isSet r ≡ true → SetNoted (r .variable) (r .value) m m₁ → (l : Late rs m₁) → (b : Bool) → eqb (l .r .variable) (r .variable) ≡ b → Late (r ∷ rs) m ⊎ Clash (r ∷ rs)
+      late :
+          (m₁ : List ℕ) → isSet r ≡ true → SetNoted (r .variable) (r .value) m m₁ → (l : Late rs m₁) → (b : Bool)
+          → eqb (l .r .variable) (r .variable) ≡ b → Late (r ∷ rs) m ⊎ Clash (r ∷ rs)
       late m₁ h one l true p =
           let here : getD m₁ (l .r .variable) 0 ≡ r .value + 2 = one .at (l .r .variable) ∙ rw p in
           inr
@@ -279,7 +284,9 @@ module _ (s : List ℕ) (n : ℕ) where
       same (inl l) = inl (record { r = l .r; r-in = List·Memᴰ·tail (l .r-in); set = l .set; noted-before = l .noted-before; other = l .other })
       same (inr c) = inr (later-clash c)
 
-      go : (b : Bool) → isSet r ≡ b → (o : Option (List ℕ)) → noteRow s 0 r m ≡ o → ((m₁ : List ℕ) → length m₁ ≡ n → noteRows s 0 rs m₁ ≡ none → Late rs m₁ ⊎ Clash rs) → Late (r ∷ rs) m ⊎ Clash (r ∷ rs)
+      go :
+          (b : Bool) → isSet r ≡ b → (o : Option (List ℕ)) → noteRow s 0 r m ≡ o
+          → ((m₁ : List ℕ) → length m₁ ≡ n → noteRows s 0 rs m₁ ≡ none → Late rs m₁ ⊎ Clash rs) → Late (r ∷ rs) m ⊎ Clash (r ∷ rs)
       go true h none f rec =
           let bad = set-refused (r .variable) (r .value) m inside (sym (row-set s r m h) ∙ f) in
           inl (record { r = r; r-in = List·Memᴰ·head refl; set = h; noted-before = bad .0; other = bad .1 })
@@ -302,7 +309,8 @@ flip : (a b : ℕ) → eqb a b ≡ eqb b a
 flip a b = same-bool (eqb a b) (eqb b a) (λ h. eq-eqb b a (sym (eqb-true a b h))) (λ h. eq-eqb a b (sym (eqb-true b a h)))
 
 -- a clear of the present value, or not
-cleared-first : (r : FdrRow) (rs : List FdrRow) (w y : ℕ) → isSet r ≡ false → cleared (r ∷ rs) w y ≡ ((eqb w (r .variable) && eqb y (r .value)) || cleared rs w y)
+cleared-first :
+    (r : FdrRow) (rs : List FdrRow) (w y : ℕ) → isSet r ≡ false → cleared (r ∷ rs) w y ≡ ((eqb w (r .variable) && eqb y (r .value)) || cleared rs w y)
 unfolding cleared any
 cleared-first r rs w y h = rw (h, flip (r .variable) w, flip (r .value) y)
 
@@ -331,7 +339,9 @@ module _ (s : List ℕ) (r : FdrRow) (rs : List FdrRow) (m m′ : List ℕ) wher
       free q h (inl e) z = one .free (subst (λ (x : FdrRow). getD m (x .variable) 0 ≡ x .value + 2) e z)
       free q h (inr k) z = more .free q k h (same (q .variable) (λ y. omega arith) ∙ z)
 
-      at : (w : ℕ) → getD m w 0 ≡ 0 → (b : Bool) → (eqb w (r .variable) && eqb (getD s w 0) (r .value)) ≡ b → getD m′ w 0 ≡ cond (cleared (r ∷ rs) w (getD s w 0)) 1 0
+      at :
+          (w : ℕ) → getD m w 0 ≡ 0 → (b : Bool) → (eqb w (r .variable) && eqb (getD s w 0) (r .value)) ≡ b
+          → getD m′ w 0 ≡ cond (cleared (r ∷ rs) w (getD s w 0)) 1 0
       at w z true p =
           let here : getD m₁ w 0 ≡ 1 = one .at w ∙ rw (eq-eqb (getD m w 0) 0 z, p) in
           more .kept w (λ y. omega arith) ∙ here ∙ sym (rw (cleared-first r rs w (getD s w 0) clear, p))
@@ -367,7 +377,9 @@ module _ (s : List ℕ) (n : ℕ) where
       (record { size = refl; free = λ q mem h. absurd (List·Memᴰ·not-nil mem); kept = λ w f. refl; at = λ w z. z })
   clears-some (r ∷ rs) m m′ low size e = go (isSet r) refl (noteRow s 1 r m) refl (λ m₁ sz h. clears-some rs m₁ m′ (rows-later s n low) sz h)
     where
-      go : (b : Bool) → isSet r ≡ b → (o : Option (List ℕ)) → noteRow s 1 r m ≡ o → ((m₁ : List ℕ) → length m₁ ≡ n → noteRows s 1 rs m₁ ≡ some m′ → Clears s rs m₁ m′) → Clears s (r ∷ rs) m m′
+      go :
+          (b : Bool) → isSet r ≡ b → (o : Option (List ℕ)) → noteRow s 1 r m ≡ o
+          → ((m₁ : List ℕ) → length m₁ ≡ n → noteRows s 1 rs m₁ ≡ some m′ → Clears s rs m₁ m′) → Clears s (r ∷ rs) m m′
       go b h none f rec = some-none (sym (rw (f, noteRows) at e))
       go false h (some m₁) f rec =
           let first = rows-first s n low in
@@ -405,9 +417,12 @@ module _ (s : List ℕ) (n : ℕ) where
           at true p = absurd (g (one .at w ∙ rw p))
           at false p = one .at w ∙ rw p
 
-      go : (b : Bool) → isSet r ≡ b → (o : Option (List ℕ)) → noteRow s 1 r m ≡ o → ((m₁ : List ℕ) → length m₁ ≡ n → noteRows s 1 rs m₁ ≡ none → Refused rs m₁) → Refused (r ∷ rs) m
+      go :
+          (b : Bool) → isSet r ≡ b → (o : Option (List ℕ)) → noteRow s 1 r m ≡ o
+          → ((m₁ : List ℕ) → length m₁ ≡ n → noteRows s 1 rs m₁ ≡ none → Refused rs m₁) → Refused (r ∷ rs) m
       go false h none f rec =
-          record { r = r; r-in = List·Memᴰ·head refl; clear = h; set = clear-refused s (r .variable) (r .value) m inside (sym (row-clear s r m h (first .1)) ∙ f) }
+          record
+          { r = r; r-in = List·Memᴰ·head refl; clear = h; set = clear-refused s (r .variable) (r .value) m inside (sym (row-clear s r m h (first .1)) ∙ f) }
       go true h none f rec = some-none (sym (row-not-clear s r m h) ∙ f)
       go false h (some m₁) f rec =
           let one = clear-noted s (r .variable) (r .value) m inside m₁ (sym (row-clear s r m h (first .1)) ∙ f) in

@@ -27,13 +27,21 @@ module _ (D : List Domain) (a : List ℕ) where
       pub atoms-many : mostAtoms < length a / 2 → false ≡ atomsRight D a
       unfolding atomsRight
       atoms-many h =
-          rw (eq-eqb (length a % 2) 0 even, le-leb 1 (length (placesIn a)) (omega (arith, places-length a)), lt-leb (length (placesIn a)) mostAtoms (omega (arith, places-length a)))
+          rw (
+            eq-eqb (length a % 2) 0 even,
+            le-leb 1 (length (placesIn a)) (omega (arith, places-length a)),
+            lt-leb (length (placesIn a)) mostAtoms (omega (arith, places-length a)),
+          )
 
       module _ (few : length a / 2 ≤ mostAtoms) where
         counted : atomsRight D a ≡ (all (placeRight D) (placesIn a) && eachGivenOnce D (placesIn a))
         unfolding atomsRight
         counted =
-            rw (eq-eqb (length a % 2) 0 even, le-leb 1 (length (placesIn a)) (omega (arith, places-length a)), le-leb (length (placesIn a)) mostAtoms (omega (arith, places-length a)))
+            rw (
+              eq-eqb (length a % 2) 0 even,
+              le-leb 1 (length (placesIn a)) (omega (arith, places-length a)),
+              le-leb (length (placesIn a)) mostAtoms (omega (arith, places-length a)),
+            )
 
         pub atoms-off : all (placeRight D) (placesIn a) ≡ false → false ≡ atomsRight D a
         atoms-off h = sym (counted ∙ rw h)

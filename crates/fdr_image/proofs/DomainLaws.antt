@@ -83,7 +83,9 @@ module _ (D : List Domain) (xs : List ℕ) (i : ℕ) (inD : i < length D) (in-xs
   pub values-high : (n x : ℕ) → n ≡ getD D i noDomain .values → x ≡ getD xs i 0 → n ≤ x → valuesRight (drop i D) (drop i xs) ≡ false
   values-high n x en ex h = values-here ∙ rw (← en, ← ex, le-ltb x n h)
 
-  pub values-on : (n x : ℕ) → n ≡ getD D i noDomain .values → x ≡ getD xs i 0 → x < n → valuesRight (drop i D) (drop i xs) ≡ valuesRight (drop (i + 1) D) (drop (i + 1) xs)
+  pub values-on :
+      (n x : ℕ) → n ≡ getD D i noDomain .values → x ≡ getD xs i 0 → x < n
+      → valuesRight (drop i D) (drop i xs) ≡ valuesRight (drop (i + 1) D) (drop (i + 1) xs)
   values-on n x en ex h = values-here ∙ rw (← en, ← ex, lt-ltb x n h)
 
 pub values-end : (D : List Domain) (xs : List ℕ) (i : ℕ) → length D ≤ i → length xs ≤ i → valuesRight (drop i D) (drop i xs) ≡ true

@@ -1,4 +1,5 @@
--- Each atom value has a rank of its own among the atom values of all variables; so each is given once exactly if the ranks of all atoms are all ranks, no one twice. Assumes nothing.
+-- Each atom value has a rank of its own among the atom values of all variables; so each is given once exactly if the ranks of all atoms are
+-- all ranks, no one twice. Assumes nothing.
 use mathlib.Core.Path.{_≡_, refl, sym, ap, _∙_, subst}
 use mathlib.Core.List.{List, [], _∷_, map}
 use mathlib.Core.Bool.{Bool, true, false, cond, _&&_}
@@ -94,7 +95,8 @@ module _ (D : List Domain) where
   count-given : (v x : ℕ) → x < size v → (P : List Place) → all (placeRight D) P ≡ true → count (valuesBefore D v + x) (map rank P) ≡ length (givenTo D P v x)
   unfolding count givenTo keep all
   count-given v x h [] a = refl
-  count-given v x h (p ∷ P) a = rw same (go (eqb (p .variable) v && eqb (p .value) x) refl (count-given v x h P (and-right (placeRight D p) (all (placeRight D) P) a)))
+  count-given v x h (p ∷ P) a =
+      rw same (go (eqb (p .variable) v && eqb (p .value) x) refl (count-given v x h P (and-right (placeRight D p) (all (placeRight D) P) a)))
     where
       right : (p .variable < length D) × (p .value < size (p .variable))
       right = right-in p (and-left (placeRight D p) (all (placeRight D) P) a)
@@ -110,7 +112,9 @@ module _ (D : List Domain) where
           let y = eqb-true (p .value) x (and-right (eqb (p .variable) v) (eqb (p .value) x) e) in
           omega arith))
 
-      go : (b : Bool) → (eqb (p .variable) v && eqb (p .value) x) ≡ b → count (valuesBefore D v + x) (map rank P) ≡ length (givenTo D P v x) → cond (eqb (p .variable) v && eqb (p .value) x) 1 0 + count (valuesBefore D v + x) (map rank P) ≡ length (givenTo D (p ∷ P) v x)
+      go :
+          (b : Bool) → (eqb (p .variable) v && eqb (p .value) x) ≡ b → count (valuesBefore D v + x) (map rank P) ≡ length (givenTo D P v x)
+          → cond (eqb (p .variable) v && eqb (p .value) x) 1 0 + count (valuesBefore D v + x) (map rank P) ≡ length (givenTo D (p ∷ P) v x)
       go true e rec = rw (e, givenTo, keep) (omega arith)
       go false e rec = rw (e, givenTo, keep) (omega arith)
 
@@ -136,8 +140,12 @@ module _ (D : List Domain) where
     unfolding eachGivenOnce total
     each-of e k h =
         let r = rank-of (length D) k h in
-        let given = below-at (λ x. eqb (length (givenTo D P (r .v) x)) 1) (size (r .v)) (below-at (λ v. all (λ x. eqb (length (givenTo D P v x)) 1) (below (size v))) (length D) e (r .v) (r .low)) (r .x) (r .inside) in
-        ap (λ (j : ℕ). count j (map rank P)) (r .same) ∙ count-given (r .v) (r .x) (r .inside) P (placed .right) ∙ eqb-true (length (givenTo D P (r .v) (r .x))) 1 given
+        let given =
+        below-at (λ x. eqb (length (givenTo D P (r .v) x)) 1) (size (r .v))
+        (below-at (λ v. all (λ x. eqb (length (givenTo D P v x)) 1) (below (size v))) (length D) e (r .v) (r .low)) (r .x) (r .inside) in
+        ap (λ (j : ℕ). count j (map rank P)) (r .same)
+        ∙ count-given (r .v) (r .x) (r .inside) P (placed .right)
+        ∙ eqb-true (length (givenTo D P (r .v) (r .x))) 1 given
 
     of-each : ((k : ℕ) → k < total → count k (map rank P) ≡ 1) → eachGivenOnce D P ≡ true
     unfolding eachGivenOnce total
@@ -171,7 +179,10 @@ module _ (D : List Domain) (s : List ℕ) (begin : (v : ℕ) → v < length D �
   unfolding all
   starts-rank [] a = refl
   starts-rank (p ∷ P) a =
-      rw (begin (p .variable) (right-in D p (and-left (placeRight D p) (all (placeRight D) P) a) .0), starts-rank P (and-right (placeRight D p) (all (placeRight D) P) a))
+      rw (
+        begin (p .variable) (right-in D p (and-left (placeRight D p) (all (placeRight D) P) a) .0),
+        starts-rank P (and-right (placeRight D p) (all (placeRight D) P) a),
+      )
 
   module _ (w : List ℕ) (placed : AllPlaced D (placesIn w)) (full : valuesBefore D (length D) ≡ length (placesIn w)) where
     pub starts-given : allNew noMarks (ranksIn s w) ≡ eachGivenOnce D (placesIn w)
@@ -181,7 +192,9 @@ module _ (D : List Domain) (s : List ℕ) (begin : (v : ℕ) → v < length D �
     starts-ranked size = record { starts = size; variable = variable; rank = ranked }
       where
         here : (i : ℕ) → i < length w / 2 → placeRight D (place (getD w (2 * i) 0) (getD w (2 * i + 1) 0)) ≡ true
-        here i h = subst (λ (p : Place). placeRight D p ≡ true) (places-at w i (place 0 0) h) (all-at (placeRight D) (placed .right) (getD-mem (placesIn w) i (place 0 0) (omega (arith, places-length w))))
+        here i h =
+            subst (λ (p : Place). placeRight D p ≡ true) (places-at w i (place 0 0) h)
+            (all-at (placeRight D) (placed .right) (getD-mem (placesIn w) i (place 0 0) (omega (arith, places-length w))))
 
         variable : (i : ℕ) → i < length w / 2 → getD w (2 * i) 0 < mostAtoms
         variable i h = let z = right-in D (place (getD w (2 * i) 0) (getD w (2 * i + 1) 0)) (here i h) .0 in let y = placed .variables in omega arith
@@ -195,9 +208,17 @@ module _ (D : List Domain) (s : List ℕ) (begin : (v : ℕ) → v < length D �
             let v = z .1 in
             omega arith
 
-pub rank-at : (s w : List ℕ) (i v x b : ℕ) → i < length w / 2 → v ≡ getD w (2 * i) 0 → x ≡ getD w (2 * i + 1) 0 → b ≡ getD s v 0 → b + x ≡ getD (ranksIn s w) i 0
+pub rank-at :
+    (s w : List ℕ) (i v x b : ℕ) → i < length w / 2 → v ≡ getD w (2 * i) 0 → x ≡ getD w (2 * i + 1) 0 → b ≡ getD s v 0
+    → b + x ≡ getD (ranksIn s w) i 0
 rank-at s w i v x b h ev ex eb =
-    rw (getD-map-low (λ p. getD s (p .variable) 0 + p .value) (placesIn w) i (place 0 0) 0 (omega (arith, places-length w)), places-at w i (place 0 0) h, eb, ← ev, ← ex)
+    rw (
+      getD-map-low (λ p. getD s (p .variable) 0 + p .value) (placesIn w) i (place 0 0) 0 (omega (arith, places-length w)),
+      places-at w i (place 0 0) h,
+      eb,
+      ← ev,
+      ← ex,
+    )
 
 pub ranks-length : (s w : List ℕ) → length (ranksIn s w) ≡ length w / 2
 ranks-length s w = length-map (placesIn w) (λ p. getD s (p .variable) 0 + p .value) ∙ places-length w
@@ -227,5 +248,7 @@ before-over D v a n h ea l =
 pub before-end : (D : List Domain) (v a n : ℕ) → v ≡ length D → a ≡ valuesBefore D v → eqb a n ≡ eqb (valuesBefore D (length D)) n
 before-end D v a n h ea = rw (← h, ea)
 
-pub rank-low : (s w : List ℕ) → Ranked w s → (i v x b : ℕ) → i < length w / 2 → v ≡ getD w (2 * i) 0 → x ≡ getD w (2 * i + 1) 0 → b ≡ getD s v 0 → b + x < mostAtoms
+pub rank-low :
+    (s w : List ℕ) → Ranked w s → (i v x b : ℕ) → i < length w / 2 → v ≡ getD w (2 * i) 0 → x ≡ getD w (2 * i + 1) 0 → b ≡ getD s v 0
+    → b + x < mostAtoms
 rank-low s w r i v x b h ev ex eb = rw (eb, ev, ex) (r .rank i h)

@@ -14,7 +14,8 @@ use Rattle.definitions.specs.Literal.{mostAtoms}
 use Rattle.definitions.specs.Image.{mostOperators, part, directory}
 use Rattle.definitions.specs.Groups.{Domain, Place}
 use Rattle.definitions.specs.Fdr.{FdrOperator, FdrTask, noDomain, atomValues}
-use Rattle.definitions.specs.FdrImage.{mostFdrImage, domainsIn, placesIn, literalsIn, fdrOperatorOf, isAtomValue, placeRight, fdrLiteralRight, fdrOperatorRight, eachGivenOnce, readFdrOperators, valuesRight, readFdr}
+use Rattle.definitions.specs.FdrImage.{mostFdrImage, domainsIn, placesIn, literalsIn, fdrOperatorOf, isAtomValue, placeRight}
+use Rattle.definitions.specs.FdrImage.{fdrLiteralRight, fdrOperatorRight, eachGivenOnce, readFdrOperators, valuesRight, readFdr}
 use Rattle.definitions.specs.FdrStep.{noFdrOperator}
 use Rattle.definitions.proofs.ListLaws.{never, and-left, and-right, all-at}
 use Rattle.definitions.proofs.ListLaws.{getD-mem, getD-map-low}
@@ -24,7 +25,8 @@ use Rattle.directory.specs.Directory.{Lies}
 use Rattle.directory.proofs.Laws.{directory-lies, directory-short}
 use Rattle.definitions.proofs.AnswerLaws.{not-finding}
 use Rattle.fdr_image.specs.Reads.{fdrIn, fdrOf, ReadsFdr}
-use Rattle.fdr_image.specs.Walk.{place, blockRight, someOperator, operatorOr, blockParses, operatorIn, countsRight, domainsRight, atomsRight, goalRight, operatorsRight, rulesRight, restRight, partsRight, fdrRight}
+use Rattle.fdr_image.specs.Walk.{place, blockRight, someOperator, operatorOr, blockParses, operatorIn, countsRight, domainsRight}
+use Rattle.fdr_image.specs.Walk.{atomsRight, goalRight, operatorsRight, rulesRight, restRight, partsRight, fdrRight}
 use Rattle.fdr_image.specs.Post.{Laid, BlockGiven}
 use Rattle.fdr_image.proofs.Pairs.{domains-length}
 use Rattle.fdr_image.proofs.Below.{below-at, below-getD}
@@ -41,7 +43,9 @@ module _ {A : Type 0} where
   ask-and true c k t e = e
   ask-and false c k t e = refl
 
-  ask-three : (a b c d : Bool) (k t : Answer A) → k ≡ orRefuse d t → (ask 17 a >>= λ _. ask 17 b >>= λ _. ask 17 c >>= λ _. k) ≡ orRefuse ((a && (b && c)) && d) t
+  ask-three :
+      (a b c d : Bool) (k t : Answer A) → k ≡ orRefuse d t
+      → (ask 17 a >>= λ _. ask 17 b >>= λ _. ask 17 c >>= λ _. k) ≡ orRefuse ((a && (b && c)) && d) t
   unfolding ask askAt _>>=_ orRefuse refuse
   ask-three true true true d k t e = e
   ask-three true true false d k t e = refl
@@ -61,7 +65,9 @@ operatorThere w i = operatorIn (part w (i + 4))
 abbrev pub blockThere : (D : List Domain) (w : List ℕ) (i : ℕ) → Bool
 blockThere D w i = blockRight D (fdrOperatorOf (part w (i + 4)))
 
-read-operators : (D : List Domain) (w : List ℕ) (i k : ℕ) → readFdrOperators D w i k ≡ orRefuse (all (blockThere D w) (range i k)) (finding (map (operatorThere w) (range i k)))
+read-operators :
+    (D : List Domain) (w : List ℕ) (i k : ℕ)
+    → readFdrOperators D w i k ≡ orRefuse (all (blockThere D w) (range i k)) (finding (map (operatorThere w) (range i k)))
 unfolding readFdrOperators orRefuse all range operatorIn blockRight operatorOr
 read-operators D w i zero = refl
 read-operators D w i (suc k) = go (fdrOperatorOf (part w (i + 4))) refl (read-operators D w (suc i) k)
@@ -69,8 +75,11 @@ read-operators D w i (suc k) = go (fdrOperatorOf (part w (i + 4))) refl (read-op
     more : Bool
     more = all (blockThere D w) (range (suc i) k)
 
-    go : (q : Option FdrOperator) → fdrOperatorOf (part w (i + 4)) ≡ q → readFdrOperators D w (suc i) k ≡ orRefuse more (finding (map (operatorThere w) (range (suc i) k)))
-        → readFdrOperators D w i (suc k) ≡ orRefuse (blockRight D (fdrOperatorOf (part w (i + 4))) && more) (finding (operatorOr (fdrOperatorOf (part w (i + 4))) ∷ map (operatorThere w) (range (suc i) k)))
+    go :
+        (q : Option FdrOperator) → fdrOperatorOf (part w (i + 4)) ≡ q
+        → readFdrOperators D w (suc i) k ≡ orRefuse more (finding (map (operatorThere w) (range (suc i) k)))
+        → readFdrOperators D w i (suc k) ≡ orRefuse (blockRight D (fdrOperatorOf (part w (i + 4))) && more)
+        (finding (operatorOr (fdrOperatorOf (part w (i + 4))) ∷ map (operatorThere w) (range (suc i) k)))
     go none e rec = rw (e, readFdrOperators)
     go (some o) e rec =
         rw (e, readFdrOperators)
@@ -97,7 +106,8 @@ read-right w =
     (ask-and (valuesRight D (part w 2)) _ _ t
     (ask-three (eqb (length (part w 1) % 2) 0 && leb 1 (length P) && leb (length P) mostAtoms) (all (placeRight D) P) (eachGivenOnce D P) _ _ t
     (ask-and (eqb (length (part w 3) % 2) 0 && all (fdrLiteralRight D) (literalsIn (part w 3))) (operatorsRight D w (getD w 1 0)) _ t
-    (found-and (operatorsRight D w (getD w 1 0)) (readFdrOperators D w 0 (getD w 1 0)) (map (operatorThere w) (range 0 (getD w 1 0))) (λ os. record { domains = D; atoms = P; initial = part w 2; goal = literalsIn (part w 3); operators = os })
+    (found-and (operatorsRight D w (getD w 1 0)) (readFdrOperators D w 0 (getD w 1 0)) (map (operatorThere w) (range 0 (getD w 1 0)))
+    (λ os. record { domains = D; atoms = P; initial = part w 2; goal = literalsIn (part w 3); operators = os })
     (read-operators D w 0 (getD w 1 0))))))))
   where
     D : List Domain
@@ -197,11 +207,16 @@ module _ (w : List ℕ) (h : countsRight w ≡ true) where
 
   pub few-variables : getD w 0 0 ≤ mostAtoms
   unfolding countsRight variables operators
-  few-variables = leb-true variables mostAtoms (and-right (leb (length w) mostFdrImage && leb 1 variables) (leb variables mostAtoms) (and-left (leb (length w) mostFdrImage && leb 1 variables && leb variables mostAtoms) (leb operators mostOperators) h))
+  few-variables =
+      leb-true variables mostAtoms
+      (and-right (leb (length w) mostFdrImage && leb 1 variables) (leb variables mostAtoms)
+      (and-left (leb (length w) mostFdrImage && leb 1 variables && leb variables mostAtoms) (leb operators mostOperators) h))
 
   pub few-operators : getD w 1 0 ≤ mostOperators
   unfolding countsRight variables operators
-  few-operators = leb-true operators mostOperators (and-right (leb (length w) mostFdrImage && leb 1 variables && leb variables mostAtoms) (leb operators mostOperators) h)
+  few-operators =
+      leb-true operators mostOperators
+      (and-right (leb (length w) mostFdrImage && leb 1 variables && leb variables mostAtoms) (leb operators mostOperators) h)
 
 pub domains-count : (n : ℕ) (d : List ℕ) → domainsRight n d ≡ true → length (domainsIn d) ≡ n
 unfolding domainsRight
@@ -214,8 +229,10 @@ unfolding atomsRight
 atoms-tests D a h =
     let P = placesIn a in
     let c = eqb (length a % 2) 0 && leb 1 (length P) in
-    let counted = and-left (c && leb (length P) mostAtoms) (all (placeRight D) P && eachGivenOnce D P) h in
-    (leb-true (length P) mostAtoms (and-right c (leb (length P) mostAtoms) counted), and-left (all (placeRight D) P) (eachGivenOnce D P) (and-right (c && leb (length P) mostAtoms) (all (placeRight D) P && eachGivenOnce D P) h))
+    let counted = and-left (c && leb (length P) mostAtoms) (all (placeRight D) P && eachGivenOnce D P) h in (
+      leb-true (length P) mostAtoms (and-right c (leb (length P) mostAtoms) counted),
+      and-left (all (placeRight D) P) (eachGivenOnce D P) (and-right (c && leb (length P) mostAtoms) (all (placeRight D) P && eachGivenOnce D P) h),
+    )
 
 module _ (w : List ℕ) (r : ReadsFdr w) where
   read : FdrRead w
@@ -263,7 +280,9 @@ module _ (w : List ℕ) (r : ReadsFdr w) where
   variable-low a h =
       let D = fdrOf w .domains in
       let p = getD (fdrOf w .atoms) a (place 0 0) in
-      ltb-true (p .variable) (length D) (and-left (ltb (p .variable) (length D)) (ltb (p .value) (atomValues (getD D (p .variable) noDomain))) (all-at (placeRight D) places-right (getD-mem (fdrOf w .atoms) a (place 0 0) h)))
+      ltb-true (p .variable) (length D)
+      (and-left (ltb (p .variable) (length D)) (ltb (p .value) (atomValues (getD D (p .variable) noDomain)))
+      (all-at (placeRight D) places-right (getD-mem (fdrOf w .atoms) a (place 0 0) h)))
 
   -- the block of an operator
   pub block-given : (i : ℕ) → i < length (fdrOf w .operators) → (b : List ℕ) → b ≡ part w (i + 4) → BlockGiven b (fdrOf w) i
@@ -277,7 +296,9 @@ module _ (w : List ℕ) (r : ReadsFdr w) where
       operator-at : (i k : ℕ) → i < k → operatorIn (part w (i + 4)) ≡ getD (map (operatorThere w) (below k)) i noFdrOperator
       operator-at i k h = sym (getD-map-low (operatorThere w) (below k) i 0 noFdrOperator (rw (below-count k) h) ∙ ap (operatorThere w) (below-getD k i h))
 
-      given : (b : List ℕ) → blockRight (domainsIn (part w 0)) (fdrOperatorOf b) ≡ true → operatorIn b ≡ getD (fdrThere w .operators) i noFdrOperator → BlockGiven b (fdrThere w) i
+      given :
+          (b : List ℕ) → blockRight (domainsIn (part w 0)) (fdrOperatorOf b) ≡ true → operatorIn b ≡ getD (fdrThere w .operators) i noFdrOperator
+          → BlockGiven b (fdrThere w) i
       given b h e = let z = block-some (domainsIn (part w 0)) b h in record { parses = z .0; operator = e; right = z .1 }
 
 -- ---- the tests by the code's own values

@@ -16,7 +16,8 @@ use Rattle.definitions.specs.Groups.{Domain}
 use Rattle.definitions.specs.Fdr.{FdrLiteral, FdrRow, FdrOperator}
 use Rattle.definitions.specs.FdrImage.{literalsIn, isAtomValue, fdrLiteralRight, fdrRowRight, fdrOperatorRight, fdrRowsOf, fdrRestOf, fdrOperatorOf}
 use Rattle.definitions.proofs.ListLaws.{never}
-use Rattle.fdr_image.specs.Walk.{wholeRow, kindOf, row, rowsRight, blockRight, someRows, rowsOr, parsesAt, rowsAt, someOperator, operatorOr, blockParses, operatorIn}
+use Rattle.fdr_image.specs.Walk.{wholeRow, kindOf, row, rowsRight, blockRight, someRows, rowsOr, parsesAt, rowsAt, someOperator}
+use Rattle.fdr_image.specs.Walk.{operatorOr, blockParses, operatorIn}
 use Rattle.fdr_image.specs.Post.{RowAt, RowRead, BlockRead}
 use Rattle.fdr_image.specs.declared.block.Kind.the-variants.{Set, Clear, Other}
 
@@ -72,7 +73,16 @@ drop-four b p h =
     let h₂ : suc p < length b = omega arith in
     let h₃ : suc (suc p) < length b = omega arith in
     let h₄ : suc (suc (suc p)) < length b = omega arith in
-    rw (add-one, add-two, add-three, add-four, drop-cons b p 0 h₁, drop-cons b (suc p) 0 h₂, drop-cons b (suc (suc p)) 0 h₃, drop-cons b (suc (suc (suc p))) 0 h₄)
+    rw (
+      add-one,
+      add-two,
+      add-three,
+      add-four,
+      drop-cons b p 0 h₁,
+      drop-cons b (suc p) 0 h₂,
+      drop-cons b (suc (suc p)) 0 h₃,
+      drop-cons b (suc (suc (suc p))) 0 h₄,
+    )
 
 short-none : (k : ℕ) (l : List ℕ) → length l < 4 → fdrRowsOf (suc k) l ≡ none
 unfolding fdrRowsOf
@@ -87,11 +97,15 @@ module _ (k e v x c : ℕ) (xs : List ℕ) where
   unfolding fdrRowsOf
   past-none h = rw (lt-leb (2 * c) (length xs) h, fdrRowsOf)
 
-  next-row : 2 * c ≤ length xs → fdrRowsOf (suc k) (e ∷ (v ∷ (x ∷ (c ∷ xs)))) ≡ withRow (row e v x (literalsIn (take (2 * c) xs))) (fdrRowsOf k (drop (2 * c) xs))
+  next-row :
+      2 * c ≤ length xs
+      → fdrRowsOf (suc k) (e ∷ (v ∷ (x ∷ (c ∷ xs)))) ≡ withRow (row e v x (literalsIn (take (2 * c) xs))) (fdrRowsOf k (drop (2 * c) xs))
   unfolding fdrRowsOf withRow
   next-row h = rw (le-leb (2 * c) (length xs) h, fdrRowsOf) (go (fdrRowsOf k (drop (2 * c) xs)))
     where
-      go : (q : Option (List FdrRow)) → (elim q [ none ↦ none | some rs ↦ some (row e v x (literalsIn (take (2 * c) xs)) ∷ rs) ]) ≡ withRow (row e v x (literalsIn (take (2 * c) xs))) q
+      go :
+          (q : Option (List FdrRow)) → (elim q [ none ↦ none | some rs ↦ some (row e v x (literalsIn (take (2 * c) xs)) ∷ rs) ]) ≡ withRow
+          (row e v x (literalsIn (take (2 * c) xs))) q
       go none = refl
       go (some rs) = refl
 
@@ -100,14 +114,18 @@ module _ (b : List ℕ) (p k : ℕ) where
   rows-none : length b - p < 4 → fdrRowsOf (suc k) (drop p b) ≡ none
   rows-none h = short-none k (drop p b) (rw length-drop h)
 
-  module _ (e v x c : ℕ) (ee : e ≡ getD b p 0) (ev : v ≡ getD b (p + 1) 0) (ex : x ≡ getD b (p + 2) 0) (ec : c ≡ getD b (p + 3) 0) (four : p + 4 ≤ length b) where
+  module _
+      (e v x c : ℕ) (ee : e ≡ getD b p 0) (ev : v ≡ getD b (p + 1) 0) (ex : x ≡ getD b (p + 2) 0) (ec : c ≡ getD b (p + 3) 0)
+      (four : p + 4 ≤ length b) where
     words : drop p b ≡ e ∷ (v ∷ (x ∷ (c ∷ drop (p + 4) b)))
     words = rw (ee, ev, ex, ec) (drop-four b p four)
 
     rows-past : length b - (p + 4) < 2 * c → fdrRowsOf (suc k) (drop p b) ≡ none
     rows-past h = ap (fdrRowsOf (suc k)) words ∙ past-none k e v x c (drop (p + 4) b) (rw length-drop h)
 
-    rows-next : 2 * c ≤ length b - (p + 4) → fdrRowsOf (suc k) (drop p b) ≡ withRow (row e v x (literalsIn (take (2 * c) (drop (p + 4) b)))) (fdrRowsOf k (drop (p + 4 + 2 * c) b))
+    rows-next :
+        2 * c ≤ length b - (p + 4)
+        → fdrRowsOf (suc k) (drop p b) ≡ withRow (row e v x (literalsIn (take (2 * c) (drop (p + 4) b)))) (fdrRowsOf k (drop (p + 4 + 2 * c) b))
     rows-next h = ap (fdrRowsOf (suc k)) words ∙ next-row k e v x c (drop (p + 4) b) (rw length-drop h) ∙ rw drop-drop
 
 -- the tests of the walk, with k rows left at p
@@ -119,18 +137,24 @@ module _ (D : List Domain) (b : List ℕ) (p k : ℕ) (more : 0 < k) where
   unfolding rowsRight
   rows-short h = some-left ∙ rw (rows-none b p (k - 1) h)
 
-  module _ (e v x c : ℕ) (ee : e ≡ getD b p 0) (ev : v ≡ getD b (p + 1) 0) (ex : x ≡ getD b (p + 2) 0) (ec : c ≡ getD b (p + 3) 0) (four : p + 4 ≤ length b) where
+  module _
+      (e v x c : ℕ) (ee : e ≡ getD b p 0) (ev : v ≡ getD b (p + 1) 0) (ex : x ≡ getD b (p + 2) 0) (ec : c ≡ getD b (p + 3) 0)
+      (four : p + 4 ≤ length b) where
     rows-over : length b - (p + 4) < 2 * c → rowsRight D (fdrRowsOf k (drop p b)) ≡ false
     unfolding rowsRight
     rows-over h = some-left ∙ rw (rows-past b p (k - 1) e v x c ee ev ex ec four h)
 
-    module _ (fits : 2 * c ≤ length b - (p + 4)) (right : Bool) (er : right ≡ fdrRowRight D (row e v x (literalsIn (take (p + 4 + 2 * c - (p + 4)) (drop (p + 4) b))))) where
+    module _
+        (fits : 2 * c ≤ length b - (p + 4)) (right : Bool)
+        (er : right ≡ fdrRowRight D (row e v x (literalsIn (take (p + 4 + 2 * c - (p + 4)) (drop (p + 4) b))))) where
       here : rowsRight D (fdrRowsOf k (drop p b)) ≡ (right && rowsRight D (fdrRowsOf (k - 1) (drop (p + 4 + 2 * c) b)))
       here =
           some-left ∙ ap (rowsRight D) (rows-next b p (k - 1) e v x c ee ev ex ec four fits)
           ∙ (let z = add-sub-cancel-left (p + 4) (2 * c) in rw (er, z) (go (fdrRowsOf (k - 1) (drop (p + 4 + 2 * c) b))))
         where
-          go : (q : Option (List FdrRow)) → rowsRight D (withRow (row e v x (literalsIn (take (2 * c) (drop (p + 4) b)))) q) ≡ (fdrRowRight D (row e v x (literalsIn (take (2 * c) (drop (p + 4) b)))) && rowsRight D q)
+          go :
+              (q : Option (List FdrRow)) → rowsRight D (withRow (row e v x (literalsIn (take (2 * c) (drop (p + 4) b)))) q) ≡
+              (fdrRowRight D (row e v x (literalsIn (take (2 * c) (drop (p + 4) b)))) && rowsRight D q)
           go q = rows-with D (row e v x (literalsIn (take (2 * c) (drop (p + 4) b)))) q
 
       rows-off : right ≡ false → rowsRight D (fdrRowsOf k (drop p b)) ≡ false
@@ -205,7 +229,9 @@ withPrecondition : List FdrLiteral → Option (List FdrRow) → Option FdrOperat
 withPrecondition pre none = none
 withPrecondition pre (some rs) = some (record { precondition = pre; rows = rs })
 
-block-with : (D : List Domain) (pre : List FdrLiteral) (q : Option (List FdrRow)) → blockRight D (withPrecondition pre q) ≡ (all (fdrLiteralRight D) pre && rowsRight D q)
+block-with :
+    (D : List Domain) (pre : List FdrLiteral) (q : Option (List FdrRow))
+    → blockRight D (withPrecondition pre q) ≡ (all (fdrLiteralRight D) pre && rowsRight D q)
 unfolding blockRight withPrecondition rowsRight fdrOperatorRight
 block-with D pre none = sym (and-false (all (fdrLiteralRight D) pre))
 block-with D pre (some rs) = refl
@@ -229,10 +255,13 @@ rest-parse pre k xs = go (fdrRowsOf k xs)
     go none = refl
     go (some rs) = refl
 
-block-cons : (c k : ℕ) (xs : List ℕ) → 2 * c < length xs → k ≡ getD xs (2 * c) 0 → fdrOperatorOf (c ∷ xs) ≡ withPrecondition (literalsIn (take (2 * c) xs)) (fdrRowsOf k (drop (suc (2 * c)) xs))
+block-cons :
+    (c k : ℕ) (xs : List ℕ) → 2 * c < length xs → k ≡ getD xs (2 * c) 0
+    → fdrOperatorOf (c ∷ xs) ≡ withPrecondition (literalsIn (take (2 * c) xs)) (fdrRowsOf k (drop (suc (2 * c)) xs))
 unfolding fdrOperatorOf
 block-cons c k xs h ek =
-    rw (le-leb (2 * c) (length xs) (omega arith), fdrOperatorOf, drop-cons xs (2 * c) 0 h, ← ek) (rest-parse (literalsIn (take (2 * c) xs)) k (drop (suc (2 * c)) xs))
+    rw (le-leb (2 * c) (length xs) (omega arith), fdrOperatorOf, drop-cons xs (2 * c) 0 h, ← ek)
+    (rest-parse (literalsIn (take (2 * c) xs)) k (drop (suc (2 * c)) xs))
 
 block-parse : (b : List ℕ) (c k : ℕ) → c ≡ getD b 0 0 → 2 * c + 1 < length b → k ≡ getD b (2 * c + 1) 0
     → fdrOperatorOf b ≡ withPrecondition (literalsIn (take (2 * c) (drop 1 b))) (fdrRowsOf k (drop (2 * c + 2) b))

@@ -10,7 +10,8 @@ use Rattle.definitions.specs.Lists.{all, below}
 use Rattle.definitions.specs.Image.{mostOperators, part, directory}
 use Rattle.definitions.specs.Groups.{Domain, Place}
 use Rattle.definitions.specs.Fdr.{FdrLiteral, FdrRow, FdrOperator, noDomain, atomValues}
-use Rattle.definitions.specs.FdrImage.{mostFdrImage, domainsIn, placesIn, literalsIn, fdrRowsOf, fdrOperatorOf, placeRight, fdrLiteralRight, fdrRowRight, fdrOperatorRight, eachGivenOnce, valuesRight}
+use Rattle.definitions.specs.FdrImage.{mostFdrImage, domainsIn, placesIn, literalsIn, fdrRowsOf, fdrOperatorOf, placeRight, fdrLiteralRight}
+use Rattle.definitions.specs.FdrImage.{fdrRowRight, fdrOperatorRight, eachGivenOnce, valuesRight}
 use Rattle.definitions.specs.FdrStep.{noFdrOperator}
 use Rattle.fdr_image.specs.declared.block.Kind.{Kind}
 use Rattle.fdr_image.specs.declared.block.Kind.the-variants.{Set, Clear, Other}

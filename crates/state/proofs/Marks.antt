@@ -15,7 +15,8 @@ use Rattle.definitions.specs.Literal.{atom, positive, complement, literalList, 
 use Rattle.definitions.specs.Image.{Row, Operator, Task, initialState, rowRight, operatorRight}
 use Rattle.definitions.specs.Step.{fires, effects, conflict, after, result}
 use Rattle.definitions.specs.Closure.{has}
-use Rattle.definitions.proofs.ListLaws.{never, and-left, and-right, and-both, or-false-left, or-false-right, any-in, any-of, all-at, keep-of, member-in, member-of, map-of, table-at, table-length}
+use Rattle.definitions.proofs.ListLaws.{never, and-left, and-right, and-both, or-false-left, or-false-right, any-in, any-of, all-at}
+use Rattle.definitions.proofs.ListLaws.{keep-of, member-in, member-of, map-of, table-at, table-length}
 use Rattle.definitions.proofs.LiteralLaws.{Shape, is, isnt, shape, atom-even, atom-odd, complement-low}
 use Rattle.definitions.proofs.EncodeLaws.{same-bool}
 use Rattle.literal.specs.Mark.{markIf}
@@ -24,7 +25,9 @@ use Rattle.state.specs.Marks.{markFired, bothMarked, conflictIn, makeTru
 
 -- ---- marking
 -- one row of the walk, and the end
-pub fired-next : (s : List ℕ) (rows rest : List Row) (r : Row) (t : Bool) (m m′ : List ℕ) → rows ≡ r ∷ rest → t ≡ fires s r → m′ ≡ markIf t m (r .effect) → markFired s rows m ≡ markFired s rest m′
+pub fired-next :
+    (s : List ℕ) (rows rest : List Row) (r : Row) (t : Bool) (m m′ : List ℕ) → rows ≡ r ∷ rest → t ≡ fires s r → m′ ≡ markIf t m (r .effect)
+    → markFired s rows m ≡ markFired s rest m′
 fired-next s rows rest r t m m′ er et em = rw (er, em, et)
 
 pub fired-end : (s : List ℕ) (rows : List Row) (m : List ℕ) → rows ≡ [] → markFired s rows m ≡ m
@@ -49,7 +52,9 @@ set-has m e l h = go (eqb l e) refl
         ∙ sym (ap (λ (b : Bool). eqb (getD m l 0) 1 || b) p ∙ or-false (eqb (getD m l 0) 1))
 
 -- a mark is set where it was set before, or a row with that effect fires
-fired-has : (s : List ℕ) (rows : List Row) (m : List ℕ) (l : ℕ) → l < length m → has (markFired s rows m) l ≡ (has m l || member l (map (λ r. r .effect) (keep (fires s) rows)))
+fired-has :
+    (s : List ℕ) (rows : List Row) (m : List ℕ) (l : ℕ) → l < length m
+    → has (markFired s rows m) l ≡ (has m l || member l (map (λ r. r .effect) (keep (fires s) rows)))
 unfolding keep member any
 fired-has s [] m l h = sym (or-false (has m l))
 fired-has s (r ∷ rows) m l h = go (fires s r) refl (λ m h. fired-has s rows m l h)
@@ -57,7 +62,9 @@ fired-has s (r ∷ rows) m l h = go (fires s r) refl (λ m h. fired-has s rows m
     more : List ℕ
     more = map (λ q. q .effect) (keep (fires s) rows)
 
-    go : (b : Bool) → fires s r ≡ b → ((m : List ℕ) → l < length m → has (markFired s rows m) l ≡ (has m l || member l more)) → has (markFired s rows (markIf (fires s r) m (r .effect))) l ≡ (has m l || member l (map (λ q. q .effect) (keep (fires s) (r ∷ rows))))
+    go :
+        (b : Bool) → fires s r ≡ b → ((m : List ℕ) → l < length m → has (markFired s rows m) l ≡ (has m l || member l more))
+        → has (markFired s rows (markIf (fires s r) m (r .effect))) l ≡ (has m l || member l (map (λ q. q .effect) (keep (fires s) (r ∷ rows))))
     go true e rec =
         rw (e, keep)
         (rec (set m (r .effect) 1) (rw (length-set m (r .effect) 1) h)
@@ -126,7 +133,10 @@ touches m a rows = any (λ r. has m (r .effect) && eqb (atom (r .effect)) a) row
 
 -- the value that an atom gets where every marked effect on it gives value v
 module _ (m : List ℕ) (a v : ℕ) where
-  changed-at : (rows : List Row) (s : List ℕ) → a < length s → ((r : Row) → List·Memᴰ r rows → has m (r .effect) ≡ true → atom (r .effect) ≡ a → cond (positive (r .effect)) 1 0 ≡ v) → getD (changed m rows s) a 0 ≡ cond (touches m a rows) v (getD s a 0)
+  changed-at :
+      (rows : List Row) (s : List ℕ) → a < length s
+      → ((r : Row) → List·Memᴰ r rows → has m (r .effect) ≡ true → atom (r .effect) ≡ a → cond (positive (r .effect)) 1 0 ≡ v)
+      → getD (changed m rows s) a 0 ≡ cond (touches m a rows) v (getD s a 0)
   unfolding touches any
   changed-at [] s low gives = refl
   changed-at (r ∷ rows) s low gives = go (has m (r .effect)) refl (λ s low. changed-at rows s low (λ q k. gives q (List·Memᴰ·tail k)))
@@ -135,17 +145,25 @@ module _ (m : List ℕ) (a v : ℕ) where
       same true = refl
       same false = refl
 
-      hit : (b : Bool) → eqb (atom (r .effect)) a ≡ b → has m (r .effect) ≡ true → ((s : List ℕ) → a < length s → getD (changed m rows s) a 0 ≡ cond (touches m a rows) v (getD s a 0)) → getD (changed m rows (makeTrue true s (r .effect))) a 0 ≡ cond (eqb (atom (r .effect)) a || touches m a rows) v (getD s a 0)
+      hit :
+          (b : Bool) → eqb (atom (r .effect)) a ≡ b → has m (r .effect) ≡ true
+          → ((s : List ℕ) → a < length s → getD (changed m rows s) a 0 ≡ cond (touches m a rows) v (getD s a 0))
+          → getD (changed m rows (makeTrue true s (r .effect))) a 0 ≡ cond (eqb (atom (r .effect)) a || touches m a rows) v (getD s a 0)
       hit true e h rec =
           let p : atom (r .effect) ≡ a = eqb-true (atom (r .effect)) a e in
           let x : getD (set s (atom (r .effect)) (cond (positive (r .effect)) 1 0)) a 0 ≡ v =
-          ap (λ (k : ℕ). getD (set s k (cond (positive (r .effect)) 1 0)) a 0) p ∙ getD-set-same s a (cond (positive (r .effect)) 1 0) 0 low ∙ gives r (List·Memᴰ·head refl) h p in
+          ap (λ (k : ℕ). getD (set s k (cond (positive (r .effect)) 1 0)) a 0) p
+          ∙ getD-set-same s a (cond (positive (r .effect)) 1 0) 0 low
+          ∙ gives r (List·Memᴰ·head refl) h p in
           rec (makeTrue true s (r .effect)) (rw (make-length true s (r .effect)) low) ∙ rw (x, e) (same (touches m a rows))
       hit false e h rec =
           rec (makeTrue true s (r .effect)) (rw (make-length true s (r .effect)) low)
           ∙ rw (e, getD-set-other s (atom (r .effect)) a (cond (positive (r .effect)) 1 0) 0 (λ q. eqb-false (atom (r .effect)) a e (sym q)))
 
-      go : (b : Bool) → has m (r .effect) ≡ b → ((s : List ℕ) → a < length s → getD (changed m rows s) a 0 ≡ cond (touches m a rows) v (getD s a 0)) → getD (changed m rows (makeTrue (has m (r .effect)) s (r .effect))) a 0 ≡ cond ((has m (r .effect) && eqb (atom (r .effect)) a) || touches m a rows) v (getD s a 0)
+      go :
+          (b : Bool) → has m (r .effect) ≡ b → ((s : List ℕ) → a < length s → getD (changed m rows s) a 0 ≡ cond (touches m a rows) v (getD s a 0))
+          → getD (changed m rows (makeTrue (has m (r .effect)) s (r .effect))) a 0 ≡ cond
+          ((has m (r .effect) && eqb (atom (r .effect)) a) || touches m a rows) v (getD s a 0)
       go true h rec = rw h (hit (eqb (atom (r .effect)) a) refl h rec)
       go false h rec = rw h (rec s low)
 
@@ -162,7 +180,9 @@ unmarked-at (r ∷ rows) m l h = go (eqb l (r .effect)) refl (unmarked-at rows (
     same true = refl
     same false = refl
 
-    go : (b : Bool) → eqb l (r .effect) ≡ b → getD (unmarked rows (set m (r .effect) 0)) l 0 ≡ cond (member l es) 0 (getD (set m (r .effect) 0) l 0) → getD (unmarked rows (set m (r .effect) 0)) l 0 ≡ cond (eqb l (r .effect) || member l es) 0 (getD m l 0)
+    go :
+        (b : Bool) → eqb l (r .effect) ≡ b → getD (unmarked rows (set m (r .effect) 0)) l 0 ≡ cond (member l es) 0 (getD (set m (r .effect) 0) l 0)
+        → getD (unmarked rows (set m (r .effect) 0)) l 0 ≡ cond (eqb l (r .effect) || member l es) 0 (getD m l 0)
     go true e rest =
         let p : l ≡ r .effect = eqb-true l (r .effect) e in
         let q : getD (set m (r .effect) 0) l 0 ≡ 0 = rw (← p) (getD-set-same m l 0 0 h) in
@@ -347,7 +367,9 @@ true-at s (x ∷ xs) a h = go (eqb a x) refl (true-at (set s x 1) xs a (rw (leng
     same true = refl
     same false = refl
 
-    go : (b : Bool) → eqb a x ≡ b → getD (setTrue (set s x 1) xs) a 0 ≡ cond (member a xs) 1 (getD (set s x 1) a 0) → getD (setTrue (set s x 1) xs) a 0 ≡ cond (eqb a x || member a xs) 1 (getD s a 0)
+    go :
+        (b : Bool) → eqb a x ≡ b → getD (setTrue (set s x 1) xs) a 0 ≡ cond (member a xs) 1 (getD (set s x 1) a 0)
+        → getD (setTrue (set s x 1) xs) a 0 ≡ cond (eqb a x || member a xs) 1 (getD s a 0)
     go true e rest =
         let p : a ≡ x = eqb-true a x e in
         let q : getD (set s x 1) a 0 ≡ 1 = rw (← p) (getD-set-same s a 1 0 h) in

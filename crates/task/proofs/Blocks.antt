@@ -70,11 +70,15 @@ module _ (atoms i : ℕ) (ok : Bool) (b : List ℕ) (p k k′ : ℕ) (more : k �
   unfolding rowsVerdict refuse
   verdict-short h = rw (rows-short b p k k′ more h)
 
-  pub verdict-over : (c : ℕ) → c ≡ getD b (p + 1) 0 → p + 2 ≤ length b → length b - (p + 2) < c → refused (refusalAt 6 i 0) ≡ rowsVerdict atoms i ok (rowsOf k (drop p b))
+  pub verdict-over :
+      (c : ℕ) → c ≡ getD b (p + 1) 0 → p + 2 ≤ length b → length b - (p + 2) < c
+      → refused (refusalAt 6 i 0) ≡ rowsVerdict atoms i ok (rowsOf k (drop p b))
   unfolding rowsVerdict refuse
   verdict-over c ec two h = rw (rows-over b p k k′ more (getD b p 0) c refl ec two h)
 
-verdict-row : (atoms i : ℕ) (ok : Bool) (r : Row) (q : Option (List Row)) → rowsVerdict atoms i ok (withRow r q) ≡ rowsVerdict atoms i (ok && rowRight atoms r) q
+verdict-row :
+    (atoms i : ℕ) (ok : Bool) (r : Row) (q : Option (List Row))
+    → rowsVerdict atoms i ok (withRow r q) ≡ rowsVerdict atoms i (ok && rowRight atoms r) q
 unfolding rowsVerdict withRow all
 verdict-row atoms i ok r none = refl
 verdict-row atoms i ok r (some rs) = ap (askAt 7 i) (sym (and-assoc ok (rowRight atoms r) (all (rowRight atoms) rs)))
@@ -176,7 +180,9 @@ block-rest atoms i b c k first r ec h ef ek er = er ∙ rw (e₂, ef, e₁) (go 
     parse : operatorOf b ≡ withPrecondition (take c (drop 1 b)) (rowsOf k (drop (c + 2) b))
     parse = block-parse b c k ec h ek
 
-    go : (q : Option (List Row)) → rowsOf k (drop (c + 2) b) ≡ q → rowsVerdict atoms i (literalList atoms (take c (drop 1 b))) q ≡ verdict (readOperator atoms i b)
+    go :
+        (q : Option (List Row)) → rowsOf k (drop (c + 2) b) ≡ q
+        → rowsVerdict atoms i (literalList atoms (take c (drop 1 b))) q ≡ verdict (readOperator atoms i b)
     go none e = sym (verdict-none atoms i b (parse ∙ ap (withPrecondition (take c (drop 1 b))) e))
     go (some rs) e = sym (verdict-some atoms i b (record { precondition = take c (drop 1 b); rows = rs }) (parse ∙ ap (withPrecondition (take c (drop 1 b))) e))
 
@@ -211,7 +217,10 @@ module _ (b : List ℕ) (p k : ℕ) (ok : parsesAt b p k ≡ true) (more : 0 < k
     where
       go : (t : Bool) → leb (getD b (p + 1) 0) (length b - (p + 2)) ≡ t → getD b (p + 1) 0 ≤ length b - (p + 2)
       go true e = leb-true _ _ e
-      go false e = absurd (not-none (rows-over b p k (k - 1) more′ (getD b p 0) (getD b (p + 1) 0) refl refl row-room (leb-false (getD b (p + 1) 0) (length b - (p + 2)) e)))
+      go false e =
+          absurd
+          (not-none
+          (rows-over b p k (k - 1) more′ (getD b p 0) (getD b (p + 1) 0) refl refl row-room (leb-false (getD b (p + 1) 0) (length b - (p + 2)) e)))
 
   pub row-read : (e c : ℕ) → e ≡ getD b p 0 → c ≡ getD b (p + 1) 0 → e < 65536 → RowRead b p k e (p + 2) (p + 2 + c)
   unfolding parsesAt rowsAt

@@ -68,7 +68,9 @@ module _ (w : List ℕ) where
     counts-operators = leb-true M mostOperators (and-right (leb 1 N && leb N mostAtoms) (leb M mostOperators) h)
 
 -- ---- the operators, one before the next
-verdict-then : {A B D : Type 0} (m : Answer A) (k : Answer B) (f : A → B → D) → verdict m ≡ finding tt → verdict (m >>= λ a. k >>= λ b. finding (f a b)) ≡ verdict k
+verdict-then :
+    {A B D : Type 0} (m : Answer A) (k : Answer B) (f : A → B → D) → verdict m ≡ finding tt
+    → verdict (m >>= λ a. k >>= λ b. finding (f a b)) ≡ verdict k
 unfolding verdict _>>=_
 verdict-then (finding a) k f e = verdict-bind k (f a)
 verdict-then (refused r) k f e = absurd (not-finding e)
@@ -160,7 +162,9 @@ unfolding taskOf
 reads w e = record { found = found-is (readTask w) (sym e) }
 
 -- operators from operator i on, as they were read
-operators-read : (atoms : ℕ) (w : List ℕ) (k i : ℕ) (os : List Operator) → readOperators atoms w i k ≡ finding os → (length os ≡ k) × ((j : ℕ) → j < k → readOperator atoms (i + j) (part w (i + j + 2)) ≡ finding (getD os j noOperator))
+operators-read :
+    (atoms : ℕ) (w : List ℕ) (k i : ℕ) (os : List Operator) → readOperators atoms w i k ≡ finding os
+    → (length os ≡ k) × ((j : ℕ) → j < k → readOperator atoms (i + j) (part w (i + j + 2)) ≡ finding (getD os j noOperator))
 unfolding readOperators
 operators-read atoms w zero i os e = (ap length (sym (same-finding [] os e)), λ j h. absurd (omega arith))
 operators-read atoms w (suc k) i os e =
@@ -171,7 +175,10 @@ operators-read atoms w (suc k) i os e =
     (same-finding (p .0 ∷ q .0) os (q .2))
     (ap suc (rest .0), at (p .0) (q .0) (p .1) (rest .1))
   where
-    at : (o : Operator) (rs : List Operator) → readOperator atoms i (part w (i + 2)) ≡ finding o → ((j : ℕ) → j < k → readOperator atoms (suc i + j) (part w (suc i + j + 2)) ≡ finding (getD rs j noOperator)) → (j : ℕ) → j < suc k → readOperator atoms (i + j) (part w (i + j + 2)) ≡ finding (getD (o ∷ rs) j noOperator)
+    at :
+        (o : Operator) (rs : List Operator) → readOperator atoms i (part w (i + 2)) ≡ finding o
+        → ((j : ℕ) → j < k → readOperator atoms (suc i + j) (part w (suc i + j + 2)) ≡ finding (getD rs j noOperator)) → (j : ℕ) → j < suc k
+        → readOperator atoms (i + j) (part w (i + j + 2)) ≡ finding (getD (o ∷ rs) j noOperator)
     at o rs h t zero l = let z : i + 0 ≡ i = omega arith in rw z h
     at o rs h t (suc j) l = let z : i + suc j ≡ suc i + j = omega arith in rw z (t j (omega arith))
 
@@ -200,7 +207,9 @@ task-read w r =
     let q3 = bind-of (askAt 3 0 (directory w (operators + 2))) _ t (q2 .2) in
     let q4 = bind-of (askAt 4 0 (ascending (part w 0) && allBelow atoms (part w 0))) _ t (q3 .2) in
     let q5 = bind-of (askAt 5 0 (literalList atoms (part w 1))) _ t (q4 .2) in
-    let q6 = bind-of (readOperators atoms w 0 operators) (λ os. finding (record { atoms = atoms; initial = part w 0; goal = part w 1; operators = os })) t (q5 .2) in
+    let q6 =
+    bind-of (readOperators atoms w 0 operators) (λ os. finding (record { atoms = atoms; initial = part w 0; goal = part w 1; operators = os })) t
+    (q5 .2) in
     let x : Task = record { atoms = atoms; initial = part w 0; goal = part w 1; operators = q6 .0 } in
     let ops = operators-read atoms w operators 0 (q6 .0) (q6 .1) in
     let c = ask-of 2 0 (countsRight w) (q2 .0) (q2 .1) in

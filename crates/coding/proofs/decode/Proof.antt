@@ -63,7 +63,8 @@ returns-2 c =
     let v = c .before .before in
     let t = source-of v in
     outcome-of _ _ _ _ (c .refuse2 .ensures)
-    (codes-target _ _ _ _ _ _ (decode-codes _ _ _) (read-fine (t .before)) _ (t .is-state .ensures) (not-false _ (v .before .if1 .left)) _ (v .atoms .ensures .0) (c .before .if2 .taken))
+    (codes-target _ _ _ _ _ _ (decode-codes _ _ _) (read-fine (t .before)) _ (t .is-state .ensures) (not-false _ (v .before .if1 .left)) _
+    (v .atoms .ensures .0) (c .before .if2 .taken))
 
 write-requires : tie.Need-write-requires
 unfolding isFdrState
@@ -92,7 +93,8 @@ returns-4 c =
     let v = e .before in
     let t = source-of v in
     done _ _ _ (ap finding (d .write .ensures))
-    ∙ codes-rest _ _ _ _ _ _ (decode-codes _ _ _) (read-fine (t .before)) _ (t .is-state .ensures) (not-false _ (v .before .if1 .left)) _ (v .atoms .ensures .0) (e .if2 .left)
+    ∙ codes-rest _ _ _ _ _ _ (decode-codes _ _ _) (read-fine (t .before)) _ (t .is-state .ensures) (not-false _ (v .before .if1 .left)) _
+    (v .atoms .ensures .0) (e .if2 .left)
 
 pub decode-spec : {M : Type 1} → statement M
 decode-spec =

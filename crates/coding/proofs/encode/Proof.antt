@@ -77,7 +77,8 @@ returns-2 c =
     let v = c .before .before in
     let t = source-of v in
     outcome-of _ _ _ _ (c .refuse2 .ensures)
-    (codes-target _ _ _ _ _ _ (encode-codes _ _ _) (read-fine (fine-of t)) _ (is-right t) (not-false _ (v .before .if1 .left)) _ (v .variables .ensures .0) (c .before .if2 .taken))
+    (codes-target _ _ _ _ _ _ (encode-codes _ _ _) (read-fine (fine-of t)) _ (is-right t) (not-false _ (v .before .if1 .left)) _
+    (v .variables .ensures .0) (c .before .if2 .taken))
 
 encode-read-requires : tie.Need-encode-read-requires
 encode-read-requires c κs =
@@ -105,7 +106,8 @@ returns-4 c =
     let v = e .before in
     let t = source-of v in
     d .encode-read .ensures
-    ∙ codes-rest _ _ _ _ _ _ (encode-codes _ _ _) (read-fine (fine-of t)) _ (is-right t) (not-false _ (v .before .if1 .left)) _ (v .variables .ensures .0) (e .if2 .left)
+    ∙ codes-rest _ _ _ _ _ _ (encode-codes _ _ _) (read-fine (fine-of t)) _ (is-right t) (not-false _ (v .before .if1 .left)) _
+    (v .variables .ensures .0) (e .if2 .left)
 
 pub encode-spec : {M : Type 1} → statement M
 encode-spec =

@@ -41,11 +41,36 @@ shared-slice-read-wide c = search needs
 wide-requires : tie.Need-wide-requires Inv-loop μ-loop
 wide-requires c κs = search needs
 
+-- the places of the function
+abbrev at-start : tie.At-loop Inv-loop μ-loop → tie.Start Inv-loop μ-loop
+at-start c = c .before .before .before
+
+abbrev at-loop-of-loop : tie.After-loop Inv-loop μ-loop → tie.At-loop Inv-loop μ-loop
+at-loop-of-loop c = c .before
+
+abbrev at-loop-of-wide : tie.After-wide Inv-loop μ-loop → tie.At-loop Inv-loop μ-loop
+at-loop-of-wide c = c .before .before .before
+
+abbrev after-wide-of-then2 : tie.Then2 Inv-loop μ-loop → tie.After-wide Inv-loop μ-loop
+after-wide-of-then2 c = c .before
+
+abbrev at-start-from-then2 : tie.Then2 Inv-loop μ-loop → tie.Start Inv-loop μ-loop
+at-start-from-then2 c = at-start (at-loop-of-wide ((after-wide-of-then2 c)))
+
+abbrev after-wide-of-wide2 : tie.After-wide2 Inv-loop μ-loop → tie.After-wide Inv-loop μ-loop
+after-wide-of-wide2 c = c .before .before .before
+
+abbrev at-start-from-wide2 : tie.After-wide2 Inv-loop μ-loop → tie.Start Inv-loop μ-loop
+at-start-from-wide2 c = at-start (at-loop-of-wide ((after-wide-of-wide2 c)))
+
 returns-2 : tie.Need-returns-2 Inv-loop μ-loop
 returns-2 c =
-    let l = c .before .before .before .before .loop in
-    let a = c .before .before .before .before .before .before .before .args in
-    sym (l .inv .1 ∙ chained-off (a .image .now) (l .at) (a .pairs - l .i) (a .pairs - (l .i + 1)) (l .i) (omega arith) _ (c .before .wide .ensures .0) (c .if2 .taken))
+    let l = at-loop-of-wide (after-wide-of-then2 c) .loop in
+    let a = at-start-from-then2 c .args in
+    sym
+    (l .inv .1
+    ∙ chained-off (a .image .now) (l .at) (a .pairs - l .i) (a .pairs - (l .i + 1)) (l .i) (omega arith) _ (c .before .wide .ensures .0)
+    (c .if2 .taken))
 
 mul-wide-3 : tie.Need-mul-wide-3 Inv-loop μ-loop
 mul-wide-3 c = search needs
@@ -73,18 +98,19 @@ loop-less c = search needs
 
 loop-again : tie.Need-loop-again Inv-loop μ-loop
 loop-again c =
-    let at-loop = c .before .before .before .before .before .before in
+    let at-loop = at-loop-of-wide (after-wide-of-wide2 c) in
     let l = at-loop .loop in
-    let a = c .before .before .before .before .before .before .before .before .before .args in (
+    let a = at-start-from-wide2 c .args in (
       omega arith,
       l .inv .1
-          ∙ chained-on (a .image .now) (l .at) (a .pairs - l .i) (a .pairs - (l .i + 1)) (l .i) (omega arith) _ _ (c .before .before .before .wide .ensures .0) (c .wide2 .ensures .0) (c .before .before .if2 .left),
+          ∙ chained-on (a .image .now) (l .at) (a .pairs - l .i) (a .pairs - (l .i + 1)) (l .i) (omega arith) _ _
+          (c .before .before .before .wide .ensures .0) (c .wide2 .ensures .0) (c .before .before .if2 .left),
     )
 
 returns-3 : tie.Need-returns-3 Inv-loop μ-loop
 returns-3 c =
     let l = c .before .loop in
-    let a = c .before .before .before .before .args in
+    let a = at-start (at-loop-of-loop c) .args in
     sym (l .inv .1 ∙ chained-end (a .image .now) (l .i) (l .at) (a .pairs - l .i) (omega arith))
 
 pub is-directory-spec : {M : Type 1} → statement M

@@ -47,8 +47,15 @@ sub-result c = search needs
 part-result-start : tie.Need-part-result-start
 part-result-start c = search needs
 
+-- the places of the function
+abbrev at-start : tie.After-wide → tie.Start
+at-start c = c .before .before .before
+
+abbrev after-wide : tie.After-wide2 → tie.After-wide
+after-wide c = c .before .before
+
 part-result-end : tie.Need-part-result-end
-part-result-end c = omega (arith, end-within _ _ _ _ (c .before .before .before .before .before .pre) (c .before .before .wide .ensures .0) (c .wide2 .ensures .0))
+part-result-end c = omega (arith, end-within _ _ _ _ (at-start (after-wide c) .pre) (c .before .before .wide .ensures .0) (c .wide2 .ensures .0))
 
 returns : tie.Need-returns
 returns c = part-cut _ _ _ _ (c .before .before .before .wide .ensures .0) (c .before .wide2 .ensures .0)

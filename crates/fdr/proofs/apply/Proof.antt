@@ -57,8 +57,10 @@ same-length-2 c = search needs
 
 returns : tie.Need-returns
 returns c =
-    let n = noted-of (c .before .before) in
-    (outcome-of _ _ _ _ (c .refuse .ensures) (rows-refused _ _ _ _ (start n .pre) _ _ (n .note .ensures .0) (not-true _ (c .before .if1 .taken))), n .note .ensures .1)
+    let n = noted-of (c .before .before) in (
+      outcome-of _ _ _ _ (c .refuse .ensures) (rows-refused _ _ _ _ (start n .pre) _ _ (n .note .ensures .0) (not-true _ (c .before .if1 .taken))),
+      n .note .ensures .1,
+    )
 
 domains-requires : tie.Need-domains-requires
 domains-requires c κs = start (noted-of (c .before)) .pre .standing .reads

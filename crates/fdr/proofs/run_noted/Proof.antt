@@ -57,9 +57,16 @@ mul-step-noted c = search needs
 shared-slice-read-step-noted : tie.Need-shared-slice-read-step-noted Inv-loop μ-loop
 shared-slice-read-step-noted c = search needs
 
+-- the places of the function
+abbrev at-loop : tie.In-loop Inv-loop μ-loop → tie.At-loop Inv-loop μ-loop
+at-loop c = c .before
+
+abbrev in-loop : tie.After-step-noted-arg2 Inv-loop μ-loop → tie.In-loop Inv-loop μ-loop
+in-loop c = c .before .before .before
+
 step-noted-requires : tie.Need-step-noted-requires Inv-loop μ-loop
 step-noted-requires c κs =
-    let l = c .before .before .before .before in
+    let l = at-loop (in-loop c) in
     let s = start l in
     (record { reads = s .pre .0 .reads; size = l .loop .inv .0 .size ∙ s .pre .0 .size }, l .loop .inv .1 ∙ s .pre .1)
 

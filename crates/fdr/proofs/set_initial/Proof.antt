@@ -33,7 +33,8 @@ counted-of c = c .before .before
 fits : (c : tie.After-initial) → length (c .initial .result .now) ≡ length (start (read (counted-of c .before)) .args .state .now)
 fits c =
     let n = counted-of c in
-    initial-fits _ (read-fine (n .before)) (start (read (n .before)) .args .state .now) _ _ (n .variables .ensures .0) (c .before .if1 .left) (c .initial .ensures)
+    initial-fits _ (read-fine (n .before)) (start (read (n .before)) .args .state .now) _ _ (n .variables .ensures .0) (c .before .if1 .left)
+    (c .initial .ensures)
 
 read-requires : tie.Need-read-requires
 read-requires c κs = search needs
@@ -80,7 +81,8 @@ returns-3 c =
     let d = c .before .before in
     let i = d .before .before in
     let n = counted-of i in
-    start-done fdrReader _ _ _ (read-fine (n .before) .found) _ (n .variables .ensures .0) (i .before .if1 .left) _ (wrote-all (fits i) (d .words .ensures) ∙ i .initial .ensures)
+    start-done fdrReader _ _ _ (read-fine (n .before) .found) _ (n .variables .ensures .0) (i .before .if1 .left) _
+    (wrote-all (fits i) (d .words .ensures) ∙ i .initial .ensures)
 
 pub set-initial-spec : {M : Type 1} → statement M
 set-initial-spec =

@@ -45,8 +45,11 @@ refuse-requires c κs = search needs
 
 returns : tie.Need-returns
 returns c =
-    let n = c .before .before in
-    (outcome-of _ _ _ _ (c .refuse .ensures) (step-19 _ _ _ (omega (arith, n .operators .ensures .0, n .before .wide .ensures .0, c .before .if1 .taken))), refl)
+    let n = c .before .before in (
+      outcome-of _ _ _ _ (c .refuse .ensures)
+          (step-19 _ _ _ (omega (arith, n .operators .ensures .0, n .before .wide .ensures .0, c .before .if1 .taken))),
+      refl,
+    )
 
 operator-block-requires : tie.Need-operator-block-requires
 operator-block-requires c κs = search needs

@@ -39,14 +39,17 @@ wide-requires c κs = search needs
 
 are-operators-requires : tie.Need-are-operators-requires
 are-operators-requires c κs =
-    let s = start (tested c) in
-    (omega (arith, c .wide .ensures .0, few-operators _ (s .pre .laid .counts)), subst (λ (m : ℕ). directory (s .args .image .now) (m + 4) ≡ true) (sym (c .wide .ensures .0)) (s .pre .laid .directory))
+    let s = start (tested c) in (
+      omega (arith, c .wide .ensures .0, few-operators _ (s .pre .laid .counts)),
+      subst (λ (m : ℕ). directory (s .args .image .now) (m + 4) ≡ true) (sym (c .wide .ensures .0)) (s .pre .laid .directory),
+    )
 
 returns-2 : tie.Need-returns-2
 returns-2 c =
     let t = tested (c .before) in
     c .are-operators .ensures
-    ∙ rules-rest _ _ _ (t .before .part .ensures) (sym (t .is-goal .ensures) ∙ not-false _ (c .before .before .before .if1 .left)) _ (c .before .wide .ensures .0)
+    ∙ rules-rest _ _ _ (t .before .part .ensures) (sym (t .is-goal .ensures) ∙ not-false _ (c .before .before .before .if1 .left)) _
+    (c .before .wide .ensures .0)
 
 pub are-rules-spec : {M : Type 1} → statement M
 are-rules-spec =

@@ -16,7 +16,16 @@ variable-requires : tie.Need-variable-requires
 variable-requires c κs = omega (arith, c .before .before .pre .1, ap length (c .places .ensures))
 
 returns : tie.Need-returns
-returns c = (c .variable .ensures .0 ∙ ap (λ (P : List Place). getD P (c .before .before .before .args .atom) (place 0 0) .variable) (c .before .places .ensures), omega (arith, variable-low _ (c .before .before .before .pre .0) _ (c .before .before .before .pre .1), c .variable .ensures .0 ∙ ap (λ (P : List Place). getD P (c .before .before .before .args .atom) (place 0 0) .variable) (c .before .places .ensures)))
+returns c = (
+  c .variable .ensures .0
+      ∙ ap (λ (P : List Place). getD P (c .before .before .before .args .atom) (place 0 0) .variable) (c .before .places .ensures),
+  omega (
+    arith,
+    variable-low _ (c .before .before .before .pre .0) _ (c .before .before .before .pre .1),
+    c .variable .ensures .0
+        ∙ ap (λ (P : List Place). getD P (c .before .before .before .args .atom) (place 0 0) .variable) (c .before .places .ensures),
+  ),
+)
 
 pub atom-variable-spec : {M : Type 1} → statement M
 atom-variable-spec = tie.close (tie.spec places-requires variable-requires returns)

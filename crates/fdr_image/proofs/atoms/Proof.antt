@@ -11,7 +11,10 @@ places-requires : tie.Need-places-requires
 places-requires c κs = search needs
 
 returns : tie.Need-returns
-returns c = (sym (places-length (c .places .result .now)) ∙ ap length (c .places .ensures), omega (arith, few-atoms _ (c .before .before .pre), places-length (c .places .result .now), ap length (c .places .ensures)))
+returns c = (
+  sym (places-length (c .places .result .now)) ∙ ap length (c .places .ensures),
+  omega (arith, few-atoms _ (c .before .before .pre), places-length (c .places .result .now), ap length (c .places .ensures)),
+)
 
 pub atoms-spec : {M : Type 1} → statement M
 atoms-spec = tie.close (tie.spec places-requires returns)

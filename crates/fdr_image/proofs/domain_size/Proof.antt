@@ -16,7 +16,11 @@ size-requires c κs = omega (arith, c .before .before .pre .1, ap length (c .dom
 
 returns : tie.Need-returns
 unfolding domainAt
-returns c = (c .size .ensures .0 ∙ ap (λ (D : List Domain). getD D (c .before .before .before .args .variable) noDomain .values) (c .before .domains .ensures), c .size .ensures .1)
+returns c = (
+  c .size .ensures .0
+      ∙ ap (λ (D : List Domain). getD D (c .before .before .before .args .variable) noDomain .values) (c .before .domains .ensures),
+  c .size .ensures .1,
+)
 
 pub domain-size-spec : {M : Type 1} → statement M
 domain-size-spec = tie.close (tie.spec domains-requires size-requires returns)

@@ -43,7 +43,8 @@ returns-2 : tie.Need-returns-2
 returns-2 c =
     let a = c .before in
     let e = initial a in
-    rest-atoms _ _ _ (e .before .before .part .ensures) (initial-right e) _ (a .before .part2 .ensures) (sym (a .are-atoms .ensures) ∙ not-true _ (c .if2 .taken))
+    rest-atoms _ _ _ (e .before .before .part .ensures) (initial-right e) _ (a .before .part2 .ensures)
+    (sym (a .are-atoms .ensures) ∙ not-true _ (c .if2 .taken))
 
 are-rules-requires : tie.Need-are-rules-requires
 are-rules-requires c κs = start (initial (c .before) .before) .pre
@@ -53,7 +54,8 @@ returns-3 c =
     let a = c .before .before in
     let e = initial a in
     c .are-rules .ensures
-    ∙ rest-rules _ _ _ (e .before .before .part .ensures) (initial-right e) _ (a .before .part2 .ensures) (sym (a .are-atoms .ensures) ∙ not-false _ (c .before .if2 .left))
+    ∙ rest-rules _ _ _ (e .before .before .part .ensures) (initial-right e) _ (a .before .part2 .ensures)
+    (sym (a .are-atoms .ensures) ∙ not-false _ (c .before .if2 .left))
 
 pub is-rest-spec : {M : Type 1} → statement M
 is-rest-spec =

@@ -13,9 +13,16 @@ domains-requires c κs = search needs
 are-values-requires : tie.Need-are-values-requires
 are-values-requires c κs = search needs
 
+-- the places of the function
+abbrev at-start : tie.After-domains → tie.Start
+at-start c = c .before .before .before
+
+abbrev after-domains : tie.After-are-values → tie.After-domains
+after-domains c = c .before
+
 returns : tie.Need-returns
 unfolding isFdrState
-returns c = c .are-values .ensures ∙ ap (λ (D : List Domain). valuesRight D (c .before .before .before .before .args .state .now)) (c .before .domains .ensures)
+returns c = c .are-values .ensures ∙ ap (λ (D : List Domain). valuesRight D (at-start (after-domains c) .args .state .now)) (c .before .domains .ensures)
 
 pub is-state-spec : {M : Type 1} → statement M
 is-state-spec = tie.close (tie.spec domains-requires are-values-requires returns)

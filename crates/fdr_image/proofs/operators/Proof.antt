@@ -12,7 +12,10 @@ wide-requires : tie.Need-wide-requires
 wide-requires c κs = search needs
 
 returns : tie.Need-returns
-returns c = (c .wide .ensures .0 ∙ operators-are _ (c .before .before .before .pre) .0, omega (arith, c .wide .ensures .0, operators-are _ (c .before .before .before .pre) .1))
+returns c = (
+  c .wide .ensures .0 ∙ operators-are _ (c .before .before .before .pre) .0,
+  omega (arith, c .wide .ensures .0, operators-are _ (c .before .before .before .pre) .1),
+)
 
 pub operators-spec : {M : Type 1} → statement M
 operators-spec = tie.close (tie.spec shared-slice-read-wide wide-requires returns)

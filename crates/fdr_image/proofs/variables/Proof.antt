@@ -12,7 +12,10 @@ wide-requires : tie.Need-wide-requires
 wide-requires c κs = search needs
 
 returns : tie.Need-returns
-returns c = (c .wide .ensures .0 ∙ variables-are _ (c .before .before .before .pre) .0, omega (arith, c .wide .ensures .0, variables-are _ (c .before .before .before .pre) .1))
+returns c = (
+  c .wide .ensures .0 ∙ variables-are _ (c .before .before .before .pre) .0,
+  omega (arith, c .wide .ensures .0, variables-are _ (c .before .before .before .pre) .1),
+)
 
 pub variables-spec : {M : Type 1} → statement M
 variables-spec = tie.close (tie.spec shared-slice-read-wide wide-requires returns)

@@ -19,12 +19,19 @@ start c = c .before .before .before
 read-fine : (c : tie.After-enum-told) → Reads (start (c .before .before) .args .image .now)
 read-fine c = reads _ (ap verdictAnswer (sym (c .enum-told .given .1)) ∙ c .before .before .read .ensures)
 
+-- the places of the function
+abbrev after-read : tie.At-match-keys2 → tie.After-read
+after-read c = c .before
+
+abbrev at-match-keys2 : tie.After-is-state → tie.At-match-keys2
+at-match-keys2 c = c .before .before .before
+
 -- the test of the state, by the task
 right-is :
-    (c : tie.After-is-state) → let s = start (c .before .before .before .before) .args in
+    (c : tie.After-is-state) → let s = start (after-read (at-match-keys2 c)) .args in
     c .is-state .result ≡ isState (taskOf (s .image .now) .atoms) (s .state .now)
 right-is c =
-    let s = start (c .before .before .before .before) .args .state .now in
+    let s = start (after-read (at-match-keys2 c)) .args .state .now in
     c .is-state .ensures ∙ ap (λ (n : ℕ). isState n s) (c .before .atoms .ensures .0)
 
 read-requires : tie.Need-read-requires

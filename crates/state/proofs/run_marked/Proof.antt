@@ -101,7 +101,8 @@ loop-again : tie.Need-loop-again Inv-loop μ-loop
 loop-again c =
     let d = made (c .before .before) in
     let l = loop-of (number d) in (
-      running-on _ _ _ _ _ (l .loop .inv .0) _ _ (at-in-loop (number d) .loop-test .taken) (number d .wide .ensures .0) (d .step-marked .kept .1 .0) (of-step d _ (c .enum-told .given .1)),
+      running-on _ _ _ _ _ (l .loop .inv .0) _ _ (at-in-loop (number d) .loop-test .taken) (number d .wide .ensures .0) (d .step-marked .kept .1 .0)
+          (of-step d _ (c .enum-told .given .1)),
       d .step-marked .ensures .1 ∙ l .loop .inv .1,
     )
 

@@ -35,10 +35,30 @@ add-i c = search needs
 loop-less : tie.Need-loop-less Inv-loop μ-loop
 loop-less c = search needs
 
+-- the places of the function
+abbrev at-loop : tie.In-loop Inv-loop μ-loop → tie.At-loop Inv-loop μ-loop
+at-loop c = c .before
+
+abbrev in-loop : tie.After-wide Inv-loop μ-loop → tie.In-loop Inv-loop μ-loop
+in-loop c = c .before .before .before
+
+abbrev after-wide : tie.After-slice-known2 Inv-loop μ-loop → tie.After-wide Inv-loop μ-loop
+after-wide c = c .before .before .before
+
+abbrev at-loop-from-slice-known2 : tie.After-slice-known2 Inv-loop μ-loop → tie.At-loop Inv-loop μ-loop
+at-loop-from-slice-known2 c = at-loop (in-loop ((after-wide c)))
+
 loop-again : tie.Need-loop-again Inv-loop μ-loop
 loop-again c =
-    let l = c .before .before .before .before .before .before .before .loop in
-    (omega arith, (omega (arith, c .before .before .mark-if .kept .1 .0), l .inv .1 .1 ∙ true-on (l .state) _ _ (l .i) _ (c .before .before .before .before .before .before .loop-test .taken) (c .before .before .before .wide .ensures .0) (c .before .before .mark-if .ensures)))
+    let l = at-loop-from-slice-known2 c .loop in (
+      omega arith,
+      (
+        omega (arith, c .before .before .mark-if .kept .1 .0),
+        l .inv .1 .1
+            ∙ true-on (l .state) _ _ (l .i) _ (in-loop (after-wide c) .loop-test .taken) (c .before .before .before .wide .ensures .0)
+            (c .before .before .mark-if .ensures),
+      ),
+    )
 
 same-length : tie.Need-same-length Inv-loop μ-loop
 same-length c = c .before .loop .inv .1 .0

@@ -14,12 +14,14 @@ add-part : tie.Need-add-part
 add-part c = omega (arith, task-read _ (c .before .pre .0) .few-operators, c .before .pre .1)
 
 part-requires : tie.Need-part-requires
-part-requires c κs = directory-lies _ _ _ (task-read _ (c .before .pre .0) .directory) (omega (arith, task-read _ (c .before .pre .0) .count, c .before .pre .1))
+part-requires c κs =
+    directory-lies _ _ _ (task-read _ (c .before .pre .0) .directory) (omega (arith, task-read _ (c .before .pre .0) .count, c .before .pre .1))
 
 returns : tie.Need-returns
 returns c =
     let s = c .before .before in
-    subst (λ (b : List ℕ). BlockGiven b (taskOf (s .args .image .now)) (s .args .i)) (sym (c .part .ensures)) (block-given (s .args .image .now) (s .pre .0) (s .args .i) (s .pre .1))
+    subst (λ (b : List ℕ). BlockGiven b (taskOf (s .args .image .now)) (s .args .i)) (sym (c .part .ensures))
+    (block-given (s .args .image .now) (s .pre .0) (s .args .i) (s .pre .1))
 
 pub operator-block-spec : {M : Type 1} → statement M
 operator-block-spec = tie.close (tie.spec add-part part-requires returns)

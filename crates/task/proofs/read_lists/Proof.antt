@@ -31,7 +31,9 @@ begun c = c .before .before
 begun-right : (c : tie.Else1) → let s = start (c .before) .args in let p = part (s .image .now) 0 in (ascending p && allBelow (s .atoms) p) ≡ true
 begun-right c = initial-is (c .before) ∙ not-false _ (c .if1 .left)
 
-goal-is : (c : tie.After-is-literal-list) → let s = start (begun c .before) .args in literalList (s .atoms) (part (s .image .now) 1) ≡ c .is-literal-list .result
+goal-is :
+    (c : tie.After-is-literal-list)
+    → let s = start (begun c .before) .args in literalList (s .atoms) (part (s .image .now) 1) ≡ c .is-literal-list .result
 goal-is c = ap (literalList (start (begun c .before) .args .atoms)) (sym (c .before .part2 .ensures)) ∙ sym (c .is-literal-list .ensures)
 
 part-requires : tie.Need-part-requires

@@ -18,11 +18,25 @@ shared-slice-read-wide c = search needs
 wide-requires : tie.Need-wide-requires
 wide-requires c κs = search needs
 
+-- the places of the function
+abbrev after-atom-variable : tie.After-atom-value → tie.After-atom-variable
+after-atom-variable c = c .before
+
+abbrev after-atom-value-of-else1 : tie.Else1 → tie.After-atom-value
+after-atom-value-of-else1 c = c .before .before .before
+
+abbrev after-atom-value-of-then1 : tie.Then1 → tie.After-atom-value
+after-atom-value-of-then1 c = c .before .before .before
+
 returns : tie.Need-returns
-returns c = byte-yes _ _ _ _ _ (c .before .before .before .before .atom-variable .ensures .0) (c .before .before .before .atom-value .ensures .0) (c .before .wide .ensures .0) (c .if1 .taken)
+returns c =
+    byte-yes _ _ _ _ _ (after-atom-variable (after-atom-value-of-then1 c) .atom-variable .ensures .0)
+    (c .before .before .before .atom-value .ensures .0) (c .before .wide .ensures .0) (c .if1 .taken)
 
 returns-2 : tie.Need-returns-2
-returns-2 c = byte-no _ _ _ _ _ (c .before .before .before .before .atom-variable .ensures .0) (c .before .before .before .atom-value .ensures .0) (c .before .wide .ensures .0) (c .if1 .left)
+returns-2 c =
+    byte-no _ _ _ _ _ (after-atom-variable (after-atom-value-of-else1 c) .atom-variable .ensures .0)
+    (c .before .before .before .atom-value .ensures .0) (c .before .wide .ensures .0) (c .if1 .left)
 
 pub byte-of-spec : {M : Type 1} → statement M
 byte-of-spec =

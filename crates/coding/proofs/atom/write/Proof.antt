@@ -18,8 +18,30 @@ abbrev μ-loop : tie.MeasureT-loop
 loop-holds : tie.Need-loop-holds Inv-loop μ-loop
 loop-holds c = (omega arith, refl, written-none)
 
+-- the places of the function
+abbrev at-start : tie.After-shared-slice-known Inv-loop μ-loop → tie.Start Inv-loop μ-loop
+at-start c = c .before
+
+abbrev after-shared-slice-known : tie.At-loop Inv-loop μ-loop → tie.After-shared-slice-known Inv-loop μ-loop
+after-shared-slice-known c = c .before .before .before
+
+abbrev at-loop-of-loop : tie.After-loop Inv-loop μ-loop → tie.At-loop Inv-loop μ-loop
+at-loop-of-loop c = c .before
+
+abbrev at-loop-of-loop′ : tie.In-loop Inv-loop μ-loop → tie.At-loop Inv-loop μ-loop
+at-loop-of-loop′ c = c .before
+
+abbrev at-start-from-loop : tie.In-loop Inv-loop μ-loop → tie.Start Inv-loop μ-loop
+at-start-from-loop c = at-start (after-shared-slice-known ((at-loop-of-loop′ c)))
+
+abbrev at-start-from-loop′ : tie.After-loop Inv-loop μ-loop → tie.Start Inv-loop μ-loop
+at-start-from-loop′ c = at-start (after-shared-slice-known ((at-loop-of-loop c)))
+
 byte-of-requires : tie.Need-byte-of-requires Inv-loop μ-loop
-byte-of-requires c κs = (record { reads = c .before .before .before .before .before .pre .reads; source = c .before .before .before .before .before .pre .source; target = refl }, omega (arith, c .before .before .before .before .before .pre .target, c .before .loop .inv .1))
+byte-of-requires c κs = (
+  record { reads = at-start-from-loop c .pre .reads; source = at-start-from-loop c .pre .source; target = refl },
+  omega (arith, at-start-from-loop c .pre .target, c .before .loop .inv .1),
+)
 
 slice-write-target : tie.Need-slice-write-target Inv-loop μ-loop
 slice-write-target c = search needs
@@ -31,13 +53,17 @@ loop-less : tie.Need-loop-less Inv-loop μ-loop
 loop-less c = search needs
 
 loop-again : tie.Need-loop-again Inv-loop μ-loop
-loop-again c = (simp length-set (omega arith), simp length-set (c .before .before .loop .inv .1), written-on _ (c .before .before .loop .inv .2) _ (c .before .loop-test .taken) (c .byte-of .ensures))
+loop-again c = (
+  simp length-set (omega arith),
+  simp length-set (c .before .before .loop .inv .1),
+  written-on _ (c .before .before .loop .inv .2) _ (c .before .loop-test .taken) (c .byte-of .ensures),
+)
 
 same-length : tie.Need-same-length Inv-loop μ-loop
 same-length c = search needs
 
 returns : tie.Need-returns Inv-loop μ-loop
-returns c = written-all _ (c .before .loop .inv .2) _ (c .loop-test .left) (c .before .loop .inv .1 ∙ c .before .before .before .before .before .pre .target) ∙ atoms-are _ _
+returns c = written-all _ (c .before .loop .inv .2) _ (c .loop-test .left) (c .before .loop .inv .1 ∙ at-start-from-loop′ c .pre .target) ∙ atoms-are _ _
 
 pub write-spec : {M : Type 1} → statement M
 write-spec =

@@ -21,7 +21,12 @@ domain-size-requires c κs = search needs
 
 sub-result-2 : tie.Need-sub-result-2
 unfolding domainAt
-sub-result-2 c = omega (arith, c .domain-size .ensures .0, values-some _ _ (initial-right _ (c .before .before .before .pre .reads)) _ (c .before .before .before .pre .variable))
+sub-result-2 c =
+    omega (
+      arith,
+      c .domain-size .ensures .0,
+      values-some _ _ (initial-right _ (c .before .before .before .pre .reads)) _ (c .before .before .before .pre .variable),
+    )
 
 cast-result-2 : tie.Need-cast-result-2
 cast-result-2 c = search needs

@@ -19,18 +19,55 @@ abbrev μ-loop : tie.MeasureT-loop
 loop-holds : tie.Need-loop-holds Inv-loop μ-loop
 loop-holds c = (omega arith, refl, written-none)
 
+-- the places of the function
+abbrev at-start : tie.After-shared-slice-known Inv-loop μ-loop → tie.Start Inv-loop μ-loop
+at-start c = c .before
+
+abbrev after-shared-slice-known : tie.At-loop Inv-loop μ-loop → tie.After-shared-slice-known Inv-loop μ-loop
+after-shared-slice-known c = c .before .before .before
+
+abbrev at-loop-of-loop : tie.After-loop Inv-loop μ-loop → tie.At-loop Inv-loop μ-loop
+at-loop-of-loop c = c .before
+
+abbrev at-loop-of-loop′ : tie.In-loop Inv-loop μ-loop → tie.At-loop Inv-loop μ-loop
+at-loop-of-loop′ c = c .before
+
+abbrev at-start-from-loop : tie.In-loop Inv-loop μ-loop → tie.Start Inv-loop μ-loop
+at-start-from-loop c = at-start (after-shared-slice-known ((at-loop-of-loop′ c)))
+
+abbrev at-start-from-loop′ : tie.After-loop Inv-loop μ-loop → tie.Start Inv-loop μ-loop
+at-start-from-loop′ c = at-start (after-shared-slice-known ((at-loop-of-loop c)))
+
+abbrev in-loop : tie.After-shared-slice-known3 Inv-loop μ-loop → tie.In-loop Inv-loop μ-loop
+in-loop c = c .before
+
+abbrev at-start-from-shared-slice-known3 : tie.After-shared-slice-known3 Inv-loop μ-loop → tie.Start Inv-loop μ-loop
+at-start-from-shared-slice-known3 c = at-start-from-loop (in-loop c)
+
 mul-value-at : tie.Need-mul-value-at Inv-loop μ-loop
 mul-value-at c =
-    let few = variables-are _ (c .before .before .before .before .before .pre .reads) in
-    omega (arith, few .0, few .1, c .before .before .before .before .before .pre .target, c .before .loop .inv .1)
+    let few = variables-are _ (at-start-from-loop c .pre .reads) in
+    omega (arith, few .0, few .1, at-start-from-loop c .pre .target, c .before .loop .inv .1)
 
 shared-slice-read-value-at : tie.Need-shared-slice-read-value-at Inv-loop μ-loop
 shared-slice-read-value-at c =
-    let few = variables-are _ (c .before .before .before .before .before .before .pre .reads) in
-    omega (arith, few .0, few .1, c .before .before .before .before .before .before .pre .size, c .before .before .before .before .before .before .pre .target, c .before .before .loop .inv .1)
+    let few = variables-are _ (at-start-from-shared-slice-known3 c .pre .reads) in
+    omega (
+      arith,
+      few .0,
+      few .1,
+      at-start-from-shared-slice-known3 c .pre .size,
+      at-start-from-shared-slice-known3 c .pre .target,
+      c .before .before .loop .inv .1,
+    )
 
 value-at-requires : tie.Need-value-at-requires Inv-loop μ-loop
-value-at-requires c κs = record { reads = c .before .before .before .before .before .before .pre .reads; variable = omega (arith, c .before .before .before .before .before .before .pre .target, c .before .before .loop .inv .1); low = c .before .before .before .before .before .before .pre .low _ }
+value-at-requires c κs =
+    record {
+      reads = at-start-from-shared-slice-known3 c .pre .reads;
+      variable = omega (arith, at-start-from-shared-slice-known3 c .pre .target, c .before .before .loop .inv .1);
+      low = at-start-from-shared-slice-known3 c .pre .low _;
+    }
 
 mul-target : tie.Need-mul-target Inv-loop μ-loop
 mul-target c = search needs
@@ -45,13 +82,17 @@ loop-less : tie.Need-loop-less Inv-loop μ-loop
 loop-less c = search needs
 
 loop-again : tie.Need-loop-again Inv-loop μ-loop
-loop-again c = (simp length-set (omega arith), simp length-set (c .before .before .before .loop .inv .1), written-on _ (c .before .before .before .loop .inv .2) _ (c .before .before .loop-test .taken) (c .value-at .ensures))
+loop-again c = (
+  simp length-set (omega arith),
+  simp length-set (c .before .before .before .loop .inv .1),
+  written-on _ (c .before .before .before .loop .inv .2) _ (c .before .before .loop-test .taken) (c .value-at .ensures),
+)
 
 same-length : tie.Need-same-length Inv-loop μ-loop
 same-length c = search needs
 
 returns : tie.Need-returns Inv-loop μ-loop
-returns c = written-all _ (c .before .loop .inv .2) _ (c .loop-test .left) (c .before .loop .inv .1 ∙ c .before .before .before .before .before .pre .target)
+returns c = written-all _ (c .before .loop .inv .2) _ (c .loop-test .left) (c .before .loop .inv .1 ∙ at-start-from-loop′ c .pre .target)
 
 pub write-spec : {M : Type 1} → statement M
 write-spec =

@@ -19,7 +19,9 @@ use Rattle.fdr.proofs.change.are_nones_there.Statement.{statement}
 use Rattle.fdr.proofs.change.are_nones_there.Tie as tie
 
 abbrev Inv-loop : tie.InvT-loop
-Inv-loop block domains changes at₀ left₀ at left = (parsesAt block at left ≡ true) × (all (λ r. ltb (r .variable) (length (domainsIn domains))) (rowsAt block at left) ≡ true) × (nonesIn (domainsIn domains) changes (operatorIn block .rows) ≡ nonesIn (domainsIn domains) changes (rowsAt block at left))
+Inv-loop block domains changes at₀ left₀ at left =
+    (parsesAt block at left ≡ true) × (all (λ r. ltb (r .variable) (length (domainsIn domains))) (rowsAt block at left) ≡ true) ×
+    (nonesIn (domainsIn domains) changes (operatorIn block .rows) ≡ nonesIn (domainsIn domains) changes (rowsAt block at left))
 
 abbrev μ-loop : tie.MeasureT-loop
 μ-loop block domains changes at₀ left₀ at left = left
@@ -30,11 +32,54 @@ head-requires c κs = c .before .before .before .pre .0 .parses
 add-at : tie.Need-add-at Inv-loop μ-loop
 add-at c = omega (arith, c .before .head .ensures .high)
 
+-- the places of the function
+abbrev at-start : tie.After-shared-slice-known Inv-loop μ-loop → tie.Start Inv-loop μ-loop
+at-start c = c .before
+
+abbrev after-shared-slice-known : tie.After-head Inv-loop μ-loop → tie.After-shared-slice-known Inv-loop μ-loop
+after-shared-slice-known c = c .before .before .before
+
+abbrev after-head : tie.After-struct-known Inv-loop μ-loop → tie.After-head Inv-loop μ-loop
+after-head c = c .before
+
+abbrev at-start-from-struct-known : tie.After-struct-known Inv-loop μ-loop → tie.Start Inv-loop μ-loop
+at-start-from-struct-known c = at-start (after-shared-slice-known ((after-head c)))
+
+abbrev after-struct-known : tie.At-loop Inv-loop μ-loop → tie.After-struct-known Inv-loop μ-loop
+after-struct-known c = c .before
+
+abbrev at-start-from-loop : tie.At-loop Inv-loop μ-loop → tie.Start Inv-loop μ-loop
+at-start-from-loop c = at-start-from-struct-known (after-struct-known c)
+
+abbrev at-loop : tie.After-row Inv-loop μ-loop → tie.At-loop Inv-loop μ-loop
+at-loop c = c .before .before
+
+abbrev at-start-from-row : tie.After-row Inv-loop μ-loop → tie.Start Inv-loop μ-loop
+at-start-from-row c = at-start-from-loop (at-loop c)
+
+abbrev after-row : tie.After-shared-slice-known4 Inv-loop μ-loop → tie.After-row Inv-loop μ-loop
+after-row c = c .before
+
+abbrev at-start-from-shared-slice-known4 : tie.After-shared-slice-known4 Inv-loop μ-loop → tie.Start Inv-loop μ-loop
+at-start-from-shared-slice-known4 c = at-start-from-row (after-row c)
+
+abbrev after-shared-slice-known4-of-else1 : tie.Else1 Inv-loop μ-loop → tie.After-shared-slice-known4 Inv-loop μ-loop
+after-shared-slice-known4-of-else1 c = c .before .before
+
+abbrev after-shared-slice-known4-of-then1 : tie.Then1 Inv-loop μ-loop → tie.After-shared-slice-known4 Inv-loop μ-loop
+after-shared-slice-known4-of-then1 c = c .before .before
+
+abbrev at-loop-from-then1 : tie.Then1 Inv-loop μ-loop → tie.At-loop Inv-loop μ-loop
+at-loop-from-then1 c = at-loop (after-row ((after-shared-slice-known4-of-then1 c)))
+
+abbrev at-loop-from-else1 : tie.Else1 Inv-loop μ-loop → tie.At-loop Inv-loop μ-loop
+at-loop-from-else1 c = at-loop (after-row ((after-shared-slice-known4-of-else1 c)))
+
 loop-holds : tie.Need-loop-holds Inv-loop μ-loop
 loop-holds c =
     let h = c .before .head .ensures in
-    let a = c .before .before .before .before .before .args in
-    (h .parses, rw (h .rows) (c .before .before .before .before .before .pre .0 .low), ap (nonesIn (domainsIn (a .domains .now)) (a .changes .now)) (sym (h .rows)))
+    let a = at-start-from-struct-known c .args in
+    (h .parses, rw (h .rows) (at-start-from-struct-known c .pre .0 .low), ap (nonesIn (domainsIn (a .domains .now)) (a .changes .now)) (sym (h .rows)))
 
 row-requires : tie.Need-row-requires Inv-loop μ-loop
 row-requires c κs = (c .before .loop .inv .0, c .loop-test .taken)
@@ -42,18 +87,21 @@ row-requires c κs = (c .before .loop .inv .0, c .loop-test .taken)
 mul-is-omitted : tie.Need-mul-is-omitted Inv-loop μ-loop
 mul-is-omitted c =
     let z = low-row _ _ _ _ (c .row .ensures .row) (c .before .before .loop .inv .1) .0 in
-    omega (arith, z, c .before .before .before .before .before .before .before .before .pre .1 .few)
+    omega (arith, z, at-start-from-row c .pre .1 .few)
 
 shared-slice-read-is-omitted : tie.Need-shared-slice-read-is-omitted Inv-loop μ-loop
 shared-slice-read-is-omitted c =
     let z = low-row _ _ _ _ (c .before .row .ensures .row) (c .before .before .before .loop .inv .1) .0 in
-    omega (arith, z, c .before .before .before .before .before .before .before .before .before .pre .1 .long)
+    omega (arith, z, at-start-from-shared-slice-known4 c .pre .1 .long)
 
 is-omitted-requires : tie.Need-is-omitted-requires Inv-loop μ-loop
 is-omitted-requires c κs = low-row _ _ _ _ (c .before .row .ensures .row) (c .before .before .before .loop .inv .1) .0
 
 returns : tie.Need-returns Inv-loop μ-loop
-returns c = sym (c .before .before .before .before .before .loop .inv .2 ∙ nones-off _ _ _ (c .before .before .before .row .ensures .row) _ _ _ (c .before .is-omitted .ensures) (c .if1 .taken))
+returns c =
+    sym
+    (at-loop-from-then1 c .loop .inv .2
+    ∙ nones-off _ _ _ (c .before .before .before .row .ensures .row) _ _ _ (c .before .is-omitted .ensures) (c .if1 .taken))
 
 sub-left : tie.Need-sub-left Inv-loop μ-loop
 sub-left c = search needs
@@ -64,7 +112,7 @@ loop-less c = search needs
 loop-again : tie.Need-loop-again Inv-loop μ-loop
 loop-again c =
     let r = c .before .before .before .row .ensures in
-    let l = c .before .before .before .before .before .loop in
+    let l = at-loop-from-else1 c .loop in
     (r .next, low-row _ _ _ _ (r .row) (l .inv .1) .1, l .inv .2 ∙ nones-on _ _ _ (r .row) _ _ _ (c .before .is-omitted .ensures) (c .if1 .left))
 
 returns-2 : tie.Need-returns-2 Inv-loop μ-loop

@@ -9,8 +9,18 @@ size-requires c κs = c .before .pre .low
 returns : tie.Need-returns
 returns c = become-stays _ _ _ (c .if1 .taken)
 
+-- the places of the function
+abbrev at-start : tie.After-size → tie.Start
+at-start c = c .before .before
+
+abbrev after-size-of-else2 : tie.Else2 → tie.After-size
+after-size-of-else2 c = c .before .before
+
+abbrev after-size-of-then2 : tie.Then2 → tie.After-size
+after-size-of-then2 c = c .before .before
+
 sub-result : tie.Need-sub-result
-sub-result c = omega (arith, c .before .before .before .before .pre .size, c .before .before .size .ensures .0)
+sub-result c = omega (arith, at-start (after-size-of-then2 c) .pre .size, c .before .before .size .ensures .0)
 
 cast-result : tie.Need-cast-result
 cast-result c = omega (arith, c .before .before .size .ensures .1)
@@ -22,7 +32,7 @@ sub-result-2 : tie.Need-sub-result-2
 sub-result-2 c = omega arith
 
 cast-result-2 : tie.Need-cast-result-2
-cast-result-2 c = omega (arith, c .before .before .before .before .pre .inside, c .before .before .size .ensures .0, c .before .before .size .ensures .1)
+cast-result-2 c = omega (arith, at-start (after-size-of-else2 c) .pre .inside, c .before .before .size .ensures .0, c .before .before .size .ensures .1)
 
 returns-3 : tie.Need-returns-3
 returns-3 c = become-value _ _ _ (c .before .if1 .left) (c .if2 .left)

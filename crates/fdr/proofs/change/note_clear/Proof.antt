@@ -23,7 +23,10 @@ returns-2 : tie.Need-returns-2
 returns-2 c = (clear-other _ _ _ _ (c .before .if1 .left) (c .if2 .taken), at-same _ _)
 
 returns-3 : tie.Need-returns-3
-returns-3 c = (clear-absent _ _ _ _ (c .before .before .if1 .left) (c .before .if2 .left) _ (c .before .before .before .value .ensures .0) (c .if3 .taken), at-same _ _)
+returns-3 c = (
+  clear-absent _ _ _ _ (c .before .before .if1 .left) (c .before .if2 .left) _ (c .before .before .before .value .ensures .0) (c .if3 .taken),
+  at-same _ _,
+)
 
 mul-changes : tie.Need-mul-changes
 mul-changes c = search needs
@@ -35,7 +38,10 @@ same-length : tie.Need-same-length
 same-length c = search needs
 
 returns-4 : tie.Need-returns-4
-returns-4 c = (clear-present _ _ _ _ (c .before .before .if1 .left) (c .before .if2 .left) _ (c .before .before .before .value .ensures .0) (c .if3 .left), at-set _ _ _)
+returns-4 c = (
+  clear-present _ _ _ _ (c .before .before .if1 .left) (c .before .if2 .left) _ (c .before .before .before .value .ensures .0) (c .if3 .left),
+  at-set _ _ _,
+)
 
 pub note-clear-spec : {M : Type 1} → statement M
 note-clear-spec =

@@ -21,8 +21,35 @@ note-kind-requires c κs = search needs
 same-length : tie.Need-same-length
 same-length c = search needs
 
+-- the places of the function
+abbrev else1 : tie.After-all-true → tie.Else1
+else1 c = c .before
+
+abbrev after-all-true : tie.Else2 → tie.After-all-true
+after-all-true c = c .before
+
+abbrev else2 : tie.After-note-kind-arg → tie.Else2
+else2 c = c .before
+
+abbrev else1-from-note-kind-arg : tie.After-note-kind-arg → tie.Else1
+else1-from-note-kind-arg c = else1 (after-all-true ((else2 c)))
+
+abbrev after-note-kind-arg : tie.After-slice-known2 → tie.After-note-kind-arg
+after-note-kind-arg c = c .before .before .before
+
+abbrev after-all-true-from-slice-known2 : tie.After-slice-known2 → tie.After-all-true
+after-all-true-from-slice-known2 c = after-all-true (else2 ((after-note-kind-arg c)))
+
+abbrev else1-from-slice-known2 : tie.After-slice-known2 → tie.Else1
+else1-from-slice-known2 c = else1-from-note-kind-arg (after-note-kind-arg c)
+
 returns-3 : tie.Need-returns-3
-returns-3 c = (c .before .before .note-kind .ensures .0 ∙ row-now _ _ _ _ _ _ _ (sym (c .before .before .before .before .before .all-true .ensures) ∙ not-false _ (c .before .before .before .before .if2 .left)) (c .before .before .before .before .before .before .if1 .left), c .before .before .note-kind .ensures .1)
+returns-3 c = (
+  c .before .before .note-kind .ensures .0
+      ∙ row-now _ _ _ _ _ _ _ (sym (after-all-true-from-slice-known2 c .all-true .ensures) ∙ not-false _ (else2 (after-note-kind-arg c) .if2 .left))
+      (else1-from-slice-known2 c .if1 .left),
+  c .before .before .note-kind .ensures .1,
+)
 
 pub note-row-spec : {M : Type 1} → statement M
 note-row-spec =

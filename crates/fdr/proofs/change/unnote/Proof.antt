@@ -19,7 +19,9 @@ use Rattle.fdr.proofs.change.unnote.Statement.{statement}
 use Rattle.fdr.proofs.change.unnote.Tie as tie
 
 abbrev Inv-loop : tie.InvT-loop
-Inv-loop block changes₀ at₀ left₀ changes at left = (parsesAt block at left ≡ true) × (all (λ r. ltb (r .variable) mostAtoms) (rowsAt block at left) ≡ true) × (length changes ≡ length changes₀) × (unnoted (operatorIn block .rows) changes₀ ≡ unnoted (rowsAt block at left) changes)
+Inv-loop block changes₀ at₀ left₀ changes at left =
+    (parsesAt block at left ≡ true) × (all (λ r. ltb (r .variable) mostAtoms) (rowsAt block at left) ≡ true) × (length changes ≡ length changes₀) ×
+    (unnoted (operatorIn block .rows) changes₀ ≡ unnoted (rowsAt block at left) changes)
 
 abbrev μ-loop : tie.MeasureT-loop
 μ-loop block changes₀ at₀ left₀ changes at left = left
@@ -30,11 +32,24 @@ head-requires c κs = c .before .before .pre .0 .parses
 add-at : tie.Need-add-at Inv-loop μ-loop
 add-at c = omega (arith, c .before .head .ensures .high)
 
+-- the places of the function
+abbrev at-start : tie.After-head Inv-loop μ-loop → tie.Start Inv-loop μ-loop
+at-start c = c .before .before .before
+
+abbrev after-head : tie.After-struct-known Inv-loop μ-loop → tie.After-head Inv-loop μ-loop
+after-head c = c .before
+
+abbrev after-struct-known : tie.After-row Inv-loop μ-loop → tie.After-struct-known Inv-loop μ-loop
+after-struct-known c = c .before .before .before
+
+abbrev at-start-from-row : tie.After-row Inv-loop μ-loop → tie.Start Inv-loop μ-loop
+at-start-from-row c = at-start (after-head ((after-struct-known c)))
+
 loop-holds : tie.Need-loop-holds Inv-loop μ-loop
 loop-holds c =
     let h = c .before .head .ensures in
-    let a = c .before .before .before .before .args in
-    (h .parses, rw (h .rows) (c .before .before .before .before .pre .0 .low), refl, ap (λ (rs : List FdrRow). unnoted rs (a .changes .now)) (sym (h .rows)))
+    let a = at-start (after-head c) .args in
+    (h .parses, rw (h .rows) (at-start (after-head c) .pre .0 .low), refl, ap (λ (rs : List FdrRow). unnoted rs (a .changes .now)) (sym (h .rows)))
 
 row-requires : tie.Need-row-requires Inv-loop μ-loop
 row-requires c κs = (c .before .loop .inv .0, c .loop-test .taken)
@@ -47,7 +62,7 @@ mul-changes c =
 slice-write-changes : tie.Need-slice-write-changes Inv-loop μ-loop
 slice-write-changes c =
     let z = low-row mostAtoms _ _ _ (c .row .ensures .row) (c .before .before .loop .inv .1) .0 in
-    omega (arith, z, c .before .before .before .before .before .before .before .pre .1, c .before .before .loop .inv .2)
+    omega (arith, z, at-start-from-row c .pre .1, c .before .before .loop .inv .2)
 
 sub-left : tie.Need-sub-left Inv-loop μ-loop
 sub-left c = search needs

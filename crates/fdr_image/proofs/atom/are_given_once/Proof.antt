@@ -26,7 +26,9 @@ size : (c : tie.After-put-starts) → length (c .put-starts .last .1 .0) ≡ mos
 size c = c .put-starts .kept .1 .0 ∙ room-of c .values .ensures
 
 -- there are as many values as atoms
-full : (c : tie.Else1) → let s = start (room-of (put c)) .args in let D = domainsIn (s .domains .now) in valuesBefore D (length D) ≡ length (placesIn (s .atoms .now))
+full :
+    (c : tie.Else1)
+    → let s = start (room-of (put c)) .args in let D = domainsIn (s .domains .now) in valuesBefore D (length D) ≡ length (placesIn (s .atoms .now))
 full c =
     let d = put c in
     eqb-true _ _ (sym (d .put-starts .ensures .all-values) ∙ not-false _ (c .if1 .left)) ∙ sym (places-length (start (room-of d) .args .atoms .now))
@@ -63,7 +65,8 @@ are-new-requires c κs =
     let e = c .before in
     let d = put e in
     let s = start (room-of d) in
-    starts-ranked (domainsIn (s .args .domains .now)) _ (d .put-starts .ensures .begin (not-false _ (e .if1 .left))) (s .args .atoms .now) (s .pre) (full e) (size d)
+    starts-ranked (domainsIn (s .args .domains .now)) _ (d .put-starts .ensures .begin (not-false _ (e .if1 .left))) (s .args .atoms .now) (s .pre)
+    (full e) (size d)
 
 returns-2 : tie.Need-returns-2
 returns-2 c =
@@ -71,7 +74,8 @@ returns-2 c =
     let d = put e in
     let s = start (room-of d) in
     c .are-new .ensures
-    ∙ starts-given (domainsIn (s .args .domains .now)) (d .put-starts .last .1 .0) (d .put-starts .ensures .begin (not-false _ (e .if1 .left))) (s .args .atoms .now) (s .pre) (full e)
+    ∙ starts-given (domainsIn (s .args .domains .now)) (d .put-starts .last .1 .0) (d .put-starts .ensures .begin (not-false _ (e .if1 .left)))
+    (s .args .atoms .now) (s .pre) (full e)
 
 pub are-given-once-spec : {M : Type 1} → statement M
 are-given-once-spec =

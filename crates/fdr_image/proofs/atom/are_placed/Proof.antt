@@ -13,7 +13,8 @@ use Rattle.fdr_image.proofs.atom.are_placed.Statement.{statement}
 use Rattle.fdr_image.proofs.atom.are_placed.Tie as tie
 
 abbrev Inv-loop : tie.InvT-loop
-Inv-loop domains atoms i₀ i = (i ≤ length atoms / 2) × (all (placeRight (domainsIn domains)) (placesIn atoms) ≡ all (placeRight (domainsIn domains)) (drop i (placesIn atoms)))
+Inv-loop domains atoms i₀ i =
+    (i ≤ length atoms / 2) × (all (placeRight (domainsIn domains)) (placesIn atoms) ≡ all (placeRight (domainsIn domains)) (drop i (placesIn atoms)))
 
 abbrev μ-loop : tie.MeasureT-loop
 μ-loop domains atoms i₀ i = length atoms / 2 - i
@@ -51,8 +52,44 @@ wide-requires-2 c κs = search needs
 is-atom-value-requires : tie.Need-is-atom-value-requires Inv-loop μ-loop
 is-atom-value-requires c κs = search needs
 
+-- the places of the function
+abbrev at-loop : tie.In-loop Inv-loop μ-loop → tie.At-loop Inv-loop μ-loop
+at-loop c = c .before
+
+abbrev in-loop : tie.After-wide Inv-loop μ-loop → tie.In-loop Inv-loop μ-loop
+in-loop c = c .before .before
+
+abbrev after-wide : tie.After-wide2 Inv-loop μ-loop → tie.After-wide Inv-loop μ-loop
+after-wide c = c .before .before
+
+abbrev at-loop-from-wide2 : tie.After-wide2 Inv-loop μ-loop → tie.At-loop Inv-loop μ-loop
+at-loop-from-wide2 c = at-loop (in-loop ((after-wide c)))
+
+abbrev after-wide2-of-else1 : tie.Else1 Inv-loop μ-loop → tie.After-wide2 Inv-loop μ-loop
+after-wide2-of-else1 c = c .before .before
+
+abbrev after-wide2-of-then1 : tie.Then1 Inv-loop μ-loop → tie.After-wide2 Inv-loop μ-loop
+after-wide2-of-then1 c = c .before .before
+
+abbrev at-loop-from-then1 : tie.Then1 Inv-loop μ-loop → tie.At-loop Inv-loop μ-loop
+at-loop-from-then1 c = at-loop-from-wide2 (after-wide2-of-then1 c)
+
+abbrev in-loop-from-then1 : tie.Then1 Inv-loop μ-loop → tie.In-loop Inv-loop μ-loop
+in-loop-from-then1 c = in-loop (after-wide ((after-wide2-of-then1 c)))
+
+abbrev at-loop-from-else1 : tie.Else1 Inv-loop μ-loop → tie.At-loop Inv-loop μ-loop
+at-loop-from-else1 c = at-loop-from-wide2 (after-wide2-of-else1 c)
+
+abbrev in-loop-from-else1 : tie.Else1 Inv-loop μ-loop → tie.In-loop Inv-loop μ-loop
+in-loop-from-else1 c = in-loop (after-wide ((after-wide2-of-else1 c)))
+
 returns : tie.Need-returns Inv-loop μ-loop
-returns c = sym (c .before .before .before .before .before .before .before .loop .inv .1 ∙ places-off _ _ (c .before .before .before .before .before .before .before .loop .i) _ _ (c .before .before .before .before .before .before .loop-test .taken) (c .before .before .before .before .wide .ensures .0) (c .before .before .wide2 .ensures .0) (place-right _ _ _ _ (c .before .is-atom-value .ensures) ∙ not-true _ (c .if1 .taken)))
+returns c =
+    sym
+    (at-loop-from-then1 c .loop .inv .1
+    ∙ places-off _ _ (at-loop-from-then1 c .loop .i) _ _ (in-loop-from-then1 c .loop-test .taken)
+    (after-wide (after-wide2-of-then1 c) .wide .ensures .0) (c .before .before .wide2 .ensures .0)
+    (place-right _ _ _ _ (c .before .is-atom-value .ensures) ∙ not-true _ (c .if1 .taken)))
 
 add-i : tie.Need-add-i Inv-loop μ-loop
 add-i c = search needs
@@ -61,7 +98,13 @@ loop-less : tie.Need-loop-less Inv-loop μ-loop
 loop-less c = search needs
 
 loop-again : tie.Need-loop-again Inv-loop μ-loop
-loop-again c = (omega arith, c .before .before .before .before .before .before .before .loop .inv .1 ∙ places-on _ _ (c .before .before .before .before .before .before .before .loop .i) _ _ (c .before .before .before .before .before .before .loop-test .taken) (c .before .before .before .before .wide .ensures .0) (c .before .before .wide2 .ensures .0) (place-right _ _ _ _ (c .before .is-atom-value .ensures) ∙ not-false _ (c .if1 .left)))
+loop-again c = (
+  omega arith,
+  at-loop-from-else1 c .loop .inv .1
+      ∙ places-on _ _ (at-loop-from-else1 c .loop .i) _ _ (in-loop-from-else1 c .loop-test .taken)
+      (after-wide (after-wide2-of-else1 c) .wide .ensures .0) (c .before .before .wide2 .ensures .0)
+      (place-right _ _ _ _ (c .before .is-atom-value .ensures) ∙ not-false _ (c .if1 .left)),
+)
 
 returns-2 : tie.Need-returns-2 Inv-loop μ-loop
 returns-2 c = sym (c .before .loop .inv .1 ∙ places-end _ _ (c .before .loop .i) (c .loop-test .left))

@@ -62,7 +62,8 @@ returns c =
     let x = c .before .before in
     let v = variable-of x in
     let s = start v in (
-      rank-at (s .args .starts .now) (s .args .atoms .now) (s .args .atom) _ _ _ (s .pre .1) (v .wide .ensures .0) (x .wide2 .ensures .0) (c .wide3 .ensures .0),
+      rank-at (s .args .starts .now) (s .args .atoms .now) (s .args .atom) _ _ _ (s .pre .1) (v .wide .ensures .0) (x .wide2 .ensures .0)
+          (c .wide3 .ensures .0),
       rank-low _ _ (s .pre .0) _ _ _ _ (s .pre .1) (v .wide .ensures .0) (x .wide2 .ensures .0) (c .wide3 .ensures .0),
     )
 

@@ -41,7 +41,8 @@ returns c =
     let l = i .before in
     sym
     (l .loop .inv .1
-    ∙ rows-cut _ (start l .args .block .now) (l .loop .at) (l .loop .left) (i .loop-test .taken) (sym (c .before .is-whole .ensures) ∙ not-true _ (c .if1 .taken)))
+    ∙ rows-cut _ (start l .args .block .now) (l .loop .at) (l .loop .left) (i .loop-test .taken)
+    (sym (c .before .is-whole .ensures) ∙ not-true _ (c .if1 .taken)))
 
 row-at-requires : tie.Need-row-at-requires Inv-loop μ-loop
 row-at-requires c κs = sym (c .before .is-whole .ensures) ∙ not-false _ (c .if1 .left)

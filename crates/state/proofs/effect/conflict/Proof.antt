@@ -33,9 +33,19 @@ row-requires c κs = (c .before .loop .inv .0, omega arith)
 both-marked-requires : tie.Need-both-marked-requires Inv-loop μ-loop
 both-marked-requires c κs = search needs
 
+-- the places of the function
+abbrev at-loop : tie.In-loop Inv-loop μ-loop → tie.At-loop Inv-loop μ-loop
+at-loop c = c .before
+
+abbrev in-loop-of-else1 : tie.Else1 Inv-loop μ-loop → tie.In-loop Inv-loop μ-loop
+in-loop-of-else1 c = c .before .before .before
+
+abbrev in-loop-of-then1 : tie.Then1 Inv-loop μ-loop → tie.In-loop Inv-loop μ-loop
+in-loop-of-then1 c = c .before .before .before
+
 returns : tie.Need-returns Inv-loop μ-loop
 returns c =
-    let l = c .before .before .before .before .loop in
+    let l = at-loop (in-loop-of-then1 c) .loop in
     sym (l .inv .1 ∙ conflict-found _ _ _ _ (c .before .before .row .ensures .row) _ (c .before .both-marked .ensures) (c .if1 .taken))
 
 sub-left : tie.Need-sub-left Inv-loop μ-loop
@@ -46,7 +56,7 @@ loop-less c = search needs
 
 loop-again : tie.Need-loop-again Inv-loop μ-loop
 loop-again c =
-    let l = c .before .before .before .before .loop in
+    let l = at-loop (in-loop-of-else1 c) .loop in
     let r = c .before .before .row .ensures in
     (r .next, l .inv .1 ∙ conflict-on _ _ _ _ (r .row) _ (c .before .both-marked .ensures) (c .if1 .left))
 

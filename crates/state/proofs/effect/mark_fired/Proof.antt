@@ -16,7 +16,9 @@ use Rattle.state.proofs.effect.mark_fired.Statement.{statement}
 use Rattle.state.proofs.effect.mark_fired.Tie as tie
 
 abbrev Inv-loop : tie.InvT-loop
-Inv-loop block state marks₀ at₀ left₀ marks at left = (length marks ≡ length marks₀) × ((parsesAt block at left ≡ true) × (markFired state (operatorIn block .rows) marks₀ ≡ markFired state (rowsAt block at left) marks))
+Inv-loop block state marks₀ at₀ left₀ marks at left =
+    (length marks ≡ length marks₀) ×
+    ((parsesAt block at left ≡ true) × (markFired state (operatorIn block .rows) marks₀ ≡ markFired state (rowsAt block at left) marks))
 
 abbrev μ-loop : tie.MeasureT-loop
 μ-loop block state marks₀ at₀ left₀ marks at left = left
@@ -27,10 +29,44 @@ head-requires c κs = search needs
 add-at : tie.Need-add-at Inv-loop μ-loop
 add-at c = search needs
 
+-- the places of the function
+abbrev at-start : tie.After-shared-slice-known Inv-loop μ-loop → tie.Start Inv-loop μ-loop
+at-start c = c .before
+
+abbrev after-shared-slice-known : tie.After-head Inv-loop μ-loop → tie.After-shared-slice-known Inv-loop μ-loop
+after-shared-slice-known c = c .before .before .before
+
+abbrev after-head : tie.After-struct-known Inv-loop μ-loop → tie.After-head Inv-loop μ-loop
+after-head c = c .before
+
+abbrev at-start-from-struct-known : tie.After-struct-known Inv-loop μ-loop → tie.Start Inv-loop μ-loop
+at-start-from-struct-known c = at-start (after-shared-slice-known ((after-head c)))
+
+abbrev at-loop : tie.After-row Inv-loop μ-loop → tie.At-loop Inv-loop μ-loop
+at-loop c = c .before .before
+
+abbrev after-row : tie.After-all-true Inv-loop μ-loop → tie.After-row Inv-loop μ-loop
+after-row c = c .before .before
+
+abbrev after-all-true : tie.After-mark-if-arg Inv-loop μ-loop → tie.After-all-true Inv-loop μ-loop
+after-all-true c = c .before
+
+abbrev at-loop-from-mark-if-arg : tie.After-mark-if-arg Inv-loop μ-loop → tie.At-loop Inv-loop μ-loop
+at-loop-from-mark-if-arg c = at-loop (after-row ((after-all-true c)))
+
+abbrev after-mark-if-arg : tie.After-slice-known2 Inv-loop μ-loop → tie.After-mark-if-arg Inv-loop μ-loop
+after-mark-if-arg c = c .before .before .before
+
+abbrev at-loop-from-slice-known2 : tie.After-slice-known2 Inv-loop μ-loop → tie.At-loop Inv-loop μ-loop
+at-loop-from-slice-known2 c = at-loop-from-mark-if-arg (after-mark-if-arg c)
+
+abbrev after-row-from-slice-known2 : tie.After-slice-known2 Inv-loop μ-loop → tie.After-row Inv-loop μ-loop
+after-row-from-slice-known2 c = after-row (after-all-true ((after-mark-if-arg c)))
+
 loop-holds : tie.Need-loop-holds Inv-loop μ-loop
 loop-holds c =
     let h = c .before .head .ensures in
-    let a = c .before .before .before .before .before .args in
+    let a = at-start-from-struct-known c .args in
     (refl, (h .parses, ap (λ (rs : List Row). markFired (a .state .now) rs (a .marks .now)) (sym (h .rows))))
 
 row-requires : tie.Need-row-requires Inv-loop μ-loop
@@ -63,9 +99,15 @@ loop-less c = search needs
 loop-again : tie.Need-loop-again Inv-loop μ-loop
 unfolding fires
 loop-again c =
-    let l = c .before .before .before .before .before .before .before .before .loop in
-    let r = c .before .before .before .before .before .before .row .ensures in
-    (omega (arith, c .before .before .mark-if .kept .1 .0), (r .next, l .inv .1 .1 ∙ fired-next _ _ _ _ _ _ _ (r .row) (c .before .before .before .before .all-true .ensures) (c .before .before .mark-if .ensures)))
+    let l = at-loop-from-slice-known2 c .loop in
+    let r = after-row-from-slice-known2 c .row .ensures in (
+      omega (arith, c .before .before .mark-if .kept .1 .0),
+      (
+        r .next,
+        l .inv .1 .1
+            ∙ fired-next _ _ _ _ _ _ _ (r .row) (after-all-true (after-mark-if-arg c) .all-true .ensures) (c .before .before .mark-if .ensures),
+      ),
+    )
 
 same-length : tie.Need-same-length Inv-loop μ-loop
 same-length c = c .before .loop .inv .0
