@@ -45,8 +45,8 @@ wide-requires c κs = search needs
 abbrev at-start : tie.At-loop Inv-loop μ-loop → tie.Start Inv-loop μ-loop
 at-start c = c .before .before .before
 
-abbrev at-loop-of-loop : tie.After-loop Inv-loop μ-loop → tie.At-loop Inv-loop μ-loop
-at-loop-of-loop c = c .before
+abbrev at-loop-of-after-loop : tie.After-loop Inv-loop μ-loop → tie.At-loop Inv-loop μ-loop
+at-loop-of-after-loop c = c .before
 
 abbrev at-loop-of-wide : tie.After-wide Inv-loop μ-loop → tie.At-loop Inv-loop μ-loop
 at-loop-of-wide c = c .before .before .before
@@ -54,14 +54,14 @@ at-loop-of-wide c = c .before .before .before
 abbrev after-wide-of-then2 : tie.Then2 Inv-loop μ-loop → tie.After-wide Inv-loop μ-loop
 after-wide-of-then2 c = c .before
 
-abbrev at-start-from-then2 : tie.Then2 Inv-loop μ-loop → tie.Start Inv-loop μ-loop
-at-start-from-then2 c = at-start (at-loop-of-wide ((after-wide-of-then2 c)))
-
 abbrev after-wide-of-wide2 : tie.After-wide2 Inv-loop μ-loop → tie.After-wide Inv-loop μ-loop
 after-wide-of-wide2 c = c .before .before .before
 
+abbrev at-start-from-then2 : tie.Then2 Inv-loop μ-loop → tie.Start Inv-loop μ-loop
+at-start-from-then2 c = at-start (at-loop-of-wide (after-wide-of-then2 c))
+
 abbrev at-start-from-wide2 : tie.After-wide2 Inv-loop μ-loop → tie.Start Inv-loop μ-loop
-at-start-from-wide2 c = at-start (at-loop-of-wide ((after-wide-of-wide2 c)))
+at-start-from-wide2 c = at-start (at-loop-of-wide (after-wide-of-wide2 c))
 
 returns-2 : tie.Need-returns-2 Inv-loop μ-loop
 returns-2 c =
@@ -110,7 +110,7 @@ loop-again c =
 returns-3 : tie.Need-returns-3 Inv-loop μ-loop
 returns-3 c =
     let l = c .before .loop in
-    let a = at-start (at-loop-of-loop c) .args in
+    let a = at-start (at-loop-of-after-loop c) .args in
     sym (l .inv .1 ∙ chained-end (a .image .now) (l .i) (l .at) (a .pairs - l .i) (omega arith))
 
 pub is-directory-spec : {M : Type 1} → statement M

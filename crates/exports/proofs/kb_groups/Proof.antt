@@ -29,7 +29,7 @@ abbrev after-count-arg : tie.After-count → tie.After-count-arg
 after-count-arg c = c .before .before
 
 abbrev after-groups-from-count : tie.After-count → tie.After-groups
-after-groups-from-count c = after-groups (after-target ((after-count-arg c)))
+after-groups-from-count c = after-groups (after-target (after-count-arg c))
 
 returns : tie.Need-returns
 unfolding outcome

@@ -29,7 +29,7 @@ abbrev after-count-arg : tie.After-count → tie.After-count-arg
 after-count-arg c = c .before .before
 
 abbrev after-reencode-from-count : tie.After-count → tie.After-reencode
-after-reencode-from-count c = after-reencode (after-target ((after-count-arg c)))
+after-reencode-from-count c = after-reencode (after-target (after-count-arg c))
 
 returns : tie.Need-returns
 unfolding outcome

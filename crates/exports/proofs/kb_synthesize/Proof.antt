@@ -31,14 +31,11 @@ after-work c = c .before .before
 abbrev after-marks : tie.After-made-arg → tie.After-marks
 after-marks c = c .before .before
 
-abbrev after-synthesize-from-made-arg : tie.After-made-arg → tie.After-synthesize
-after-synthesize-from-made-arg c = after-synthesize (after-work ((after-marks c)))
-
 abbrev after-made-arg : tie.After-made → tie.After-made-arg
 after-made-arg c = c .before .before
 
 abbrev after-synthesize-from-made : tie.After-made → tie.After-synthesize
-after-synthesize-from-made c = after-synthesize-from-made-arg (after-made-arg c)
+after-synthesize-from-made c = after-synthesize (after-work (after-marks (after-made-arg c)))
 
 returns : tie.Need-returns
 unfolding outcome

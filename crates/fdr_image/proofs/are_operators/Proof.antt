@@ -33,11 +33,11 @@ add-part c = search needs
 abbrev at-start : tie.At-loop Inv-loop μ-loop → tie.Start Inv-loop μ-loop
 at-start c = c .before .before .before
 
-abbrev at-loop-of-loop : tie.After-loop Inv-loop μ-loop → tie.At-loop Inv-loop μ-loop
-at-loop-of-loop c = c .before
+abbrev at-loop-of-after-loop : tie.After-loop Inv-loop μ-loop → tie.At-loop Inv-loop μ-loop
+at-loop-of-after-loop c = c .before
 
-abbrev at-loop-of-loop′ : tie.In-loop Inv-loop μ-loop → tie.At-loop Inv-loop μ-loop
-at-loop-of-loop′ c = c .before
+abbrev at-loop-of-in-loop : tie.In-loop Inv-loop μ-loop → tie.At-loop Inv-loop μ-loop
+at-loop-of-in-loop c = c .before
 
 abbrev in-loop-of-else1 : tie.Else1 Inv-loop μ-loop → tie.In-loop Inv-loop μ-loop
 in-loop-of-else1 c = c .before .before .before
@@ -45,14 +45,14 @@ in-loop-of-else1 c = c .before .before .before
 abbrev in-loop-of-then1 : tie.Then1 Inv-loop μ-loop → tie.In-loop Inv-loop μ-loop
 in-loop-of-then1 c = c .before .before .before
 
-abbrev at-start-from-then1 : tie.Then1 Inv-loop μ-loop → tie.Start Inv-loop μ-loop
-at-start-from-then1 c = at-start (at-loop-of-loop′ ((in-loop-of-then1 c)))
-
 abbrev at-start-from-else1 : tie.Else1 Inv-loop μ-loop → tie.Start Inv-loop μ-loop
-at-start-from-else1 c = at-start (at-loop-of-loop′ ((in-loop-of-else1 c)))
+at-start-from-else1 c = at-start (at-loop-of-in-loop (in-loop-of-else1 c))
+
+abbrev at-start-from-then1 : tie.Then1 Inv-loop μ-loop → tie.Start Inv-loop μ-loop
+at-start-from-then1 c = at-start (at-loop-of-in-loop (in-loop-of-then1 c))
 
 part-requires : tie.Need-part-requires Inv-loop μ-loop
-part-requires c κs = directory-lies _ _ _ (at-start (at-loop-of-loop′ c) .pre .1) (omega arith)
+part-requires c κs = directory-lies _ _ _ (at-start (at-loop-of-in-loop c) .pre .1) (omega arith)
 
 is-block-requires : tie.Need-is-block-requires Inv-loop μ-loop
 is-block-requires c κs = search needs
@@ -60,10 +60,10 @@ is-block-requires c κs = search needs
 returns : tie.Need-returns Inv-loop μ-loop
 returns c =
     sym
-    (at-loop-of-loop′ (in-loop-of-then1 c) .loop .inv .1
+    (at-loop-of-in-loop (in-loop-of-then1 c) .loop .inv .1
     ∙ operators-off (domainsIn (at-start-from-then1 c .args .domains .now)) (at-start-from-then1 c .args .image .now) _
-    (at-loop-of-loop′ (in-loop-of-then1 c) .loop .i) (at-start-from-then1 c .args .operators - (at-loop-of-loop′ (in-loop-of-then1 c)) .loop .i)
-    (at-start-from-then1 c .args .operators - (at-loop-of-loop′ (in-loop-of-then1 c) .loop .i + 1)) (omega arith) (c .before .before .part .ensures) _
+    (at-loop-of-in-loop (in-loop-of-then1 c) .loop .i) (at-start-from-then1 c .args .operators - (at-loop-of-in-loop (in-loop-of-then1 c)) .loop .i)
+    (at-start-from-then1 c .args .operators - (at-loop-of-in-loop (in-loop-of-then1 c) .loop .i + 1)) (omega arith) (c .before .before .part .ensures) _
     (c .before .is-block .ensures) (not-true _ (c .if1 .taken)))
 
 add-i : tie.Need-add-i Inv-loop μ-loop
@@ -75,10 +75,10 @@ loop-less c = search needs
 loop-again : tie.Need-loop-again Inv-loop μ-loop
 loop-again c = (
   omega arith,
-  at-loop-of-loop′ (in-loop-of-else1 c) .loop .inv .1
+  at-loop-of-in-loop (in-loop-of-else1 c) .loop .inv .1
       ∙ operators-on (domainsIn (at-start-from-else1 c .args .domains .now)) (at-start-from-else1 c .args .image .now) _
-      (at-loop-of-loop′ (in-loop-of-else1 c) .loop .i) (at-start-from-else1 c .args .operators - (at-loop-of-loop′ (in-loop-of-else1 c)) .loop .i)
-      (at-start-from-else1 c .args .operators - (at-loop-of-loop′ (in-loop-of-else1 c) .loop .i + 1)) (omega arith) (c .before .before .part .ensures)
+      (at-loop-of-in-loop (in-loop-of-else1 c) .loop .i) (at-start-from-else1 c .args .operators - (at-loop-of-in-loop (in-loop-of-else1 c)) .loop .i)
+      (at-start-from-else1 c .args .operators - (at-loop-of-in-loop (in-loop-of-else1 c) .loop .i + 1)) (omega arith) (c .before .before .part .ensures)
       _ (c .before .is-block .ensures) (not-false _ (c .if1 .left)),
 )
 
@@ -86,8 +86,8 @@ returns-2 : tie.Need-returns-2 Inv-loop μ-loop
 returns-2 c =
     sym
     (c .before .loop .inv .1
-    ∙ range-all-end (blockThere (domainsIn (at-start (at-loop-of-loop c) .args .domains .now)) (at-start (at-loop-of-loop c) .args .image .now))
-    (c .before .loop .i) (at-start (at-loop-of-loop c) .args .operators - c .before .loop .i) (omega arith))
+    ∙ range-all-end (blockThere (domainsIn (at-start (at-loop-of-after-loop c) .args .domains .now)) (at-start (at-loop-of-after-loop c) .args .image .now))
+    (c .before .loop .i) (at-start (at-loop-of-after-loop c) .args .operators - c .before .loop .i) (omega arith))
 
 pub are-operators-spec : {M : Type 1} → statement M
 are-operators-spec =

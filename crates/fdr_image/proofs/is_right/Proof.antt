@@ -42,20 +42,20 @@ after-wide-of-else3 c = c .before .before
 abbrev after-wide-of-then3 : tie.Then3 → tie.After-wide
 after-wide-of-then3 c = c .before .before
 
-abbrev after-are-counts-from-then3 : tie.Then3 → tie.After-are-counts
-after-are-counts-from-then3 c = after-are-counts (else2 ((after-wide-of-then3 c)))
-
 abbrev after-are-counts-from-else3 : tie.Else3 → tie.After-are-counts
-after-are-counts-from-else3 c = after-are-counts (else2 ((after-wide-of-else3 c)))
+after-are-counts-from-else3 c = after-are-counts (else2 (after-wide-of-else3 c))
+
+abbrev after-are-counts-from-then3 : tie.Then3 → tie.After-are-counts
+after-are-counts-from-then3 c = after-are-counts (else2 (after-wide-of-then3 c))
 
 abbrev else3 : tie.After-are-parts → tie.Else3
 else3 c = c .before
 
 abbrev after-are-counts-from-are-parts : tie.After-are-parts → tie.After-are-counts
-after-are-counts-from-are-parts c = after-are-counts-from-else3 (else3 c)
+after-are-counts-from-are-parts c = after-are-counts (else2 (after-wide-of-else3 (else3 c)))
 
 abbrev else2-from-are-parts : tie.After-are-parts → tie.Else2
-else2-from-are-parts c = else2 (after-wide-of-else3 ((else3 c)))
+else2-from-are-parts c = else2 (after-wide-of-else3 (else3 c))
 
 returns-3 : tie.Need-returns-3
 returns-3 c =

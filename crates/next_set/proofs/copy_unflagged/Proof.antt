@@ -36,20 +36,14 @@ after-shared-slice-known c = c .before .before .before
 abbrev after-rows : tie.At-loop Inv-loop μ-loop → tie.After-rows Inv-loop μ-loop
 after-rows c = c .before
 
-abbrev at-start-from-loop′′ : tie.At-loop Inv-loop μ-loop → tie.Start Inv-loop μ-loop
-at-start-from-loop′′ c = at-start (after-shared-slice-known ((after-rows c)))
+abbrev at-loop-of-after-loop : tie.After-loop Inv-loop μ-loop → tie.At-loop Inv-loop μ-loop
+at-loop-of-after-loop c = c .before
 
-abbrev at-loop-of-loop : tie.After-loop Inv-loop μ-loop → tie.At-loop Inv-loop μ-loop
-at-loop-of-loop c = c .before
+abbrev at-loop-of-in-loop : tie.In-loop Inv-loop μ-loop → tie.At-loop Inv-loop μ-loop
+at-loop-of-in-loop c = c .before
 
-abbrev at-loop-of-loop′ : tie.In-loop Inv-loop μ-loop → tie.At-loop Inv-loop μ-loop
-at-loop-of-loop′ c = c .before
-
-abbrev at-start-from-loop : tie.After-loop Inv-loop μ-loop → tie.Start Inv-loop μ-loop
-at-start-from-loop c = at-start-from-loop′′ (at-loop-of-loop c)
-
-abbrev at-start-from-loop′ : tie.In-loop Inv-loop μ-loop → tie.Start Inv-loop μ-loop
-at-start-from-loop′ c = at-start-from-loop′′ (at-loop-of-loop′ c)
+abbrev at-start-from-after-loop : tie.After-loop Inv-loop μ-loop → tie.Start Inv-loop μ-loop
+at-start-from-after-loop c = at-start (after-shared-slice-known (after-rows (at-loop-of-after-loop c)))
 
 abbrev in-loop-of-else1 : tie.Else1 Inv-loop μ-loop → tie.In-loop Inv-loop μ-loop
 in-loop-of-else1 c = c .before .before
@@ -57,62 +51,48 @@ in-loop-of-else1 c = c .before .before
 abbrev in-loop-of-then1 : tie.Then1 Inv-loop μ-loop → tie.In-loop Inv-loop μ-loop
 in-loop-of-then1 c = c .before .before
 
-abbrev at-start-from-then1 : tie.Then1 Inv-loop μ-loop → tie.Start Inv-loop μ-loop
-at-start-from-then1 c = at-start-from-loop′ (in-loop-of-then1 c)
-
 abbrev after-rows-from-then1 : tie.Then1 Inv-loop μ-loop → tie.After-rows Inv-loop μ-loop
-after-rows-from-then1 c = after-rows (at-loop-of-loop′ ((in-loop-of-then1 c)))
+after-rows-from-then1 c = after-rows (at-loop-of-in-loop (in-loop-of-then1 c))
 
-abbrev at-start-from-else1 : tie.Else1 Inv-loop μ-loop → tie.Start Inv-loop μ-loop
-at-start-from-else1 c = at-start-from-loop′ (in-loop-of-else1 c)
-
-abbrev after-rows-from-else1 : tie.Else1 Inv-loop μ-loop → tie.After-rows Inv-loop μ-loop
-after-rows-from-else1 c = after-rows (at-loop-of-loop′ ((in-loop-of-else1 c)))
+abbrev at-start-from-then1 : tie.Then1 Inv-loop μ-loop → tie.Start Inv-loop μ-loop
+at-start-from-then1 c = at-start (after-shared-slice-known (after-rows (at-loop-of-in-loop (in-loop-of-then1 c))))
 
 abbrev else1 : tie.After-row Inv-loop μ-loop → tie.Else1 Inv-loop μ-loop
 else1 c = c .before
 
-abbrev at-loop-from-row : tie.After-row Inv-loop μ-loop → tie.At-loop Inv-loop μ-loop
-at-loop-from-row c = at-loop-of-loop′ (in-loop-of-else1 ((else1 c)))
-
-abbrev at-start-from-row : tie.After-row Inv-loop μ-loop → tie.Start Inv-loop μ-loop
-at-start-from-row c = at-start-from-else1 (else1 c)
-
-abbrev after-rows-from-row : tie.After-row Inv-loop μ-loop → tie.After-rows Inv-loop μ-loop
-after-rows-from-row c = after-rows-from-else1 (else1 c)
-
 abbrev after-row : tie.After-copy-to-arg Inv-loop μ-loop → tie.After-row Inv-loop μ-loop
 after-row c = c .before
 
+abbrev after-rows-from-copy-to-arg : tie.After-copy-to-arg Inv-loop μ-loop → tie.After-rows Inv-loop μ-loop
+after-rows-from-copy-to-arg c = after-rows (at-loop-of-in-loop (in-loop-of-else1 (else1 (after-row c))))
+
 abbrev at-loop-from-copy-to-arg : tie.After-copy-to-arg Inv-loop μ-loop → tie.At-loop Inv-loop μ-loop
-at-loop-from-copy-to-arg c = at-loop-from-row (after-row c)
+at-loop-from-copy-to-arg c = at-loop-of-in-loop (in-loop-of-else1 (else1 (after-row c)))
 
 abbrev at-start-from-copy-to-arg : tie.After-copy-to-arg Inv-loop μ-loop → tie.Start Inv-loop μ-loop
-at-start-from-copy-to-arg c = at-start-from-row (after-row c)
-
-abbrev after-rows-from-copy-to-arg : tie.After-copy-to-arg Inv-loop μ-loop → tie.After-rows Inv-loop μ-loop
-after-rows-from-copy-to-arg c = after-rows-from-row (after-row c)
+at-start-from-copy-to-arg c = at-start (after-shared-slice-known (after-rows (at-loop-of-in-loop (in-loop-of-else1 (else1 (after-row c))))))
 
 abbrev in-loop-from-copy-to-arg : tie.After-copy-to-arg Inv-loop μ-loop → tie.In-loop Inv-loop μ-loop
-in-loop-from-copy-to-arg c = in-loop-of-else1 (else1 ((after-row c)))
+in-loop-from-copy-to-arg c = in-loop-of-else1 (else1 (after-row c))
 
 abbrev after-copy-to-arg : tie.After-slice-known2 Inv-loop μ-loop → tie.After-copy-to-arg Inv-loop μ-loop
 after-copy-to-arg c = c .before .before .before
 
+abbrev after-rows-from-slice-known2 : tie.After-slice-known2 Inv-loop μ-loop → tie.After-rows Inv-loop μ-loop
+after-rows-from-slice-known2 c = after-rows (at-loop-of-in-loop (in-loop-of-else1 (else1 (after-row (after-copy-to-arg c)))))
+
 abbrev at-loop-from-slice-known2 : tie.After-slice-known2 Inv-loop μ-loop → tie.At-loop Inv-loop μ-loop
-at-loop-from-slice-known2 c = at-loop-from-copy-to-arg (after-copy-to-arg c)
+at-loop-from-slice-known2 c = at-loop-of-in-loop (in-loop-of-else1 (else1 (after-row (after-copy-to-arg c))))
 
 abbrev at-start-from-slice-known2 : tie.After-slice-known2 Inv-loop μ-loop → tie.Start Inv-loop μ-loop
-at-start-from-slice-known2 c = at-start-from-copy-to-arg (after-copy-to-arg c)
-
-abbrev after-rows-from-slice-known2 : tie.After-slice-known2 Inv-loop μ-loop → tie.After-rows Inv-loop μ-loop
-after-rows-from-slice-known2 c = after-rows-from-copy-to-arg (after-copy-to-arg c)
-
-abbrev in-loop-from-slice-known2 : tie.After-slice-known2 Inv-loop μ-loop → tie.In-loop Inv-loop μ-loop
-in-loop-from-slice-known2 c = in-loop-from-copy-to-arg (after-copy-to-arg c)
+at-start-from-slice-known2 c =
+    at-start (after-shared-slice-known (after-rows (at-loop-of-in-loop (in-loop-of-else1 (else1 (after-row (after-copy-to-arg c)))))))
 
 abbrev else1-from-slice-known2 : tie.After-slice-known2 Inv-loop μ-loop → tie.Else1 Inv-loop μ-loop
-else1-from-slice-known2 c = else1 (after-row ((after-copy-to-arg c)))
+else1-from-slice-known2 c = else1 (after-row (after-copy-to-arg c))
+
+abbrev in-loop-from-slice-known2 : tie.After-slice-known2 Inv-loop μ-loop → tie.In-loop Inv-loop μ-loop
+in-loop-from-slice-known2 c = in-loop-of-else1 (else1 (after-row (after-copy-to-arg c)))
 
 loop-holds : tie.Need-loop-holds Inv-loop μ-loop
 loop-holds c = (
@@ -199,9 +179,9 @@ same-length c = c .before .loop .inv .3
 returns : tie.Need-returns Inv-loop μ-loop
 returns c =
     let l = c .before .loop in
-    let a = at-start-from-loop c .args in
+    let a = at-start-from-after-loop c .args in
     copy-end (now (a .clauses)) (now (a .flags)) (l .work) (c .before .before .rows .result) (l .count) (l .i) (l .inv .4) (c .loop-test .left)
-    (l .inv .0) (omega arith) (omega (arith, l .inv .3, at-start-from-loop c .pre .1))
+    (l .inv .0) (omega arith) (omega (arith, l .inv .3, at-start-from-after-loop c .pre .1))
 
 pub copy-unflagged-spec : {M : Type 1} → statement M
 copy-unflagged-spec =

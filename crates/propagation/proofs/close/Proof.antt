@@ -29,20 +29,17 @@ after-shared-slice-known c = c .before .before .before
 abbrev after-clear-arg : tie.After-clear → tie.After-clear-arg
 after-clear-arg c = c .before
 
-abbrev at-start-from-clear : tie.After-clear → tie.Start
-at-start-from-clear c = at-start (after-shared-slice-known ((after-clear-arg c)))
-
 abbrev after-clear : tie.After-propagate-arg → tie.After-clear
 after-clear c = c .before .before .before
 
 abbrev at-start-from-propagate-arg : tie.After-propagate-arg → tie.Start
-at-start-from-propagate-arg c = at-start-from-clear (after-clear c)
+at-start-from-propagate-arg c = at-start (after-shared-slice-known (after-clear-arg (after-clear c)))
 
 abbrev after-propagate-arg : tie.After-slice-known3 → tie.After-propagate-arg
 after-propagate-arg c = c .before .before .before
 
 abbrev at-start-from-slice-known3 : tie.After-slice-known3 → tie.Start
-at-start-from-slice-known3 c = at-start-from-propagate-arg (after-propagate-arg c)
+at-start-from-slice-known3 c = at-start (after-shared-slice-known (after-clear-arg (after-clear (after-propagate-arg c))))
 
 propagate-requires : tie.Need-propagate-requires
 propagate-requires c κs =

@@ -25,7 +25,7 @@ abbrev after-propagate-arg : tie.After-slice-known2 → tie.After-propagate-arg
 after-propagate-arg c = c .before .before .before
 
 abbrev at-start-from-slice-known2 : tie.After-slice-known2 → tie.Start
-at-start-from-slice-known2 c = at-start (after-shared-slice-known ((after-propagate-arg c)))
+at-start-from-slice-known2 c = at-start (after-shared-slice-known (after-propagate-arg c))
 
 slice-aggregate-propagate : tie.Need-slice-aggregate-propagate
 slice-aggregate-propagate c = sym (length-take-le _ _ (at-start (after-shared-slice-known c) .pre .0 .room))

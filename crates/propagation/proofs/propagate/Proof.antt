@@ -19,13 +19,10 @@ abbrev after-seed-arg : tie.After-seed → tie.After-seed-arg
 after-seed-arg c = c .before
 
 abbrev at-start-from-seed : tie.After-seed → tie.Start
-at-start-from-seed c = at-start (after-shared-slice-known ((after-seed-arg c)))
+at-start-from-seed c = at-start (after-shared-slice-known (after-seed-arg c))
 
 abbrev after-seed : tie.After-marks → tie.After-seed
 after-seed c = c .before
-
-abbrev at-start-from-marks : tie.After-marks → tie.Start
-at-start-from-marks c = at-start-from-seed (after-seed c)
 
 abbrev after-marks-of-enum-told : tie.After-enum-told → tie.After-marks
 after-marks-of-enum-told c = c .before .before .before
@@ -33,23 +30,20 @@ after-marks-of-enum-told c = c .before .before .before
 abbrev after-marks-of-enum-told2 : tie.After-enum-told2 → tie.After-marks
 after-marks-of-enum-told2 c = c .before .before .before
 
-abbrev at-start-from-enum-told2 : tie.After-enum-told2 → tie.Start
-at-start-from-enum-told2 c = at-start-from-marks (after-marks-of-enum-told2 c)
-
 abbrev after-enum-told2 : tie.After-saturate-arg → tie.After-enum-told2
 after-enum-told2 c = c .before
 
-abbrev at-start-from-saturate-arg : tie.After-saturate-arg → tie.Start
-at-start-from-saturate-arg c = at-start-from-enum-told2 (after-enum-told2 c)
-
 abbrev after-seed-from-saturate-arg : tie.After-saturate-arg → tie.After-seed
-after-seed-from-saturate-arg c = after-seed (after-marks-of-enum-told2 ((after-enum-told2 c)))
+after-seed-from-saturate-arg c = after-seed (after-marks-of-enum-told2 (after-enum-told2 c))
+
+abbrev at-start-from-saturate-arg : tie.After-saturate-arg → tie.Start
+at-start-from-saturate-arg c = at-start (after-shared-slice-known (after-seed-arg (after-seed (after-marks-of-enum-told2 (after-enum-told2 c)))))
 
 abbrev after-saturate-arg : tie.After-slice-known3 → tie.After-saturate-arg
 after-saturate-arg c = c .before .before .before
 
 abbrev after-seed-from-slice-known3 : tie.After-slice-known3 → tie.After-seed
-after-seed-from-slice-known3 c = after-seed-from-saturate-arg (after-saturate-arg c)
+after-seed-from-slice-known3 c = after-seed (after-marks-of-enum-told2 (after-enum-told2 (after-saturate-arg c)))
 
 -- what adding the literals did
 abbrev start : tie.After-seed → tie.Start

@@ -28,14 +28,11 @@ at-loop c = c .before
 abbrev after-walk-arg : tie.After-walk Inv-loop μ-loop → tie.After-walk-arg Inv-loop μ-loop
 after-walk-arg c = c .before
 
-abbrev at-start-from-walk : tie.After-walk Inv-loop μ-loop → tie.Start Inv-loop μ-loop
-at-start-from-walk c = at-start (at-loop ((after-walk-arg c)))
+abbrev at-start-from-after-walk : tie.After-walk Inv-loop μ-loop → tie.Start Inv-loop μ-loop
+at-start-from-after-walk c = at-start (at-loop (after-walk-arg c))
 
 abbrev after-walk : tie.After-marks Inv-loop μ-loop → tie.After-walk Inv-loop μ-loop
 after-walk c = c .before
-
-abbrev at-loop-from-marks : tie.After-marks Inv-loop μ-loop → tie.At-loop Inv-loop μ-loop
-at-loop-from-marks c = at-loop (after-walk-arg ((after-walk c)))
 
 abbrev after-marks-of-enum-told : tie.After-enum-told Inv-loop μ-loop → tie.After-marks Inv-loop μ-loop
 after-marks-of-enum-told c = c .before .before .before
@@ -47,14 +44,14 @@ abbrev after-marks-of-enum-told3 : tie.After-enum-told3 Inv-loop μ-loop → tie
 after-marks-of-enum-told3 c = c .before .before .before
 
 abbrev at-loop-from-enum-told : tie.After-enum-told Inv-loop μ-loop → tie.At-loop Inv-loop μ-loop
-at-loop-from-enum-told c = at-loop-from-marks (after-marks-of-enum-told c)
+at-loop-from-enum-told c = at-loop (after-walk-arg (after-walk (after-marks-of-enum-told c)))
 
 abbrev at-loop-from-enum-told2 : tie.After-enum-told2 Inv-loop μ-loop → tie.At-loop Inv-loop μ-loop
-at-loop-from-enum-told2 c = at-loop-from-marks (after-marks-of-enum-told2 c)
+at-loop-from-enum-told2 c = at-loop (after-walk-arg (after-walk (after-marks-of-enum-told2 c)))
 
 -- after a walk: the clause words, and what the walk did
 abbrev words : tie.After-walk Inv-loop μ-loop → List ℕ
-words c = now (at-start-from-walk c .args .clauses)
+words c = now (at-start-from-after-walk c .args .clauses)
 
 walked : (c : tie.After-walk Inv-loop μ-loop) (v : Pass) → c .walk .result ≡ v → Passed (words c) (c .before .before .loop .marks) (c .walk .last .1 .0) v
 walked c v e = subst (λ (x : Pass). Passed (words c) (c .before .before .loop .marks) (c .walk .last .1 .0) x) e (c .walk .ensures)

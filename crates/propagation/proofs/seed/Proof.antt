@@ -42,11 +42,11 @@ in-loop c = c .before .before
 abbrev after-is-false-arg-of-then1 : tie.Then1 Inv-loop μ-loop → tie.After-is-false-arg Inv-loop μ-loop
 after-is-false-arg-of-then1 c = c .before .before
 
-abbrev at-loop-from-then1 : tie.Then1 Inv-loop μ-loop → tie.At-loop Inv-loop μ-loop
-at-loop-from-then1 c = at-loop (in-loop ((after-is-false-arg-of-then1 c)))
-
 abbrev after-is-false-arg-of-wide : tie.After-wide Inv-loop μ-loop → tie.After-is-false-arg Inv-loop μ-loop
 after-is-false-arg-of-wide c = c .before .before .before
+
+abbrev at-loop-from-then1 : tie.Then1 Inv-loop μ-loop → tie.At-loop Inv-loop μ-loop
+at-loop-from-then1 c = at-loop (in-loop (after-is-false-arg-of-then1 c))
 
 is-false-requires : tie.Need-is-false-requires Inv-loop μ-loop
 is-false-requires c κs =

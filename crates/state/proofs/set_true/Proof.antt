@@ -46,7 +46,7 @@ abbrev after-wide : tie.After-slice-known2 Inv-loop μ-loop → tie.After-wide I
 after-wide c = c .before .before .before
 
 abbrev at-loop-from-slice-known2 : tie.After-slice-known2 Inv-loop μ-loop → tie.At-loop Inv-loop μ-loop
-at-loop-from-slice-known2 c = at-loop (in-loop ((after-wide c)))
+at-loop-from-slice-known2 c = at-loop (in-loop (after-wide c))
 
 loop-again : tie.Need-loop-again Inv-loop μ-loop
 loop-again c =

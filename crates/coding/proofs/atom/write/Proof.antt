@@ -25,22 +25,22 @@ at-start c = c .before
 abbrev after-shared-slice-known : tie.At-loop Inv-loop μ-loop → tie.After-shared-slice-known Inv-loop μ-loop
 after-shared-slice-known c = c .before .before .before
 
-abbrev at-loop-of-loop : tie.After-loop Inv-loop μ-loop → tie.At-loop Inv-loop μ-loop
-at-loop-of-loop c = c .before
+abbrev at-loop-of-after-loop : tie.After-loop Inv-loop μ-loop → tie.At-loop Inv-loop μ-loop
+at-loop-of-after-loop c = c .before
 
-abbrev at-loop-of-loop′ : tie.In-loop Inv-loop μ-loop → tie.At-loop Inv-loop μ-loop
-at-loop-of-loop′ c = c .before
+abbrev at-loop-of-in-loop : tie.In-loop Inv-loop μ-loop → tie.At-loop Inv-loop μ-loop
+at-loop-of-in-loop c = c .before
 
-abbrev at-start-from-loop : tie.In-loop Inv-loop μ-loop → tie.Start Inv-loop μ-loop
-at-start-from-loop c = at-start (after-shared-slice-known ((at-loop-of-loop′ c)))
+abbrev at-start-from-after-loop : tie.After-loop Inv-loop μ-loop → tie.Start Inv-loop μ-loop
+at-start-from-after-loop c = at-start (after-shared-slice-known (at-loop-of-after-loop c))
 
-abbrev at-start-from-loop′ : tie.After-loop Inv-loop μ-loop → tie.Start Inv-loop μ-loop
-at-start-from-loop′ c = at-start (after-shared-slice-known ((at-loop-of-loop c)))
+abbrev at-start-from-in-loop : tie.In-loop Inv-loop μ-loop → tie.Start Inv-loop μ-loop
+at-start-from-in-loop c = at-start (after-shared-slice-known (at-loop-of-in-loop c))
 
 byte-of-requires : tie.Need-byte-of-requires Inv-loop μ-loop
 byte-of-requires c κs = (
-  record { reads = at-start-from-loop c .pre .reads; source = at-start-from-loop c .pre .source; target = refl },
-  omega (arith, at-start-from-loop c .pre .target, c .before .loop .inv .1),
+  record { reads = at-start-from-in-loop c .pre .reads; source = at-start-from-in-loop c .pre .source; target = refl },
+  omega (arith, at-start-from-in-loop c .pre .target, c .before .loop .inv .1),
 )
 
 slice-write-target : tie.Need-slice-write-target Inv-loop μ-loop
@@ -63,7 +63,7 @@ same-length : tie.Need-same-length Inv-loop μ-loop
 same-length c = search needs
 
 returns : tie.Need-returns Inv-loop μ-loop
-returns c = written-all _ (c .before .loop .inv .2) _ (c .loop-test .left) (c .before .loop .inv .1 ∙ at-start-from-loop′ c .pre .target) ∙ atoms-are _ _
+returns c = written-all _ (c .before .loop .inv .2) _ (c .loop-test .left) (c .before .loop .inv .1 ∙ at-start-from-after-loop c .pre .target) ∙ atoms-are _ _
 
 pub write-spec : {M : Type 1} → statement M
 write-spec =

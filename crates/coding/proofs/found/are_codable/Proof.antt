@@ -40,7 +40,7 @@ abbrev at-loop : tie.After-shared-slice-known3 Inv-loop μ-loop → tie.At-loop 
 at-loop c = c .before .before
 
 abbrev at-start-from-shared-slice-known3 : tie.After-shared-slice-known3 Inv-loop μ-loop → tie.Start Inv-loop μ-loop
-at-start-from-shared-slice-known3 c = at-start (after-variables ((at-loop c)))
+at-start-from-shared-slice-known3 c = at-start (after-variables (at-loop c))
 
 abbrev after-shared-slice-known3-of-else1 : tie.Else1 Inv-loop μ-loop → tie.After-shared-slice-known3 Inv-loop μ-loop
 after-shared-slice-known3-of-else1 c = c .before .before
@@ -48,11 +48,11 @@ after-shared-slice-known3-of-else1 c = c .before .before
 abbrev after-shared-slice-known3-of-then1 : tie.Then1 Inv-loop μ-loop → tie.After-shared-slice-known3 Inv-loop μ-loop
 after-shared-slice-known3-of-then1 c = c .before .before
 
-abbrev after-variables-from-then1 : tie.Then1 Inv-loop μ-loop → tie.After-variables Inv-loop μ-loop
-after-variables-from-then1 c = after-variables (at-loop ((after-shared-slice-known3-of-then1 c)))
-
 abbrev after-variables-from-else1 : tie.Else1 Inv-loop μ-loop → tie.After-variables Inv-loop μ-loop
-after-variables-from-else1 c = after-variables (at-loop ((after-shared-slice-known3-of-else1 c)))
+after-variables-from-else1 c = after-variables (at-loop (after-shared-slice-known3-of-else1 c))
+
+abbrev after-variables-from-then1 : tie.Then1 Inv-loop μ-loop → tie.After-variables Inv-loop μ-loop
+after-variables-from-then1 c = after-variables (at-loop (after-shared-slice-known3-of-then1 c))
 
 shared-slice-read-is-codable : tie.Need-shared-slice-read-is-codable Inv-loop μ-loop
 shared-slice-read-is-codable c = omega (arith, at-start-from-shared-slice-known3 c .pre .1, c .before .before .before .variables .ensures .1)

@@ -26,28 +26,28 @@ at-start c = c .before
 abbrev after-shared-slice-known : tie.At-loop Inv-loop μ-loop → tie.After-shared-slice-known Inv-loop μ-loop
 after-shared-slice-known c = c .before .before .before
 
-abbrev at-loop-of-loop : tie.After-loop Inv-loop μ-loop → tie.At-loop Inv-loop μ-loop
-at-loop-of-loop c = c .before
+abbrev at-loop-of-after-loop : tie.After-loop Inv-loop μ-loop → tie.At-loop Inv-loop μ-loop
+at-loop-of-after-loop c = c .before
 
-abbrev at-loop-of-loop′ : tie.In-loop Inv-loop μ-loop → tie.At-loop Inv-loop μ-loop
-at-loop-of-loop′ c = c .before
+abbrev at-loop-of-in-loop : tie.In-loop Inv-loop μ-loop → tie.At-loop Inv-loop μ-loop
+at-loop-of-in-loop c = c .before
 
-abbrev at-start-from-loop : tie.In-loop Inv-loop μ-loop → tie.Start Inv-loop μ-loop
-at-start-from-loop c = at-start (after-shared-slice-known ((at-loop-of-loop′ c)))
+abbrev at-start-from-after-loop : tie.After-loop Inv-loop μ-loop → tie.Start Inv-loop μ-loop
+at-start-from-after-loop c = at-start (after-shared-slice-known (at-loop-of-after-loop c))
 
-abbrev at-start-from-loop′ : tie.After-loop Inv-loop μ-loop → tie.Start Inv-loop μ-loop
-at-start-from-loop′ c = at-start (after-shared-slice-known ((at-loop-of-loop c)))
+abbrev at-start-from-in-loop : tie.In-loop Inv-loop μ-loop → tie.Start Inv-loop μ-loop
+at-start-from-in-loop c = at-start (after-shared-slice-known (at-loop-of-in-loop c))
 
 abbrev in-loop : tie.After-shared-slice-known3 Inv-loop μ-loop → tie.In-loop Inv-loop μ-loop
 in-loop c = c .before
 
 abbrev at-start-from-shared-slice-known3 : tie.After-shared-slice-known3 Inv-loop μ-loop → tie.Start Inv-loop μ-loop
-at-start-from-shared-slice-known3 c = at-start-from-loop (in-loop c)
+at-start-from-shared-slice-known3 c = at-start (after-shared-slice-known (at-loop-of-in-loop (in-loop c)))
 
 mul-value-at : tie.Need-mul-value-at Inv-loop μ-loop
 mul-value-at c =
-    let few = variables-are _ (at-start-from-loop c .pre .reads) in
-    omega (arith, few .0, few .1, at-start-from-loop c .pre .target, c .before .loop .inv .1)
+    let few = variables-are _ (at-start-from-in-loop c .pre .reads) in
+    omega (arith, few .0, few .1, at-start-from-in-loop c .pre .target, c .before .loop .inv .1)
 
 shared-slice-read-value-at : tie.Need-shared-slice-read-value-at Inv-loop μ-loop
 shared-slice-read-value-at c =
@@ -92,7 +92,7 @@ same-length : tie.Need-same-length Inv-loop μ-loop
 same-length c = search needs
 
 returns : tie.Need-returns Inv-loop μ-loop
-returns c = written-all _ (c .before .loop .inv .2) _ (c .loop-test .left) (c .before .loop .inv .1 ∙ at-start-from-loop′ c .pre .target)
+returns c = written-all _ (c .before .loop .inv .2) _ (c .loop-test .left) (c .before .loop .inv .1 ∙ at-start-from-after-loop c .pre .target)
 
 pub write-spec : {M : Type 1} → statement M
 write-spec =

@@ -33,23 +33,23 @@ after-kind-of-of-enum-told c = c .before .before
 abbrev after-kind-of-of-enum-told2 : tie.After-enum-told2 → tie.After-kind-of
 after-kind-of-of-enum-told2 c = c .before .before
 
-abbrev after-enum-told2 : tie.After-note-clear-arg → tie.After-enum-told2
-after-enum-told2 c = c .before
-
 abbrev after-enum-told : tie.After-note-set-arg → tie.After-enum-told
 after-enum-told c = c .before
 
-abbrev after-note-set-arg : tie.After-slice-known2 → tie.After-note-set-arg
-after-note-set-arg c = c .before .before .before
+abbrev after-enum-told2 : tie.After-note-clear-arg → tie.After-enum-told2
+after-enum-told2 c = c .before
 
 abbrev after-note-clear-arg : tie.After-slice-known3 → tie.After-note-clear-arg
 after-note-clear-arg c = c .before .before .before
 
+abbrev after-note-set-arg : tie.After-slice-known2 → tie.After-note-set-arg
+after-note-set-arg c = c .before .before .before
+
 abbrev after-kind-of-from-slice-known2 : tie.After-slice-known2 → tie.After-kind-of
-after-kind-of-from-slice-known2 c = after-kind-of-of-enum-told (after-enum-told ((after-note-set-arg c)))
+after-kind-of-from-slice-known2 c = after-kind-of-of-enum-told (after-enum-told (after-note-set-arg c))
 
 abbrev after-kind-of-from-slice-known3 : tie.After-slice-known3 → tie.After-kind-of
-after-kind-of-from-slice-known3 c = after-kind-of-of-enum-told2 (after-enum-told2 ((after-note-clear-arg c)))
+after-kind-of-from-slice-known3 c = after-kind-of-of-enum-told2 (after-enum-told2 (after-note-clear-arg c))
 
 returns : tie.Need-returns
 returns c = (

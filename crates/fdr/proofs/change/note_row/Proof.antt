@@ -31,17 +31,14 @@ after-all-true c = c .before
 abbrev else2 : tie.After-note-kind-arg → tie.Else2
 else2 c = c .before
 
-abbrev else1-from-note-kind-arg : tie.After-note-kind-arg → tie.Else1
-else1-from-note-kind-arg c = else1 (after-all-true ((else2 c)))
-
 abbrev after-note-kind-arg : tie.After-slice-known2 → tie.After-note-kind-arg
 after-note-kind-arg c = c .before .before .before
 
 abbrev after-all-true-from-slice-known2 : tie.After-slice-known2 → tie.After-all-true
-after-all-true-from-slice-known2 c = after-all-true (else2 ((after-note-kind-arg c)))
+after-all-true-from-slice-known2 c = after-all-true (else2 (after-note-kind-arg c))
 
 abbrev else1-from-slice-known2 : tie.After-slice-known2 → tie.Else1
-else1-from-slice-known2 c = else1-from-note-kind-arg (after-note-kind-arg c)
+else1-from-slice-known2 c = else1 (after-all-true (else2 (after-note-kind-arg c)))
 
 returns-3 : tie.Need-returns-3
 returns-3 c = (

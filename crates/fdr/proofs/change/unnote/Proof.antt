@@ -43,7 +43,7 @@ abbrev after-struct-known : tie.After-row Inv-loop μ-loop → tie.After-struct-
 after-struct-known c = c .before .before .before
 
 abbrev at-start-from-row : tie.After-row Inv-loop μ-loop → tie.Start Inv-loop μ-loop
-at-start-from-row c = at-start (after-head ((after-struct-known c)))
+at-start-from-row c = at-start (after-head (after-struct-known c))
 
 loop-holds : tie.Need-loop-holds Inv-loop μ-loop
 loop-holds c =

@@ -38,43 +38,42 @@ abbrev after-slice-known : tie.After-struct-known Inv-loop μ-loop → tie.After
 after-slice-known c = c .before .before
 
 abbrev at-start-from-struct-known : tie.After-struct-known Inv-loop μ-loop → tie.Start Inv-loop μ-loop
-at-start-from-struct-known c = at-start (after-shared-slice-known ((after-slice-known c)))
+at-start-from-struct-known c = at-start (after-shared-slice-known (after-slice-known c))
 
 abbrev after-struct-known : tie.At-loop Inv-loop μ-loop → tie.After-struct-known Inv-loop μ-loop
 after-struct-known c = c .before
-
-abbrev at-start-from-loop : tie.At-loop Inv-loop μ-loop → tie.Start Inv-loop μ-loop
-at-start-from-loop c = at-start-from-struct-known (after-struct-known c)
 
 abbrev at-loop : tie.After-row Inv-loop μ-loop → tie.At-loop Inv-loop μ-loop
 at-loop c = c .before .before
 
 abbrev at-start-from-row : tie.After-row Inv-loop μ-loop → tie.Start Inv-loop μ-loop
-at-start-from-row c = at-start-from-loop (at-loop c)
+at-start-from-row c = at-start (after-shared-slice-known (after-slice-known (after-struct-known (at-loop c))))
 
 abbrev after-row : tie.After-shared-slice-known4 Inv-loop μ-loop → tie.After-row Inv-loop μ-loop
 after-row c = c .before
 
 abbrev at-start-from-shared-slice-known4 : tie.After-shared-slice-known4 Inv-loop μ-loop → tie.Start Inv-loop μ-loop
-at-start-from-shared-slice-known4 c = at-start-from-row (after-row c)
+at-start-from-shared-slice-known4 c = at-start (after-shared-slice-known (after-slice-known (after-struct-known (at-loop (after-row c)))))
 
 abbrev after-shared-slice-known4 : tie.After-slice-known2 Inv-loop μ-loop → tie.After-shared-slice-known4 Inv-loop μ-loop
 after-shared-slice-known4 c = c .before
 
 abbrev at-loop-from-slice-known2 : tie.After-slice-known2 Inv-loop μ-loop → tie.At-loop Inv-loop μ-loop
-at-loop-from-slice-known2 c = at-loop (after-row ((after-shared-slice-known4 c)))
+at-loop-from-slice-known2 c = at-loop (after-row (after-shared-slice-known4 c))
 
 abbrev at-start-from-slice-known2 : tie.After-slice-known2 Inv-loop μ-loop → tie.Start Inv-loop μ-loop
-at-start-from-slice-known2 c = at-start-from-shared-slice-known4 (after-shared-slice-known4 c)
+at-start-from-slice-known2 c =
+    at-start (after-shared-slice-known (after-slice-known (after-struct-known (at-loop (after-row (after-shared-slice-known4 c))))))
 
 abbrev after-slice-known2 : tie.After-new-value Inv-loop μ-loop → tie.After-slice-known2 Inv-loop μ-loop
 after-slice-known2 c = c .before
 
 abbrev at-loop-from-new-value : tie.After-new-value Inv-loop μ-loop → tie.At-loop Inv-loop μ-loop
-at-loop-from-new-value c = at-loop-from-slice-known2 (after-slice-known2 c)
+at-loop-from-new-value c = at-loop (after-row (after-shared-slice-known4 (after-slice-known2 c)))
 
 abbrev at-start-from-new-value : tie.After-new-value Inv-loop μ-loop → tie.Start Inv-loop μ-loop
-at-start-from-new-value c = at-start-from-slice-known2 (after-slice-known2 c)
+at-start-from-new-value c =
+    at-start (after-shared-slice-known (after-slice-known (after-struct-known (at-loop (after-row (after-shared-slice-known4 (after-slice-known2 c)))))))
 
 head-requires : tie.Need-head-requires Inv-loop μ-loop
 head-requires c κs = at-start (after-shared-slice-known c) .pre .block .parses

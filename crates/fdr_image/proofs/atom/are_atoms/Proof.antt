@@ -20,32 +20,32 @@ else1-of-else2 c = c .before
 abbrev else1-of-then2 : tie.Then2 → tie.Else1
 else1-of-then2 c = c .before
 
-abbrev else2-of-then3 : tie.Then3 → tie.Else2
-else2-of-then3 c = c .before
-
-abbrev at-start-from-then3 : tie.Then3 → tie.Start
-at-start-from-then3 c = at-start (else1-of-else2 ((else2-of-then3 c)))
-
 abbrev else2-of-else4 : tie.Else4 → tie.Else2
 else2-of-else4 c = c .before .before .before
+
+abbrev else2-of-then3 : tie.Then3 → tie.Else2
+else2-of-then3 c = c .before
 
 abbrev else2-of-then4 : tie.Then4 → tie.Else2
 else2-of-then4 c = c .before .before .before
 
-abbrev at-start-from-then4 : tie.Then4 → tie.Start
-at-start-from-then4 c = at-start (else1-of-else2 ((else2-of-then4 c)))
-
 abbrev at-start-from-else4 : tie.Else4 → tie.Start
-at-start-from-else4 c = at-start (else1-of-else2 ((else2-of-else4 c)))
+at-start-from-else4 c = at-start (else1-of-else2 (else2-of-else4 c))
+
+abbrev at-start-from-then3 : tie.Then3 → tie.Start
+at-start-from-then3 c = at-start (else1-of-else2 (else2-of-then3 c))
+
+abbrev at-start-from-then4 : tie.Then4 → tie.Start
+at-start-from-then4 c = at-start (else1-of-else2 (else2-of-then4 c))
 
 abbrev else4 : tie.After-are-given-once → tie.Else4
 else4 c = c .before
 
 abbrev at-start-from-are-given-once : tie.After-are-given-once → tie.Start
-at-start-from-are-given-once c = at-start-from-else4 (else4 c)
+at-start-from-are-given-once c = at-start (else1-of-else2 (else2-of-else4 (else4 c)))
 
 abbrev else1-from-are-given-once : tie.After-are-given-once → tie.Else1
-else1-from-are-given-once c = else1-of-else2 (else2-of-else4 ((else4 c)))
+else1-from-are-given-once c = else1-of-else2 (else2-of-else4 (else4 c))
 
 returns-2 : tie.Need-returns-2
 returns-2 c = atoms-none _ (at-start (else1-of-then2 c) .args .atoms .now) (c .before .if1 .left) (c .if2 .taken)

@@ -30,8 +30,8 @@ same-length c = search needs
 abbrev at-start : tie.At-loop Inv-loop μ-loop → tie.Start Inv-loop μ-loop
 at-start c = c .before .before .before
 
-abbrev at-loop-of-loop : tie.After-loop Inv-loop μ-loop → tie.At-loop Inv-loop μ-loop
-at-loop-of-loop c = c .before
+abbrev at-loop-of-after-loop : tie.After-loop Inv-loop μ-loop → tie.At-loop Inv-loop μ-loop
+at-loop-of-after-loop c = c .before
 
 abbrev at-loop-of-else1 : tie.Else1 Inv-loop μ-loop → tie.At-loop Inv-loop μ-loop
 at-loop-of-else1 c = c .before .before
@@ -43,7 +43,7 @@ abbrev else1 : tie.After-atom-values Inv-loop μ-loop → tie.Else1 Inv-loop μ-
 else1 c = c .before
 
 abbrev at-start-from-atom-values : tie.After-atom-values Inv-loop μ-loop → tie.Start Inv-loop μ-loop
-at-start-from-atom-values c = at-start (at-loop-of-else1 ((else1 c)))
+at-start-from-atom-values c = at-start (at-loop-of-else1 (else1 c))
 
 returns : tie.Need-returns Inv-loop μ-loop
 returns c =
@@ -107,9 +107,9 @@ returns-2 : tie.Need-returns-2 Inv-loop μ-loop
 returns-2 c =
     record {
       all-values =
-          before-end (domainsIn (at-start (at-loop-of-loop c) .args .domains .now)) (c .before .loop .v) _ _
-          (omega (arith, domains-length (at-start (at-loop-of-loop c) .args .domains .now))) (c .before .loop .inv .2);
-      begin = λ e v h. c .before .loop .inv .3 v (omega (arith, domains-length (at-start (at-loop-of-loop c) .args .domains .now)));
+          before-end (domainsIn (at-start (at-loop-of-after-loop c) .args .domains .now)) (c .before .loop .v) _ _
+          (omega (arith, domains-length (at-start (at-loop-of-after-loop c) .args .domains .now))) (c .before .loop .inv .2);
+      begin = λ e v h. c .before .loop .inv .3 v (omega (arith, domains-length (at-start (at-loop-of-after-loop c) .args .domains .now)));
     }
 
 pub put-starts-spec : {M : Type 1} → statement M

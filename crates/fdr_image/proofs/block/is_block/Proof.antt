@@ -35,46 +35,34 @@ abbrev after-wide-of-then2 : tie.Then2 → tie.After-wide
 after-wide-of-then2 c = c .before
 
 abbrev at-start-from-then2 : tie.Then2 → tie.Start
-at-start-from-then2 c = at-start (after-shared-slice-known2 ((after-wide-of-then2 c)))
-
-abbrev at-start-from-else2 : tie.Else2 → tie.Start
-at-start-from-else2 c = at-start (after-shared-slice-known2 ((after-wide-of-else2 c)))
+at-start-from-then2 c = at-start (after-shared-slice-known2 (after-wide-of-then2 c))
 
 abbrev else2 : tie.After-are-literals → tie.Else2
 else2 c = c .before .before
 
-abbrev at-start-from-are-literals : tie.After-are-literals → tie.Start
-at-start-from-are-literals c = at-start-from-else2 (else2 c)
-
 abbrev after-are-literals-of-then3 : tie.Then3 → tie.After-are-literals
 after-are-literals-of-then3 c = c .before
-
-abbrev at-start-from-then3 : tie.Then3 → tie.Start
-at-start-from-then3 c = at-start-from-are-literals (after-are-literals-of-then3 c)
-
-abbrev after-wide-from-then3 : tie.Then3 → tie.After-wide
-after-wide-from-then3 c = after-wide-of-else2 (else2 ((after-are-literals-of-then3 c)))
 
 abbrev after-are-literals-of-wide2 : tie.After-wide2 → tie.After-are-literals
 after-are-literals-of-wide2 c = c .before .before .before
 
-abbrev at-start-from-wide2 : tie.After-wide2 → tie.Start
-at-start-from-wide2 c = at-start-from-are-literals (after-are-literals-of-wide2 c)
+abbrev after-wide-from-then3 : tie.Then3 → tie.After-wide
+after-wide-from-then3 c = after-wide-of-else2 (else2 (after-are-literals-of-then3 c))
 
-abbrev after-wide-from-wide2 : tie.After-wide2 → tie.After-wide
-after-wide-from-wide2 c = after-wide-of-else2 (else2 ((after-are-literals-of-wide2 c)))
+abbrev at-start-from-then3 : tie.Then3 → tie.Start
+at-start-from-then3 c = at-start (after-shared-slice-known2 (after-wide-of-else2 (else2 (after-are-literals-of-then3 c))))
 
 abbrev after-wide2 : tie.After-are-rows → tie.After-wide2
 after-wide2 c = c .before
 
-abbrev at-start-from-are-rows : tie.After-are-rows → tie.Start
-at-start-from-are-rows c = at-start-from-wide2 (after-wide2 c)
+abbrev after-wide-from-after-are-rows : tie.After-are-rows → tie.After-wide
+after-wide-from-after-are-rows c = after-wide-of-else2 (else2 (after-are-literals-of-wide2 (after-wide2 c)))
 
-abbrev after-wide-from-are-rows : tie.After-are-rows → tie.After-wide
-after-wide-from-are-rows c = after-wide-from-wide2 (after-wide2 c)
+abbrev at-start-from-after-are-rows : tie.After-are-rows → tie.Start
+at-start-from-after-are-rows c = at-start (after-shared-slice-known2 (after-wide-of-else2 (else2 (after-are-literals-of-wide2 (after-wide2 c)))))
 
-abbrev else2-from-are-rows : tie.After-are-rows → tie.Else2
-else2-from-are-rows c = else2 (after-are-literals-of-wide2 ((after-wide2 c)))
+abbrev else2-from-after-are-rows : tie.After-are-rows → tie.Else2
+else2-from-after-are-rows c = else2 (after-are-literals-of-wide2 (after-wide2 c))
 
 returns-2 : tie.Need-returns-2
 returns-2 c = block-short _ (at-start-from-then2 c .args .block .now) _ (c .before .wide .ensures .0) (c .if2 .taken)
@@ -114,7 +102,7 @@ are-rows-requires c κs = omega arith
 returns-4 : tie.Need-returns-4
 returns-4 c =
     c .are-rows .ensures
-    ∙ block-on _ (at-start-from-are-rows c .args .block .now) _ (after-wide-from-are-rows c .wide .ensures .0) (else2-from-are-rows c .if2 .left) _
+    ∙ block-on _ (at-start-from-after-are-rows c .args .block .now) _ (after-wide-from-after-are-rows c .wide .ensures .0) (else2-from-after-are-rows c .if2 .left) _
     (after-are-literals-of-wide2 (after-wide2 c) .are-literals .ensures) _ (c .before .wide2 .ensures .0)
     (not-false _ (c .before .before .before .if3 .left))
 

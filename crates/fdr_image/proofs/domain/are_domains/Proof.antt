@@ -35,11 +35,11 @@ loop-holds c = (omega arith, c .if1 .left, domains-on _ _ (c .if1 .left))
 abbrev at-start : tie.At-loop Inv-loop μ-loop → tie.Start Inv-loop μ-loop
 at-start c = c .before .before .before
 
-abbrev at-loop-of-loop : tie.After-loop Inv-loop μ-loop → tie.At-loop Inv-loop μ-loop
-at-loop-of-loop c = c .before
+abbrev at-loop-of-after-loop : tie.After-loop Inv-loop μ-loop → tie.At-loop Inv-loop μ-loop
+at-loop-of-after-loop c = c .before
 
-abbrev at-loop-of-loop′ : tie.In-loop Inv-loop μ-loop → tie.At-loop Inv-loop μ-loop
-at-loop-of-loop′ c = c .before
+abbrev at-loop-of-in-loop : tie.In-loop Inv-loop μ-loop → tie.At-loop Inv-loop μ-loop
+at-loop-of-in-loop c = c .before
 
 abbrev in-loop-of-else2 : tie.Else2 Inv-loop μ-loop → tie.In-loop Inv-loop μ-loop
 in-loop-of-else2 c = c .before .before
@@ -47,14 +47,14 @@ in-loop-of-else2 c = c .before .before
 abbrev in-loop-of-then2 : tie.Then2 Inv-loop μ-loop → tie.In-loop Inv-loop μ-loop
 in-loop-of-then2 c = c .before .before
 
-abbrev at-start-from-then2 : tie.Then2 Inv-loop μ-loop → tie.Start Inv-loop μ-loop
-at-start-from-then2 c = at-start (at-loop-of-loop′ ((in-loop-of-then2 c)))
-
 abbrev at-start-from-else2 : tie.Else2 Inv-loop μ-loop → tie.Start Inv-loop μ-loop
-at-start-from-else2 c = at-start (at-loop-of-loop′ ((in-loop-of-else2 c)))
+at-start-from-else2 c = at-start (at-loop-of-in-loop (in-loop-of-else2 c))
+
+abbrev at-start-from-then2 : tie.Then2 Inv-loop μ-loop → tie.Start Inv-loop μ-loop
+at-start-from-then2 c = at-start (at-loop-of-in-loop (in-loop-of-then2 c))
 
 none-flag-requires : tie.Need-none-flag-requires Inv-loop μ-loop
-none-flag-requires c κs = omega (arith, domains-length (at-start (at-loop-of-loop′ c) .args .domains .now))
+none-flag-requires c κs = omega (arith, domains-length (at-start (at-loop-of-in-loop c) .args .domains .now))
 
 returns-2 : tie.Need-returns-2 Inv-loop μ-loop
 returns-2 c =
@@ -82,8 +82,8 @@ returns-3 : tie.Need-returns-3 Inv-loop μ-loop
 returns-3 c =
     sym
     (c .before .loop .inv .2
-    ∙ all-end (λ (d : Domain). leb (d .none) 1) (domainsIn (at-start (at-loop-of-loop c) .args .domains .now)) (c .before .loop .v)
-    (omega (arith, domains-length (at-start (at-loop-of-loop c) .args .domains .now))))
+    ∙ all-end (λ (d : Domain). leb (d .none) 1) (domainsIn (at-start (at-loop-of-after-loop c) .args .domains .now)) (c .before .loop .v)
+    (omega (arith, domains-length (at-start (at-loop-of-after-loop c) .args .domains .now))))
 
 pub are-domains-spec : {M : Type 1} → statement M
 are-domains-spec =

@@ -43,23 +43,17 @@ at-start c = c .before
 abbrev after-shared-slice-known : tie.At-loop Inv-loop μ-loop → tie.After-shared-slice-known Inv-loop μ-loop
 after-shared-slice-known c = c .before .before .before
 
-abbrev at-loop-of-loop : tie.After-loop Inv-loop μ-loop → tie.At-loop Inv-loop μ-loop
-at-loop-of-loop c = c .before
+abbrev at-loop-of-after-loop : tie.After-loop Inv-loop μ-loop → tie.At-loop Inv-loop μ-loop
+at-loop-of-after-loop c = c .before
 
-abbrev at-loop-of-loop′ : tie.In-loop Inv-loop μ-loop → tie.At-loop Inv-loop μ-loop
-at-loop-of-loop′ c = c .before
+abbrev at-loop-of-in-loop : tie.In-loop Inv-loop μ-loop → tie.At-loop Inv-loop μ-loop
+at-loop-of-in-loop c = c .before
 
-abbrev at-start-from-loop : tie.After-loop Inv-loop μ-loop → tie.Start Inv-loop μ-loop
-at-start-from-loop c = at-start (after-shared-slice-known ((at-loop-of-loop c)))
-
-abbrev at-start-from-loop′ : tie.In-loop Inv-loop μ-loop → tie.Start Inv-loop μ-loop
-at-start-from-loop′ c = at-start (after-shared-slice-known ((at-loop-of-loop′ c)))
+abbrev at-start-from-after-loop : tie.After-loop Inv-loop μ-loop → tie.Start Inv-loop μ-loop
+at-start-from-after-loop c = at-start (after-shared-slice-known (at-loop-of-after-loop c))
 
 abbrev in-loop : tie.After-size Inv-loop μ-loop → tie.In-loop Inv-loop μ-loop
 in-loop c = c .before
-
-abbrev at-start-from-size : tie.After-size Inv-loop μ-loop → tie.Start Inv-loop μ-loop
-at-start-from-size c = at-start-from-loop′ (in-loop c)
 
 abbrev after-size-of-else2 : tie.Else2 Inv-loop μ-loop → tie.After-size Inv-loop μ-loop
 after-size-of-else2 c = c .before .before .before
@@ -67,17 +61,17 @@ after-size-of-else2 c = c .before .before .before
 abbrev after-size-of-then2 : tie.Then2 Inv-loop μ-loop → tie.After-size Inv-loop μ-loop
 after-size-of-then2 c = c .before .before .before
 
-abbrev at-loop-from-then2 : tie.Then2 Inv-loop μ-loop → tie.At-loop Inv-loop μ-loop
-at-loop-from-then2 c = at-loop-of-loop′ (in-loop ((after-size-of-then2 c)))
-
-abbrev at-start-from-then2 : tie.Then2 Inv-loop μ-loop → tie.Start Inv-loop μ-loop
-at-start-from-then2 c = at-start-from-size (after-size-of-then2 c)
-
 abbrev at-loop-from-else2 : tie.Else2 Inv-loop μ-loop → tie.At-loop Inv-loop μ-loop
-at-loop-from-else2 c = at-loop-of-loop′ (in-loop ((after-size-of-else2 c)))
+at-loop-from-else2 c = at-loop-of-in-loop (in-loop (after-size-of-else2 c))
+
+abbrev at-loop-from-then2 : tie.Then2 Inv-loop μ-loop → tie.At-loop Inv-loop μ-loop
+at-loop-from-then2 c = at-loop-of-in-loop (in-loop (after-size-of-then2 c))
 
 abbrev at-start-from-else2 : tie.Else2 Inv-loop μ-loop → tie.Start Inv-loop μ-loop
-at-start-from-else2 c = at-start-from-size (after-size-of-else2 c)
+at-start-from-else2 c = at-start (after-shared-slice-known (at-loop-of-in-loop (in-loop (after-size-of-else2 c))))
+
+abbrev at-start-from-then2 : tie.Then2 Inv-loop μ-loop → tie.Start Inv-loop μ-loop
+at-start-from-then2 c = at-start (after-shared-slice-known (at-loop-of-in-loop (in-loop (after-size-of-then2 c))))
 
 returns-2 : tie.Need-returns-2 Inv-loop μ-loop
 returns-2 c =
@@ -107,7 +101,7 @@ returns-3 : tie.Need-returns-3 Inv-loop μ-loop
 returns-3 c =
     sym
     (c .before .loop .inv .2
-    ∙ values-end (domainsIn (at-start-from-loop c .args .domains .now)) _ (c .before .loop .v) (omega arith) (c .loop-test .left))
+    ∙ values-end (domainsIn (at-start-from-after-loop c .args .domains .now)) _ (c .before .loop .v) (omega arith) (c .loop-test .left))
 
 pub are-values-spec : {M : Type 1} → statement M
 are-values-spec =

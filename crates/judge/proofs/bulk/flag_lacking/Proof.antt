@@ -36,20 +36,14 @@ after-shared-slice-known c = c .before .before .before
 abbrev after-rows : tie.At-loop Inv-loop μ-loop → tie.After-rows Inv-loop μ-loop
 after-rows c = c .before
 
-abbrev at-start-from-loop′′ : tie.At-loop Inv-loop μ-loop → tie.Start Inv-loop μ-loop
-at-start-from-loop′′ c = at-start (after-shared-slice-known ((after-rows c)))
+abbrev at-loop-of-after-loop : tie.After-loop Inv-loop μ-loop → tie.At-loop Inv-loop μ-loop
+at-loop-of-after-loop c = c .before
 
-abbrev at-loop-of-loop : tie.After-loop Inv-loop μ-loop → tie.At-loop Inv-loop μ-loop
-at-loop-of-loop c = c .before
+abbrev at-loop-of-in-loop : tie.In-loop Inv-loop μ-loop → tie.At-loop Inv-loop μ-loop
+at-loop-of-in-loop c = c .before
 
-abbrev at-loop-of-loop′ : tie.In-loop Inv-loop μ-loop → tie.At-loop Inv-loop μ-loop
-at-loop-of-loop′ c = c .before
-
-abbrev at-start-from-loop : tie.After-loop Inv-loop μ-loop → tie.Start Inv-loop μ-loop
-at-start-from-loop c = at-start-from-loop′′ (at-loop-of-loop c)
-
-abbrev at-start-from-loop′ : tie.In-loop Inv-loop μ-loop → tie.Start Inv-loop μ-loop
-at-start-from-loop′ c = at-start-from-loop′′ (at-loop-of-loop′ c)
+abbrev at-start-from-after-loop : tie.After-loop Inv-loop μ-loop → tie.Start Inv-loop μ-loop
+at-start-from-after-loop c = at-start (after-shared-slice-known (after-rows (at-loop-of-after-loop c)))
 
 abbrev in-loop-of-else1 : tie.Else1 Inv-loop μ-loop → tie.In-loop Inv-loop μ-loop
 in-loop-of-else1 c = c .before .before .before
@@ -57,11 +51,11 @@ in-loop-of-else1 c = c .before .before .before
 abbrev in-loop-of-then1 : tie.Then1 Inv-loop μ-loop → tie.In-loop Inv-loop μ-loop
 in-loop-of-then1 c = c .before .before .before
 
-abbrev at-start-from-then1 : tie.Then1 Inv-loop μ-loop → tie.Start Inv-loop μ-loop
-at-start-from-then1 c = at-start-from-loop′ (in-loop-of-then1 c)
-
 abbrev at-start-from-else1 : tie.Else1 Inv-loop μ-loop → tie.Start Inv-loop μ-loop
-at-start-from-else1 c = at-start-from-loop′ (in-loop-of-else1 c)
+at-start-from-else1 c = at-start (after-shared-slice-known (after-rows (at-loop-of-in-loop (in-loop-of-else1 c))))
+
+abbrev at-start-from-then1 : tie.Then1 Inv-loop μ-loop → tie.Start Inv-loop μ-loop
+at-start-from-then1 c = at-start (after-shared-slice-known (after-rows (at-loop-of-in-loop (in-loop-of-then1 c))))
 
 loop-holds : tie.Need-loop-holds Inv-loop μ-loop
 loop-holds c = (omega arith, c .rows .ensures, omega (arith, c .rows .ensures, at-start (after-shared-slice-known c) .pre), refl, refl)
@@ -80,9 +74,9 @@ loop-less c = search needs
 
 loop-again : tie.Need-loop-again Inv-loop μ-loop
 loop-again c =
-    let i = at-loop-of-loop′ (in-loop-of-then1 c) .loop .inv in
+    let i = at-loop-of-in-loop (in-loop-of-then1 c) .loop .inv in
     let w = now (at-start-from-then1 c .args .judged) in
-    let h : (at-loop-of-loop′ (in-loop-of-then1 c)) .loop .i < rowCount w = omega (arith, i .1) in (
+    let h : (at-loop-of-in-loop (in-loop-of-then1 c)) .loop .i < rowCount w = omega (arith, i .1) in (
       omega arith,
       i .1,
       i .2,
@@ -96,16 +90,16 @@ loop-again c =
     )
 
 slice-write-fails : tie.Need-slice-write-fails Inv-loop μ-loop
-slice-write-fails c = omega (arith, at-loop-of-loop′ (in-loop-of-else1 c) .loop .inv .2)
+slice-write-fails c = omega (arith, at-loop-of-in-loop (in-loop-of-else1 c) .loop .inv .2)
 
 loop-less-2 : tie.Need-loop-less-2 Inv-loop μ-loop
 loop-less-2 c = search needs
 
 loop-again-2 : tie.Need-loop-again-2 Inv-loop μ-loop
 loop-again-2 c =
-    let i = at-loop-of-loop′ (in-loop-of-else1 c) .loop .inv in
+    let i = at-loop-of-in-loop (in-loop-of-else1 c) .loop .inv in
     let w = now (at-start-from-else1 c .args .judged) in
-    let h : (at-loop-of-loop′ (in-loop-of-else1 c)) .loop .i < rowCount w = omega (arith, i .1) in (
+    let h : (at-loop-of-in-loop (in-loop-of-else1 c)) .loop .i < rowCount w = omega (arith, i .1) in (
       omega arith,
       i .1,
       simp length-set (i .2),
@@ -124,7 +118,7 @@ same-length c = c .before .loop .inv .3
 returns : tie.Need-returns Inv-loop μ-loop
 returns c =
     let i = c .before .loop .inv in
-    let w = now (at-start-from-loop c .args .judged) in
+    let w = now (at-start-from-after-loop c .args .judged) in
     sym (i .4 ∙ flag-end (lacksOther _ _) (clausesOf w) (c .before .loop .fails) (c .before .loop .i) (omega (arith, i .1, clauses-length w)))
 
 pub flag-lacking-spec : {M : Type 1} → statement M

@@ -24,62 +24,46 @@ after-shared-slice-known3 c = c .before .before .before
 abbrev after-shared-slice-known6 : tie.After-holds-all → tie.After-shared-slice-known6
 after-shared-slice-known6 c = c .before .before .before
 
-abbrev at-start-from-holds-all : tie.After-holds-all → tie.Start
-at-start-from-holds-all c = at-start (after-shared-slice-known3 ((after-shared-slice-known6 c)))
+abbrev after-holds-all-of-copy-arg : tie.After-copy-arg → tie.After-holds-all
+after-holds-all-of-copy-arg c = c .before .before
 
 abbrev after-holds-all-of-then1 : tie.Then1 → tie.After-holds-all
 after-holds-all-of-then1 c = c .before
 
-abbrev at-start-from-then1 : tie.Then1 → tie.Start
-at-start-from-then1 c = at-start-from-holds-all (after-holds-all-of-then1 c)
+abbrev at-start-from-copy-arg : tie.After-copy-arg → tie.Start
+at-start-from-copy-arg c = at-start (after-shared-slice-known3 (after-shared-slice-known6 (after-holds-all-of-copy-arg c)))
 
-abbrev after-holds-all-of-copy-arg : tie.After-copy-arg → tie.After-holds-all
-after-holds-all-of-copy-arg c = c .before .before
+abbrev after-copy-arg : tie.After-copy → tie.After-copy-arg
+after-copy-arg c = c .before
 
 abbrev then1 : tie.After-flag-lacking-arg → tie.Then1
 then1 c = c .before
 
 abbrev at-start-from-flag-lacking-arg : tie.After-flag-lacking-arg → tie.Start
-at-start-from-flag-lacking-arg c = at-start-from-then1 (then1 c)
-
-abbrev at-start-from-copy-arg : tie.After-copy-arg → tie.Start
-at-start-from-copy-arg c = at-start-from-holds-all (after-holds-all-of-copy-arg c)
-
-abbrev after-copy-arg : tie.After-copy → tie.After-copy-arg
-after-copy-arg c = c .before
-
-abbrev at-start-from-copy : tie.After-copy → tie.Start
-at-start-from-copy c = at-start-from-copy-arg (after-copy-arg c)
-
-abbrev after-flag-lacking-arg : tie.After-slice-known3 → tie.After-flag-lacking-arg
-after-flag-lacking-arg c = c .before .before .before
-
-abbrev at-start-from-slice-known3 : tie.After-slice-known3 → tie.Start
-at-start-from-slice-known3 c = at-start-from-flag-lacking-arg (after-flag-lacking-arg c)
-
-abbrev after-holds-all-from-slice-known3 : tie.After-slice-known3 → tie.After-holds-all
-after-holds-all-from-slice-known3 c = after-holds-all-of-then1 (then1 ((after-flag-lacking-arg c)))
+at-start-from-flag-lacking-arg c = at-start (after-shared-slice-known3 (after-shared-slice-known6 (after-holds-all-of-then1 (then1 c))))
 
 abbrev after-copy : tie.After-extend-arg → tie.After-copy
 after-copy c = c .before .before .before
 
+abbrev after-flag-lacking-arg : tie.After-slice-known3 → tie.After-flag-lacking-arg
+after-flag-lacking-arg c = c .before .before .before
+
+abbrev after-holds-all-from-slice-known3 : tie.After-slice-known3 → tie.After-holds-all
+after-holds-all-from-slice-known3 c = after-holds-all-of-then1 (then1 (after-flag-lacking-arg c))
+
 abbrev at-start-from-extend-arg : tie.After-extend-arg → tie.Start
-at-start-from-extend-arg c = at-start-from-copy (after-copy c)
+at-start-from-extend-arg c =
+    at-start (after-shared-slice-known3 (after-shared-slice-known6 (after-holds-all-of-copy-arg (after-copy-arg (after-copy c)))))
+
+abbrev at-start-from-slice-known3 : tie.After-slice-known3 → tie.Start
+at-start-from-slice-known3 c =
+    at-start (after-shared-slice-known3 (after-shared-slice-known6 (after-holds-all-of-then1 (then1 (after-flag-lacking-arg c)))))
 
 abbrev after-extend-arg : tie.After-extend → tie.After-extend-arg
 after-extend-arg c = c .before
 
-abbrev at-start-from-extend : tie.After-extend → tie.Start
-at-start-from-extend c = at-start-from-extend-arg (after-extend-arg c)
-
 abbrev after-extend : tie.After-marks2 → tie.After-extend
 after-extend c = c .before
-
-abbrev at-start-from-marks2 : tie.After-marks2 → tie.Start
-at-start-from-marks2 c = at-start-from-extend (after-extend c)
-
-abbrev after-copy-from-marks2 : tie.After-marks2 → tie.After-copy
-after-copy-from-marks2 c = after-copy (after-extend-arg ((after-extend c)))
 
 abbrev after-marks2-of-enum-told : tie.After-enum-told → tie.After-marks2
 after-marks2-of-enum-told c = c .before .before .before
@@ -87,41 +71,39 @@ after-marks2-of-enum-told c = c .before .before .before
 abbrev after-marks2-of-enum-told2 : tie.After-enum-told2 → tie.After-marks2
 after-marks2-of-enum-told2 c = c .before .before .before
 
-abbrev at-start-from-enum-told : tie.After-enum-told → tie.Start
-at-start-from-enum-told c = at-start-from-marks2 (after-marks2-of-enum-told c)
-
 abbrev after-copy-from-enum-told : tie.After-enum-told → tie.After-copy
-after-copy-from-enum-told c = after-copy-from-marks2 (after-marks2-of-enum-told c)
+after-copy-from-enum-told c = after-copy (after-extend-arg (after-extend (after-marks2-of-enum-told c)))
 
-abbrev at-start-from-enum-told2 : tie.After-enum-told2 → tie.Start
-at-start-from-enum-told2 c = at-start-from-marks2 (after-marks2-of-enum-told2 c)
-
-abbrev after-copy-from-enum-told2 : tie.After-enum-told2 → tie.After-copy
-after-copy-from-enum-told2 c = after-copy-from-marks2 (after-marks2-of-enum-told2 c)
+abbrev at-start-from-enum-told : tie.After-enum-told → tie.Start
+at-start-from-enum-told c =
+    at-start (after-shared-slice-known3 (after-shared-slice-known6 (after-holds-all-of-copy-arg (after-copy-arg (after-copy (after-extend-arg (after-extend (after-marks2-of-enum-told c))))))))
 
 abbrev after-enum-told2 : tie.After-flag-violated-arg2 → tie.After-enum-told2
 after-enum-told2 c = c .before .before
 
-abbrev at-start-from-flag-violated-arg2 : tie.After-flag-violated-arg2 → tie.Start
-at-start-from-flag-violated-arg2 c = at-start-from-enum-told2 (after-enum-told2 c)
+abbrev after-copy-from-flag-violated-arg2 : tie.After-flag-violated-arg2 → tie.After-copy
+after-copy-from-flag-violated-arg2 c = after-copy (after-extend-arg (after-extend (after-marks2-of-enum-told2 (after-enum-told2 c))))
 
 abbrev after-extend-from-flag-violated-arg2 : tie.After-flag-violated-arg2 → tie.After-extend
-after-extend-from-flag-violated-arg2 c = after-extend (after-marks2-of-enum-told2 ((after-enum-told2 c)))
+after-extend-from-flag-violated-arg2 c = after-extend (after-marks2-of-enum-told2 (after-enum-told2 c))
 
-abbrev after-copy-from-flag-violated-arg2 : tie.After-flag-violated-arg2 → tie.After-copy
-after-copy-from-flag-violated-arg2 c = after-copy-from-enum-told2 (after-enum-told2 c)
+abbrev at-start-from-flag-violated-arg2 : tie.After-flag-violated-arg2 → tie.Start
+at-start-from-flag-violated-arg2 c =
+    at-start (after-shared-slice-known3 (after-shared-slice-known6 (after-holds-all-of-copy-arg (after-copy-arg (after-copy (after-extend-arg (after-extend (after-marks2-of-enum-told2 (after-enum-told2 c)))))))))
 
 abbrev after-flag-violated-arg2 : tie.After-slice-known6 → tie.After-flag-violated-arg2
 after-flag-violated-arg2 c = c .before .before .before
 
-abbrev at-start-from-slice-known6 : tie.After-slice-known6 → tie.Start
-at-start-from-slice-known6 c = at-start-from-flag-violated-arg2 (after-flag-violated-arg2 c)
+abbrev after-copy-from-slice-known6 : tie.After-slice-known6 → tie.After-copy
+after-copy-from-slice-known6 c =
+    after-copy (after-extend-arg (after-extend (after-marks2-of-enum-told2 (after-enum-told2 (after-flag-violated-arg2 c)))))
 
 abbrev after-extend-from-slice-known6 : tie.After-slice-known6 → tie.After-extend
-after-extend-from-slice-known6 c = after-extend-from-flag-violated-arg2 (after-flag-violated-arg2 c)
+after-extend-from-slice-known6 c = after-extend (after-marks2-of-enum-told2 (after-enum-told2 (after-flag-violated-arg2 c)))
 
-abbrev after-copy-from-slice-known6 : tie.After-slice-known6 → tie.After-copy
-after-copy-from-slice-known6 c = after-copy-from-flag-violated-arg2 (after-flag-violated-arg2 c)
+abbrev at-start-from-slice-known6 : tie.After-slice-known6 → tie.Start
+at-start-from-slice-known6 c =
+    at-start (after-shared-slice-known3 (after-shared-slice-known6 (after-holds-all-of-copy-arg (after-copy-arg (after-copy (after-extend-arg (after-extend (after-marks2-of-enum-told2 (after-enum-told2 (after-flag-violated-arg2 c))))))))))
 
 flag-lacking-requires : tie.Need-flag-lacking-requires
 flag-lacking-requires c κs = at-start-from-flag-lacking-arg c .pre .0 .flagged

@@ -34,94 +34,68 @@ abbrev after-shared-slice-known4 : tie.After-slice-known2 Inv-loop μ-loop → t
 after-shared-slice-known4 c = c .before .before .before
 
 abbrev at-start-from-slice-known2 : tie.After-slice-known2 Inv-loop μ-loop → tie.Start Inv-loop μ-loop
-at-start-from-slice-known2 c = at-start (after-shared-slice-known ((after-shared-slice-known4 c)))
+at-start-from-slice-known2 c = at-start (after-shared-slice-known (after-shared-slice-known4 c))
 
 abbrev after-slice-known2 : tie.After-head Inv-loop μ-loop → tie.After-slice-known2 Inv-loop μ-loop
 after-slice-known2 c = c .before
 
 abbrev at-start-from-head : tie.After-head Inv-loop μ-loop → tie.Start Inv-loop μ-loop
-at-start-from-head c = at-start-from-slice-known2 (after-slice-known2 c)
+at-start-from-head c = at-start (after-shared-slice-known (after-shared-slice-known4 (after-slice-known2 c)))
 
 abbrev after-head : tie.At-loop Inv-loop μ-loop → tie.After-head Inv-loop μ-loop
 after-head c = c .before
-
-abbrev at-start-from-loop : tie.At-loop Inv-loop μ-loop → tie.Start Inv-loop μ-loop
-at-start-from-loop c = at-start-from-head (after-head c)
 
 abbrev at-loop : tie.After-row Inv-loop μ-loop → tie.At-loop Inv-loop μ-loop
 at-loop c = c .before .before
 
 abbrev at-start-from-row : tie.After-row Inv-loop μ-loop → tie.Start Inv-loop μ-loop
-at-start-from-row c = at-start-from-loop (at-loop c)
+at-start-from-row c = at-start (after-shared-slice-known (after-shared-slice-known4 (after-slice-known2 (after-head (at-loop c)))))
 
 abbrev after-row : tie.After-complement Inv-loop μ-loop → tie.After-row Inv-loop μ-loop
 after-row c = c .before
 
-abbrev at-start-from-complement : tie.After-complement Inv-loop μ-loop → tie.Start Inv-loop μ-loop
-at-start-from-complement c = at-start-from-row (after-row c)
+abbrev after-complement-of-judge-row-arg : tie.After-judge-row-arg Inv-loop μ-loop → tie.After-complement Inv-loop μ-loop
+after-complement-of-judge-row-arg c = c .before .before .before
 
 abbrev after-complement-of-then1 : tie.Then1 Inv-loop μ-loop → tie.After-complement Inv-loop μ-loop
 after-complement-of-then1 c = c .before .before
 
 abbrev at-loop-from-then1 : tie.Then1 Inv-loop μ-loop → tie.At-loop Inv-loop μ-loop
-at-loop-from-then1 c = at-loop (after-row ((after-complement-of-then1 c)))
-
-abbrev after-complement-of-judge-row-arg : tie.After-judge-row-arg Inv-loop μ-loop → tie.After-complement Inv-loop μ-loop
-after-complement-of-judge-row-arg c = c .before .before .before
-
-abbrev at-start-from-judge-row-arg : tie.After-judge-row-arg Inv-loop μ-loop → tie.Start Inv-loop μ-loop
-at-start-from-judge-row-arg c = at-start-from-complement (after-complement-of-judge-row-arg c)
-
-abbrev at-loop-from-judge-row-arg : tie.After-judge-row-arg Inv-loop μ-loop → tie.At-loop Inv-loop μ-loop
-at-loop-from-judge-row-arg c = at-loop (after-row ((after-complement-of-judge-row-arg c)))
+at-loop-from-then1 c = at-loop (after-row (after-complement-of-then1 c))
 
 abbrev after-judge-row-arg : tie.After-judge-row-arg3 Inv-loop μ-loop → tie.After-judge-row-arg Inv-loop μ-loop
 after-judge-row-arg c = c .before .before
 
-abbrev at-start-from-judge-row-arg3 : tie.After-judge-row-arg3 Inv-loop μ-loop → tie.Start Inv-loop μ-loop
-at-start-from-judge-row-arg3 c = at-start-from-judge-row-arg (after-judge-row-arg c)
+abbrev after-row-from-judge-row-arg3 : tie.After-judge-row-arg3 Inv-loop μ-loop → tie.After-row Inv-loop μ-loop
+after-row-from-judge-row-arg3 c = after-row (after-complement-of-judge-row-arg (after-judge-row-arg c))
 
 abbrev at-loop-from-judge-row-arg3 : tie.After-judge-row-arg3 Inv-loop μ-loop → tie.At-loop Inv-loop μ-loop
-at-loop-from-judge-row-arg3 c = at-loop-from-judge-row-arg (after-judge-row-arg c)
+at-loop-from-judge-row-arg3 c = at-loop (after-row (after-complement-of-judge-row-arg (after-judge-row-arg c)))
 
-abbrev after-row-from-judge-row-arg3 : tie.After-judge-row-arg3 Inv-loop μ-loop → tie.After-row Inv-loop μ-loop
-after-row-from-judge-row-arg3 c = after-row (after-complement-of-judge-row-arg ((after-judge-row-arg c)))
+abbrev at-start-from-judge-row-arg3 : tie.After-judge-row-arg3 Inv-loop μ-loop → tie.Start Inv-loop μ-loop
+at-start-from-judge-row-arg3 c =
+    at-start (after-shared-slice-known (after-shared-slice-known4 (after-slice-known2 (after-head (at-loop (after-row (after-complement-of-judge-row-arg (after-judge-row-arg c))))))))
 
 abbrev after-judge-row-arg3 : tie.After-judge-row Inv-loop μ-loop → tie.After-judge-row-arg3 Inv-loop μ-loop
 after-judge-row-arg3 c = c .before
 
-abbrev at-loop-from-judge-row : tie.After-judge-row Inv-loop μ-loop → tie.At-loop Inv-loop μ-loop
-at-loop-from-judge-row c = at-loop-from-judge-row-arg3 (after-judge-row-arg3 c)
-
-abbrev after-row-from-judge-row : tie.After-judge-row Inv-loop μ-loop → tie.After-row Inv-loop μ-loop
-after-row-from-judge-row c = after-row-from-judge-row-arg3 (after-judge-row-arg3 c)
-
-abbrev after-complement-from-judge-row : tie.After-judge-row Inv-loop μ-loop → tie.After-complement Inv-loop μ-loop
-after-complement-from-judge-row c = after-complement-of-judge-row-arg (after-judge-row-arg ((after-judge-row-arg3 c)))
-
 abbrev after-judge-row : tie.After-marks Inv-loop μ-loop → tie.After-judge-row Inv-loop μ-loop
 after-judge-row c = c .before
-
-abbrev at-loop-from-marks : tie.After-marks Inv-loop μ-loop → tie.At-loop Inv-loop μ-loop
-at-loop-from-marks c = at-loop-from-judge-row (after-judge-row c)
-
-abbrev after-row-from-marks : tie.After-marks Inv-loop μ-loop → tie.After-row Inv-loop μ-loop
-after-row-from-marks c = after-row-from-judge-row (after-judge-row c)
-
-abbrev after-complement-from-marks : tie.After-marks Inv-loop μ-loop → tie.After-complement Inv-loop μ-loop
-after-complement-from-marks c = after-complement-from-judge-row (after-judge-row c)
 
 abbrev after-marks : tie.After-slice-known4 Inv-loop μ-loop → tie.After-marks Inv-loop μ-loop
 after-marks c = c .before .before .before
 
-abbrev at-loop-from-slice-known4 : tie.After-slice-known4 Inv-loop μ-loop → tie.At-loop Inv-loop μ-loop
-at-loop-from-slice-known4 c = at-loop-from-marks (after-marks c)
+abbrev after-complement-from-slice-known4 : tie.After-slice-known4 Inv-loop μ-loop → tie.After-complement Inv-loop μ-loop
+after-complement-from-slice-known4 c =
+    after-complement-of-judge-row-arg (after-judge-row-arg (after-judge-row-arg3 (after-judge-row (after-marks c))))
 
 abbrev after-row-from-slice-known4 : tie.After-slice-known4 Inv-loop μ-loop → tie.After-row Inv-loop μ-loop
-after-row-from-slice-known4 c = after-row-from-marks (after-marks c)
+after-row-from-slice-known4 c =
+    after-row (after-complement-of-judge-row-arg (after-judge-row-arg (after-judge-row-arg3 (after-judge-row (after-marks c)))))
 
-abbrev after-complement-from-slice-known4 : tie.After-slice-known4 Inv-loop μ-loop → tie.After-complement Inv-loop μ-loop
-after-complement-from-slice-known4 c = after-complement-from-marks (after-marks c)
+abbrev at-loop-from-slice-known4 : tie.After-slice-known4 Inv-loop μ-loop → tie.At-loop Inv-loop μ-loop
+at-loop-from-slice-known4 c =
+    at-loop (after-row (after-complement-of-judge-row-arg (after-judge-row-arg (after-judge-row-arg3 (after-judge-row (after-marks c))))))
 
 head-requires : tie.Need-head-requires Inv-loop μ-loop
 head-requires c κs = at-start-from-slice-known2 c .pre .0 .given .parses

@@ -36,11 +36,11 @@ has-literal-requires c κs = search needs
 abbrev at-start : tie.At-loop Inv-loop μ-loop → tie.Start Inv-loop μ-loop
 at-start c = c .before .before .before
 
-abbrev at-loop-of-loop : tie.After-loop Inv-loop μ-loop → tie.At-loop Inv-loop μ-loop
-at-loop-of-loop c = c .before
+abbrev at-loop-of-after-loop : tie.After-loop Inv-loop μ-loop → tie.At-loop Inv-loop μ-loop
+at-loop-of-after-loop c = c .before
 
-abbrev at-loop-of-loop′ : tie.In-loop Inv-loop μ-loop → tie.At-loop Inv-loop μ-loop
-at-loop-of-loop′ c = c .before
+abbrev at-loop-of-in-loop : tie.In-loop Inv-loop μ-loop → tie.At-loop Inv-loop μ-loop
+at-loop-of-in-loop c = c .before
 
 abbrev in-loop-of-else1 : tie.Else1 Inv-loop μ-loop → tie.In-loop Inv-loop μ-loop
 in-loop-of-else1 c = c .before .before .before
@@ -48,17 +48,17 @@ in-loop-of-else1 c = c .before .before .before
 abbrev in-loop-of-then1 : tie.Then1 Inv-loop μ-loop → tie.In-loop Inv-loop μ-loop
 in-loop-of-then1 c = c .before .before .before
 
-abbrev at-start-from-then1 : tie.Then1 Inv-loop μ-loop → tie.Start Inv-loop μ-loop
-at-start-from-then1 c = at-start (at-loop-of-loop′ ((in-loop-of-then1 c)))
-
 abbrev at-start-from-else1 : tie.Else1 Inv-loop μ-loop → tie.Start Inv-loop μ-loop
-at-start-from-else1 c = at-start (at-loop-of-loop′ ((in-loop-of-else1 c)))
+at-start-from-else1 c = at-start (at-loop-of-in-loop (in-loop-of-else1 c))
+
+abbrev at-start-from-then1 : tie.Then1 Inv-loop μ-loop → tie.Start Inv-loop μ-loop
+at-start-from-then1 c = at-start (at-loop-of-in-loop (in-loop-of-then1 c))
 
 returns : tie.Need-returns Inv-loop μ-loop
 returns c =
-    let i = at-loop-of-loop′ (in-loop-of-then1 c) .loop .inv in
+    let i = at-loop-of-in-loop (in-loop-of-then1 c) .loop .inv in
     let w = now (at-start-from-then1 c .args .judged) in
-    let h : (at-loop-of-loop′ (in-loop-of-then1 c)) .loop .i < rowCount w = omega (arith, i .1) in
+    let h : (at-loop-of-in-loop (in-loop-of-then1 c)) .loop .i < rowCount w = omega (arith, i .1) in
     sym
     (i .2
     ∙ any-found (clausesOf w) _ [] _
@@ -75,9 +75,9 @@ loop-less c = search needs
 
 loop-again : tie.Need-loop-again Inv-loop μ-loop
 loop-again c =
-    let i = at-loop-of-loop′ (in-loop-of-else1 c) .loop .inv in
+    let i = at-loop-of-in-loop (in-loop-of-else1 c) .loop .inv in
     let w = now (at-start-from-else1 c .args .judged) in
-    let h : (at-loop-of-loop′ (in-loop-of-else1 c)) .loop .i < rowCount w = omega (arith, i .1) in (
+    let h : (at-loop-of-in-loop (in-loop-of-else1 c)) .loop .i < rowCount w = omega (arith, i .1) in (
       omega arith,
       i .1,
       i .2
@@ -91,7 +91,7 @@ loop-again c =
 returns-2 : tie.Need-returns-2 Inv-loop μ-loop
 returns-2 c =
     let i = c .before .loop .inv in
-    let w = now (at-start (at-loop-of-loop c) .args .judged) in
+    let w = now (at-start (at-loop-of-after-loop c) .args .judged) in
     sym (i .2 ∙ any-end (member _) (clausesOf w) (c .before .loop .i) (omega (arith, i .1, clauses-length w)))
 
 pub some-holds-spec : {M : Type 1} → statement M

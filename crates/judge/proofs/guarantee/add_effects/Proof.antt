@@ -75,31 +75,22 @@ abbrev after-holds-all-of-then1 : tie.Then1 Inv-loop μ-loop → tie.After-holds
 after-holds-all-of-then1 c = c .before
 
 abbrev at-loop-from-then1 : tie.Then1 Inv-loop μ-loop → tie.At-loop Inv-loop μ-loop
-at-loop-from-then1 c = at-loop (after-row ((after-holds-all-of-then1 c)))
-
-abbrev at-loop-from-else1 : tie.Else1 Inv-loop μ-loop → tie.At-loop Inv-loop μ-loop
-at-loop-from-else1 c = at-loop (after-row ((after-holds-all-of-else1 c)))
+at-loop-from-then1 c = at-loop (after-row (after-holds-all-of-then1 c))
 
 abbrev else1 : tie.After-put-arg Inv-loop μ-loop → tie.Else1 Inv-loop μ-loop
 else1 c = c .before
 
-abbrev at-loop-from-put-arg : tie.After-put-arg Inv-loop μ-loop → tie.At-loop Inv-loop μ-loop
-at-loop-from-put-arg c = at-loop-from-else1 (else1 c)
-
-abbrev after-row-from-put-arg : tie.After-put-arg Inv-loop μ-loop → tie.After-row Inv-loop μ-loop
-after-row-from-put-arg c = after-row (after-holds-all-of-else1 ((else1 c)))
-
 abbrev after-put-arg : tie.After-slice-known2 Inv-loop μ-loop → tie.After-put-arg Inv-loop μ-loop
 after-put-arg c = c .before .before .before
 
-abbrev at-loop-from-slice-known2 : tie.After-slice-known2 Inv-loop μ-loop → tie.At-loop Inv-loop μ-loop
-at-loop-from-slice-known2 c = at-loop-from-put-arg (after-put-arg c)
+abbrev after-holds-all-from-slice-known2 : tie.After-slice-known2 Inv-loop μ-loop → tie.After-holds-all Inv-loop μ-loop
+after-holds-all-from-slice-known2 c = after-holds-all-of-else1 (else1 (after-put-arg c))
 
 abbrev after-row-from-slice-known2 : tie.After-slice-known2 Inv-loop μ-loop → tie.After-row Inv-loop μ-loop
-after-row-from-slice-known2 c = after-row-from-put-arg (after-put-arg c)
+after-row-from-slice-known2 c = after-row (after-holds-all-of-else1 (else1 (after-put-arg c)))
 
-abbrev after-holds-all-from-slice-known2 : tie.After-slice-known2 Inv-loop μ-loop → tie.After-holds-all Inv-loop μ-loop
-after-holds-all-from-slice-known2 c = after-holds-all-of-else1 (else1 ((after-put-arg c)))
+abbrev at-loop-from-slice-known2 : tie.After-slice-known2 Inv-loop μ-loop → tie.At-loop Inv-loop μ-loop
+at-loop-from-slice-known2 c = at-loop (after-row (after-holds-all-of-else1 (else1 (after-put-arg c))))
 
 loop-again : tie.Need-loop-again Inv-loop μ-loop
 loop-again c =

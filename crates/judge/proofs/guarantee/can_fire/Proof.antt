@@ -19,38 +19,32 @@ at-start c = c .before .before
 abbrev after-shared-slice-known2 : tie.After-holds-all → tie.After-shared-slice-known2
 after-shared-slice-known2 c = c .before .before .before
 
-abbrev after-holds-all-of-then1 : tie.Then1 → tie.After-holds-all
-after-holds-all-of-then1 c = c .before
-
-abbrev at-start-from-then1 : tie.Then1 → tie.Start
-at-start-from-then1 c = at-start (after-shared-slice-known2 ((after-holds-all-of-then1 c)))
-
 abbrev after-holds-all-of-copy-arg : tie.After-copy-arg → tie.After-holds-all
 after-holds-all-of-copy-arg c = c .before .before
 
+abbrev after-holds-all-of-then1 : tie.Then1 → tie.After-holds-all
+after-holds-all-of-then1 c = c .before
+
 abbrev at-start-from-copy-arg : tie.After-copy-arg → tie.Start
-at-start-from-copy-arg c = at-start (after-shared-slice-known2 ((after-holds-all-of-copy-arg c)))
+at-start-from-copy-arg c = at-start (after-shared-slice-known2 (after-holds-all-of-copy-arg c))
+
+abbrev at-start-from-then1 : tie.Then1 → tie.Start
+at-start-from-then1 c = at-start (after-shared-slice-known2 (after-holds-all-of-then1 c))
 
 abbrev after-copy-arg : tie.After-copy → tie.After-copy-arg
 after-copy-arg c = c .before
-
-abbrev at-start-from-copy : tie.After-copy → tie.Start
-at-start-from-copy c = at-start-from-copy-arg (after-copy-arg c)
 
 abbrev after-copy : tie.After-extend-arg → tie.After-copy
 after-copy c = c .before .before .before
 
 abbrev at-start-from-extend-arg : tie.After-extend-arg → tie.Start
-at-start-from-extend-arg c = at-start-from-copy (after-copy c)
+at-start-from-extend-arg c = at-start (after-shared-slice-known2 (after-holds-all-of-copy-arg (after-copy-arg (after-copy c))))
 
 abbrev after-extend-arg : tie.After-extend → tie.After-extend-arg
 after-extend-arg c = c .before
 
 abbrev after-extend : tie.After-work2 → tie.After-extend
 after-extend c = c .before
-
-abbrev after-copy-from-work2 : tie.After-work2 → tie.After-copy
-after-copy-from-work2 c = after-copy (after-extend-arg ((after-extend c)))
 
 abbrev after-work2-of-enum-told : tie.After-enum-told → tie.After-work2
 after-work2-of-enum-told c = c .before .before .before
@@ -59,10 +53,10 @@ abbrev after-work2-of-enum-told2 : tie.After-enum-told2 → tie.After-work2
 after-work2-of-enum-told2 c = c .before .before .before
 
 abbrev after-copy-from-enum-told : tie.After-enum-told → tie.After-copy
-after-copy-from-enum-told c = after-copy-from-work2 (after-work2-of-enum-told c)
+after-copy-from-enum-told c = after-copy (after-extend-arg (after-extend (after-work2-of-enum-told c)))
 
 abbrev after-copy-from-enum-told2 : tie.After-enum-told2 → tie.After-copy
-after-copy-from-enum-told2 c = after-copy-from-work2 (after-work2-of-enum-told2 c)
+after-copy-from-enum-told2 c = after-copy (after-extend-arg (after-extend (after-work2-of-enum-told2 c)))
 
 returns : tie.Need-returns
 returns c =

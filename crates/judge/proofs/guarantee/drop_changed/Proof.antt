@@ -38,88 +38,53 @@ abbrev after-slice-known2 : tie.After-head Inv-loop μ-loop → tie.After-slice-
 after-slice-known2 c = c .before
 
 abbrev at-start-from-head : tie.After-head Inv-loop μ-loop → tie.Start Inv-loop μ-loop
-at-start-from-head c = at-start (after-shared-slice-known2 ((after-slice-known2 c)))
+at-start-from-head c = at-start (after-shared-slice-known2 (after-slice-known2 c))
 
 abbrev after-head : tie.At-loop Inv-loop μ-loop → tie.After-head Inv-loop μ-loop
 after-head c = c .before
-
-abbrev at-start-from-loop : tie.At-loop Inv-loop μ-loop → tie.Start Inv-loop μ-loop
-at-start-from-loop c = at-start-from-head (after-head c)
 
 abbrev at-loop : tie.After-row Inv-loop μ-loop → tie.At-loop Inv-loop μ-loop
 at-loop c = c .before .before
 
 abbrev at-start-from-row : tie.After-row Inv-loop μ-loop → tie.Start Inv-loop μ-loop
-at-start-from-row c = at-start-from-loop (at-loop c)
+at-start-from-row c = at-start (after-shared-slice-known2 (after-slice-known2 (after-head (at-loop c))))
 
 abbrev after-row : tie.After-complement Inv-loop μ-loop → tie.After-row Inv-loop μ-loop
 after-row c = c .before
 
-abbrev at-start-from-complement : tie.After-complement Inv-loop μ-loop → tie.Start Inv-loop μ-loop
-at-start-from-complement c = at-start-from-row (after-row c)
-
 abbrev after-complement : tie.After-wide Inv-loop μ-loop → tie.After-complement Inv-loop μ-loop
 after-complement c = c .before
-
-abbrev at-loop-from-wide : tie.After-wide Inv-loop μ-loop → tie.At-loop Inv-loop μ-loop
-at-loop-from-wide c = at-loop (after-row ((after-complement c)))
-
-abbrev at-start-from-wide : tie.After-wide Inv-loop μ-loop → tie.Start Inv-loop μ-loop
-at-start-from-wide c = at-start-from-complement (after-complement c)
 
 abbrev after-wide : tie.After-is-zero Inv-loop μ-loop → tie.After-wide Inv-loop μ-loop
 after-wide c = c .before .before
 
-abbrev at-loop-from-is-zero : tie.After-is-zero Inv-loop μ-loop → tie.At-loop Inv-loop μ-loop
-at-loop-from-is-zero c = at-loop-from-wide (after-wide c)
-
-abbrev after-row-from-is-zero : tie.After-is-zero Inv-loop μ-loop → tie.After-row Inv-loop μ-loop
-after-row-from-is-zero c = after-row (after-complement ((after-wide c)))
-
-abbrev at-start-from-is-zero : tie.After-is-zero Inv-loop μ-loop → tie.Start Inv-loop μ-loop
-at-start-from-is-zero c = at-start-from-wide (after-wide c)
+abbrev after-is-zero-of-can-fire-arg2 : tie.After-can-fire-arg2 Inv-loop μ-loop → tie.After-is-zero Inv-loop μ-loop
+after-is-zero-of-can-fire-arg2 c = c .before .before .before
 
 abbrev after-is-zero-of-then1 : tie.Then1 Inv-loop μ-loop → tie.After-is-zero Inv-loop μ-loop
 after-is-zero-of-then1 c = c .before
 
-abbrev at-loop-from-then1 : tie.Then1 Inv-loop μ-loop → tie.At-loop Inv-loop μ-loop
-at-loop-from-then1 c = at-loop-from-is-zero (after-is-zero-of-then1 c)
-
-abbrev after-row-from-then1 : tie.Then1 Inv-loop μ-loop → tie.After-row Inv-loop μ-loop
-after-row-from-then1 c = after-row-from-is-zero (after-is-zero-of-then1 c)
-
 abbrev after-complement-from-then1 : tie.Then1 Inv-loop μ-loop → tie.After-complement Inv-loop μ-loop
-after-complement-from-then1 c = after-complement (after-wide ((after-is-zero-of-then1 c)))
-
-abbrev after-is-zero-of-can-fire-arg2 : tie.After-can-fire-arg2 Inv-loop μ-loop → tie.After-is-zero Inv-loop μ-loop
-after-is-zero-of-can-fire-arg2 c = c .before .before .before
-
-abbrev at-start-from-can-fire-arg2 : tie.After-can-fire-arg2 Inv-loop μ-loop → tie.Start Inv-loop μ-loop
-at-start-from-can-fire-arg2 c = at-start-from-is-zero (after-is-zero-of-can-fire-arg2 c)
-
-abbrev at-loop-from-can-fire-arg2 : tie.After-can-fire-arg2 Inv-loop μ-loop → tie.At-loop Inv-loop μ-loop
-at-loop-from-can-fire-arg2 c = at-loop-from-is-zero (after-is-zero-of-can-fire-arg2 c)
+after-complement-from-then1 c = after-complement (after-wide (after-is-zero-of-then1 c))
 
 abbrev after-row-from-can-fire-arg2 : tie.After-can-fire-arg2 Inv-loop μ-loop → tie.After-row Inv-loop μ-loop
-after-row-from-can-fire-arg2 c = after-row-from-is-zero (after-is-zero-of-can-fire-arg2 c)
+after-row-from-can-fire-arg2 c = after-row (after-complement (after-wide (after-is-zero-of-can-fire-arg2 c)))
 
-abbrev after-complement-from-can-fire-arg2 : tie.After-can-fire-arg2 Inv-loop μ-loop → tie.After-complement Inv-loop μ-loop
-after-complement-from-can-fire-arg2 c = after-complement (after-wide ((after-is-zero-of-can-fire-arg2 c)))
+abbrev after-row-from-then1 : tie.Then1 Inv-loop μ-loop → tie.After-row Inv-loop μ-loop
+after-row-from-then1 c = after-row (after-complement (after-wide (after-is-zero-of-then1 c)))
+
+abbrev at-loop-from-can-fire-arg2 : tie.After-can-fire-arg2 Inv-loop μ-loop → tie.At-loop Inv-loop μ-loop
+at-loop-from-can-fire-arg2 c = at-loop (after-row (after-complement (after-wide (after-is-zero-of-can-fire-arg2 c))))
+
+abbrev at-loop-from-then1 : tie.Then1 Inv-loop μ-loop → tie.At-loop Inv-loop μ-loop
+at-loop-from-then1 c = at-loop (after-row (after-complement (after-wide (after-is-zero-of-then1 c))))
+
+abbrev at-start-from-can-fire-arg2 : tie.After-can-fire-arg2 Inv-loop μ-loop → tie.Start Inv-loop μ-loop
+at-start-from-can-fire-arg2 c =
+    at-start (after-shared-slice-known2 (after-slice-known2 (after-head (at-loop (after-row (after-complement (after-wide (after-is-zero-of-can-fire-arg2 c))))))))
 
 abbrev after-can-fire-arg2 : tie.After-can-fire Inv-loop μ-loop → tie.After-can-fire-arg2 Inv-loop μ-loop
 after-can-fire-arg2 c = c .before
-
-abbrev at-loop-from-can-fire : tie.After-can-fire Inv-loop μ-loop → tie.At-loop Inv-loop μ-loop
-at-loop-from-can-fire c = at-loop-from-can-fire-arg2 (after-can-fire-arg2 c)
-
-abbrev after-row-from-can-fire : tie.After-can-fire Inv-loop μ-loop → tie.After-row Inv-loop μ-loop
-after-row-from-can-fire c = after-row-from-can-fire-arg2 (after-can-fire-arg2 c)
-
-abbrev after-wide-from-can-fire : tie.After-can-fire Inv-loop μ-loop → tie.After-wide Inv-loop μ-loop
-after-wide-from-can-fire c = after-wide (after-is-zero-of-can-fire-arg2 ((after-can-fire-arg2 c)))
-
-abbrev after-complement-from-can-fire : tie.After-can-fire Inv-loop μ-loop → tie.After-complement Inv-loop μ-loop
-after-complement-from-can-fire c = after-complement-from-can-fire-arg2 (after-can-fire-arg2 c)
 
 abbrev after-can-fire-of-else2 : tie.Else2 Inv-loop μ-loop → tie.After-can-fire Inv-loop μ-loop
 after-can-fire-of-else2 c = c .before .before .before
@@ -127,56 +92,36 @@ after-can-fire-of-else2 c = c .before .before .before
 abbrev after-can-fire-of-then2 : tie.Then2 Inv-loop μ-loop → tie.After-can-fire Inv-loop μ-loop
 after-can-fire-of-then2 c = c .before .before .before
 
-abbrev at-loop-from-then2 : tie.Then2 Inv-loop μ-loop → tie.At-loop Inv-loop μ-loop
-at-loop-from-then2 c = at-loop-from-can-fire (after-can-fire-of-then2 c)
-
 abbrev after-row-from-then2 : tie.Then2 Inv-loop μ-loop → tie.After-row Inv-loop μ-loop
-after-row-from-then2 c = after-row-from-can-fire (after-can-fire-of-then2 c)
+after-row-from-then2 c = after-row (after-complement (after-wide (after-is-zero-of-can-fire-arg2 (after-can-fire-arg2 (after-can-fire-of-then2 c)))))
 
-abbrev at-loop-from-else2 : tie.Else2 Inv-loop μ-loop → tie.At-loop Inv-loop μ-loop
-at-loop-from-else2 c = at-loop-from-can-fire (after-can-fire-of-else2 c)
-
-abbrev after-row-from-else2 : tie.Else2 Inv-loop μ-loop → tie.After-row Inv-loop μ-loop
-after-row-from-else2 c = after-row-from-can-fire (after-can-fire-of-else2 c)
-
-abbrev after-wide-from-else2 : tie.Else2 Inv-loop μ-loop → tie.After-wide Inv-loop μ-loop
-after-wide-from-else2 c = after-wide-from-can-fire (after-can-fire-of-else2 c)
-
-abbrev after-complement-from-else2 : tie.Else2 Inv-loop μ-loop → tie.After-complement Inv-loop μ-loop
-after-complement-from-else2 c = after-complement-from-can-fire (after-can-fire-of-else2 c)
+abbrev at-loop-from-then2 : tie.Then2 Inv-loop μ-loop → tie.At-loop Inv-loop μ-loop
+at-loop-from-then2 c =
+    at-loop (after-row (after-complement (after-wide (after-is-zero-of-can-fire-arg2 (after-can-fire-arg2 (after-can-fire-of-then2 c))))))
 
 abbrev else2 : tie.After-put-arg Inv-loop μ-loop → tie.Else2 Inv-loop μ-loop
 else2 c = c .before
 
-abbrev at-loop-from-put-arg : tie.After-put-arg Inv-loop μ-loop → tie.At-loop Inv-loop μ-loop
-at-loop-from-put-arg c = at-loop-from-else2 (else2 c)
-
-abbrev after-row-from-put-arg : tie.After-put-arg Inv-loop μ-loop → tie.After-row Inv-loop μ-loop
-after-row-from-put-arg c = after-row-from-else2 (else2 c)
-
-abbrev after-wide-from-put-arg : tie.After-put-arg Inv-loop μ-loop → tie.After-wide Inv-loop μ-loop
-after-wide-from-put-arg c = after-wide-from-else2 (else2 c)
-
-abbrev after-complement-from-put-arg : tie.After-put-arg Inv-loop μ-loop → tie.After-complement Inv-loop μ-loop
-after-complement-from-put-arg c = after-complement-from-else2 (else2 c)
-
 abbrev after-put-arg : tie.After-slice-known4 Inv-loop μ-loop → tie.After-put-arg Inv-loop μ-loop
 after-put-arg c = c .before .before .before
 
-abbrev at-loop-from-slice-known4 : tie.After-slice-known4 Inv-loop μ-loop → tie.At-loop Inv-loop μ-loop
-at-loop-from-slice-known4 c = at-loop-from-put-arg (after-put-arg c)
-
-abbrev after-row-from-slice-known4 : tie.After-slice-known4 Inv-loop μ-loop → tie.After-row Inv-loop μ-loop
-after-row-from-slice-known4 c = after-row-from-put-arg (after-put-arg c)
-
 abbrev after-can-fire-from-slice-known4 : tie.After-slice-known4 Inv-loop μ-loop → tie.After-can-fire Inv-loop μ-loop
-after-can-fire-from-slice-known4 c = after-can-fire-of-else2 (else2 ((after-put-arg c)))
-
-abbrev after-wide-from-slice-known4 : tie.After-slice-known4 Inv-loop μ-loop → tie.After-wide Inv-loop μ-loop
-after-wide-from-slice-known4 c = after-wide-from-put-arg (after-put-arg c)
+after-can-fire-from-slice-known4 c = after-can-fire-of-else2 (else2 (after-put-arg c))
 
 abbrev after-complement-from-slice-known4 : tie.After-slice-known4 Inv-loop μ-loop → tie.After-complement Inv-loop μ-loop
-after-complement-from-slice-known4 c = after-complement-from-put-arg (after-put-arg c)
+after-complement-from-slice-known4 c =
+    after-complement (after-wide (after-is-zero-of-can-fire-arg2 (after-can-fire-arg2 (after-can-fire-of-else2 (else2 (after-put-arg c))))))
+
+abbrev after-row-from-slice-known4 : tie.After-slice-known4 Inv-loop μ-loop → tie.After-row Inv-loop μ-loop
+after-row-from-slice-known4 c =
+    after-row (after-complement (after-wide (after-is-zero-of-can-fire-arg2 (after-can-fire-arg2 (after-can-fire-of-else2 (else2 (after-put-arg c)))))))
+
+abbrev after-wide-from-slice-known4 : tie.After-slice-known4 Inv-loop μ-loop → tie.After-wide Inv-loop μ-loop
+after-wide-from-slice-known4 c = after-wide (after-is-zero-of-can-fire-arg2 (after-can-fire-arg2 (after-can-fire-of-else2 (else2 (after-put-arg c)))))
+
+abbrev at-loop-from-slice-known4 : tie.After-slice-known4 Inv-loop μ-loop → tie.At-loop Inv-loop μ-loop
+at-loop-from-slice-known4 c =
+    at-loop (after-row (after-complement (after-wide (after-is-zero-of-can-fire-arg2 (after-can-fire-arg2 (after-can-fire-of-else2 (else2 (after-put-arg c))))))))
 
 head-requires : tie.Need-head-requires Inv-loop μ-loop
 head-requires c κs = at-start (after-shared-slice-known2 c) .pre .0 .parses

@@ -30,62 +30,43 @@ after-shared-slice-known2 c = c .before .before .before
 abbrev after-marks : tie.After-flag-marked → tie.After-marks
 after-marks c = c .before .before
 
-abbrev at-start-from-flag-marked : tie.After-flag-marked → tie.Start
-at-start-from-flag-marked c = at-start (after-shared-slice-known2 ((after-marks c)))
-
 abbrev after-flag-marked : tie.After-work → tie.After-flag-marked
 after-flag-marked c = c .before .before .before
 
 abbrev at-start-from-work : tie.After-work → tie.Start
-at-start-from-work c = at-start-from-flag-marked (after-flag-marked c)
+at-start-from-work c = at-start (after-shared-slice-known2 (after-marks (after-flag-marked c)))
 
 abbrev after-work : tie.After-drop-changed-arg → tie.After-work
 after-work c = c .before
 
-abbrev at-start-from-drop-changed-arg : tie.After-drop-changed-arg → tie.Start
-at-start-from-drop-changed-arg c = at-start-from-work (after-work c)
-
 abbrev after-marks-from-drop-changed-arg : tie.After-drop-changed-arg → tie.After-marks
-after-marks-from-drop-changed-arg c = after-marks (after-flag-marked ((after-work c)))
+after-marks-from-drop-changed-arg c = after-marks (after-flag-marked (after-work c))
+
+abbrev at-start-from-drop-changed-arg : tie.After-drop-changed-arg → tie.Start
+at-start-from-drop-changed-arg c = at-start (after-shared-slice-known2 (after-marks (after-flag-marked (after-work c))))
 
 abbrev after-drop-changed-arg : tie.After-drop-changed → tie.After-drop-changed-arg
 after-drop-changed-arg c = c .before
 
-abbrev at-start-from-drop-changed : tie.After-drop-changed → tie.Start
-at-start-from-drop-changed c = at-start-from-drop-changed-arg (after-drop-changed-arg c)
-
-abbrev after-flag-marked-from-drop-changed : tie.After-drop-changed → tie.After-flag-marked
-after-flag-marked-from-drop-changed c = after-flag-marked (after-work ((after-drop-changed-arg c)))
-
 abbrev after-drop-changed : tie.After-work2 → tie.After-drop-changed
 after-drop-changed c = c .before
-
-abbrev at-start-from-work2 : tie.After-work2 → tie.Start
-at-start-from-work2 c = at-start-from-drop-changed (after-drop-changed c)
-
-abbrev after-flag-marked-from-work2 : tie.After-work2 → tie.After-flag-marked
-after-flag-marked-from-work2 c = after-flag-marked-from-drop-changed (after-drop-changed c)
 
 abbrev after-work2 : tie.After-add-effects-arg → tie.After-work2
 after-work2 c = c .before .before .before
 
-abbrev at-start-from-add-effects-arg : tie.After-add-effects-arg → tie.Start
-at-start-from-add-effects-arg c = at-start-from-work2 (after-work2 c)
-
-abbrev after-flag-marked-from-add-effects-arg : tie.After-add-effects-arg → tie.After-flag-marked
-after-flag-marked-from-add-effects-arg c = after-flag-marked-from-work2 (after-work2 c)
-
 abbrev after-add-effects-arg : tie.After-slice-known4 → tie.After-add-effects-arg
 after-add-effects-arg c = c .before .before .before
 
-abbrev at-start-from-slice-known4 : tie.After-slice-known4 → tie.Start
-at-start-from-slice-known4 c = at-start-from-add-effects-arg (after-add-effects-arg c)
+abbrev after-drop-changed-from-slice-known4 : tie.After-slice-known4 → tie.After-drop-changed
+after-drop-changed-from-slice-known4 c = after-drop-changed (after-work2 (after-add-effects-arg c))
 
 abbrev after-flag-marked-from-slice-known4 : tie.After-slice-known4 → tie.After-flag-marked
-after-flag-marked-from-slice-known4 c = after-flag-marked-from-add-effects-arg (after-add-effects-arg c)
+after-flag-marked-from-slice-known4 c =
+    after-flag-marked (after-work (after-drop-changed-arg (after-drop-changed (after-work2 (after-add-effects-arg c)))))
 
-abbrev after-drop-changed-from-slice-known4 : tie.After-slice-known4 → tie.After-drop-changed
-after-drop-changed-from-slice-known4 c = after-drop-changed (after-work2 ((after-add-effects-arg c)))
+abbrev at-start-from-slice-known4 : tie.After-slice-known4 → tie.Start
+at-start-from-slice-known4 c =
+    at-start (after-shared-slice-known2 (after-marks (after-flag-marked (after-work (after-drop-changed-arg (after-drop-changed (after-work2 (after-add-effects-arg c))))))))
 
 slice-aggregate-drop-changed : tie.Need-slice-aggregate-drop-changed
 slice-aggregate-drop-changed c = sym (length-take-le _ (after-marks (after-flag-marked c) .marks .result) (omega (arith, at-start-from-work c .pre .0 .few)))

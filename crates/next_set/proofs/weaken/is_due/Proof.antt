@@ -11,17 +11,17 @@ shared-slice-read-if1 c = search needs
 abbrev at-start : tie.After-shared-slice-known2 → tie.Start
 at-start c = c .before .before
 
-abbrev after-shared-slice-known2-of-then1 : tie.Then1 → tie.After-shared-slice-known2
-after-shared-slice-known2-of-then1 c = c .before .before
-
 abbrev after-shared-slice-known2-of-row : tie.After-row → tie.After-shared-slice-known2
 after-shared-slice-known2-of-row c = c .before .before .before
+
+abbrev after-shared-slice-known2-of-then1 : tie.Then1 → tie.After-shared-slice-known2
+after-shared-slice-known2-of-then1 c = c .before .before
 
 abbrev after-row : tie.After-literals → tie.After-row
 after-row c = c .before
 
 abbrev at-start-from-literals : tie.After-literals → tie.Start
-at-start-from-literals c = at-start (after-shared-slice-known2-of-row ((after-row c)))
+at-start-from-literals c = at-start (after-shared-slice-known2-of-row (after-row c))
 
 returns : tie.Need-returns
 returns c =

@@ -23,9 +23,6 @@ after-shared-slice-known c = c .before .before .before
 abbrev after-slice-known : tie.After-is-due → tie.After-slice-known
 after-slice-known c = c .before
 
-abbrev at-start-from-is-due : tie.After-is-due → tie.Start
-at-start-from-is-due c = at-start (after-shared-slice-known ((after-slice-known c)))
-
 abbrev after-is-due-of-else1 : tie.Else1 → tie.After-is-due
 after-is-due-of-else1 c = c .before
 
@@ -33,52 +30,39 @@ abbrev after-is-due-of-then1 : tie.Then1 → tie.After-is-due
 after-is-due-of-then1 c = c .before
 
 abbrev at-start-from-then1 : tie.Then1 → tie.Start
-at-start-from-then1 c = at-start-from-is-due (after-is-due-of-then1 c)
-
-abbrev at-start-from-else1 : tie.Else1 → tie.Start
-at-start-from-else1 c = at-start-from-is-due (after-is-due-of-else1 c)
+at-start-from-then1 c = at-start (after-shared-slice-known (after-slice-known (after-is-due-of-then1 c)))
 
 abbrev else1 : tie.After-row → tie.Else1
 else1 c = c .before
 
-abbrev at-start-from-row : tie.After-row → tie.Start
-at-start-from-row c = at-start-from-else1 (else1 c)
-
 abbrev after-row : tie.After-literals → tie.After-row
 after-row c = c .before
-
-abbrev at-start-from-literals : tie.After-literals → tie.Start
-at-start-from-literals c = at-start-from-row (after-row c)
-
-abbrev after-is-due-from-literals : tie.After-literals → tie.After-is-due
-after-is-due-from-literals c = after-is-due-of-else1 (else1 ((after-row c)))
 
 abbrev after-literals : tie.After-put-with-each-arg → tie.After-literals
 after-literals c = c .before
 
-abbrev at-start-from-put-with-each-arg : tie.After-put-with-each-arg → tie.Start
-at-start-from-put-with-each-arg c = at-start-from-literals (after-literals c)
-
 abbrev after-is-due-from-put-with-each-arg : tie.After-put-with-each-arg → tie.After-is-due
-after-is-due-from-put-with-each-arg c = after-is-due-from-literals (after-literals c)
+after-is-due-from-put-with-each-arg c = after-is-due-of-else1 (else1 (after-row (after-literals c)))
 
-abbrev else1-from-put-with-each-arg : tie.After-put-with-each-arg → tie.Else1
-else1-from-put-with-each-arg c = else1 (after-row ((after-literals c)))
+abbrev at-start-from-put-with-each-arg : tie.After-put-with-each-arg → tie.Start
+at-start-from-put-with-each-arg c =
+    at-start (after-shared-slice-known (after-slice-known (after-is-due-of-else1 (else1 (after-row (after-literals c))))))
 
 abbrev after-put-with-each-arg : tie.After-slice-known2 → tie.After-put-with-each-arg
 after-put-with-each-arg c = c .before .before .before
 
-abbrev at-start-from-slice-known2 : tie.After-slice-known2 → tie.Start
-at-start-from-slice-known2 c = at-start-from-put-with-each-arg (after-put-with-each-arg c)
-
 abbrev after-is-due-from-slice-known2 : tie.After-slice-known2 → tie.After-is-due
-after-is-due-from-slice-known2 c = after-is-due-from-put-with-each-arg (after-put-with-each-arg c)
-
-abbrev else1-from-slice-known2 : tie.After-slice-known2 → tie.Else1
-else1-from-slice-known2 c = else1-from-put-with-each-arg (after-put-with-each-arg c)
+after-is-due-from-slice-known2 c = after-is-due-of-else1 (else1 (after-row (after-literals (after-put-with-each-arg c))))
 
 abbrev after-row-from-slice-known2 : tie.After-slice-known2 → tie.After-row
-after-row-from-slice-known2 c = after-row (after-literals ((after-put-with-each-arg c)))
+after-row-from-slice-known2 c = after-row (after-literals (after-put-with-each-arg c))
+
+abbrev at-start-from-slice-known2 : tie.After-slice-known2 → tie.Start
+at-start-from-slice-known2 c =
+    at-start (after-shared-slice-known (after-slice-known (after-is-due-of-else1 (else1 (after-row (after-literals (after-put-with-each-arg c)))))))
+
+abbrev else1-from-slice-known2 : tie.After-slice-known2 → tie.Else1
+else1-from-slice-known2 c = else1 (after-row (after-literals (after-put-with-each-arg c)))
 
 is-due-requires : tie.Need-is-due-requires
 is-due-requires c κs = (at-start (after-shared-slice-known c) .pre .0 .flagged, at-start (after-shared-slice-known c) .pre .2)

@@ -36,80 +36,56 @@ after-shared-slice-known2 c = c .before .before .before
 abbrev after-rows : tie.At-loop Inv-loop μ-loop → tie.After-rows Inv-loop μ-loop
 after-rows c = c .before
 
-abbrev at-start-from-loop′ : tie.At-loop Inv-loop μ-loop → tie.Start Inv-loop μ-loop
-at-start-from-loop′ c = at-start (after-shared-slice-known2 ((after-rows c)))
-
-abbrev at-loop-of-loop : tie.After-loop Inv-loop μ-loop → tie.At-loop Inv-loop μ-loop
-at-loop-of-loop c = c .before
-
-abbrev at-start-from-loop : tie.After-loop Inv-loop μ-loop → tie.Start Inv-loop μ-loop
-at-start-from-loop c = at-start-from-loop′ (at-loop-of-loop c)
+abbrev at-loop-of-after-loop : tie.After-loop Inv-loop μ-loop → tie.At-loop Inv-loop μ-loop
+at-loop-of-after-loop c = c .before
 
 abbrev at-loop-of-weaken-row-arg : tie.After-weaken-row-arg Inv-loop μ-loop → tie.At-loop Inv-loop μ-loop
 at-loop-of-weaken-row-arg c = c .before .before
 
+abbrev at-start-from-after-loop : tie.After-loop Inv-loop μ-loop → tie.Start Inv-loop μ-loop
+at-start-from-after-loop c = at-start (after-shared-slice-known2 (after-rows (at-loop-of-after-loop c)))
+
 abbrev at-start-from-weaken-row-arg : tie.After-weaken-row-arg Inv-loop μ-loop → tie.Start Inv-loop μ-loop
-at-start-from-weaken-row-arg c = at-start-from-loop′ (at-loop-of-weaken-row-arg c)
+at-start-from-weaken-row-arg c = at-start (after-shared-slice-known2 (after-rows (at-loop-of-weaken-row-arg c)))
 
 abbrev after-weaken-row-arg : tie.After-weaken-row Inv-loop μ-loop → tie.After-weaken-row-arg Inv-loop μ-loop
 after-weaken-row-arg c = c .before
 
-abbrev at-start-from-weaken-row : tie.After-weaken-row Inv-loop μ-loop → tie.Start Inv-loop μ-loop
-at-start-from-weaken-row c = at-start-from-weaken-row-arg (after-weaken-row-arg c)
-
-abbrev after-rows-from-weaken-row : tie.After-weaken-row Inv-loop μ-loop → tie.After-rows Inv-loop μ-loop
-after-rows-from-weaken-row c = after-rows (at-loop-of-weaken-row-arg ((after-weaken-row-arg c)))
-
 abbrev after-weaken-row : tie.After-work Inv-loop μ-loop → tie.After-weaken-row Inv-loop μ-loop
 after-weaken-row c = c .before
 
-abbrev at-loop-from-work : tie.After-work Inv-loop μ-loop → tie.At-loop Inv-loop μ-loop
-at-loop-from-work c = at-loop-of-weaken-row-arg (after-weaken-row-arg ((after-weaken-row c)))
-
-abbrev at-start-from-work : tie.After-work Inv-loop μ-loop → tie.Start Inv-loop μ-loop
-at-start-from-work c = at-start-from-weaken-row (after-weaken-row c)
-
-abbrev after-rows-from-work : tie.After-work Inv-loop μ-loop → tie.After-rows Inv-loop μ-loop
-after-rows-from-work c = after-rows-from-weaken-row (after-weaken-row c)
-
-abbrev after-work-of-match-keys2 : tie.At-match-keys2 Inv-loop μ-loop → tie.After-work Inv-loop μ-loop
-after-work-of-match-keys2 c = c .before .before
-
-abbrev at-loop-from-match-keys2 : tie.At-match-keys2 Inv-loop μ-loop → tie.At-loop Inv-loop μ-loop
-at-loop-from-match-keys2 c = at-loop-from-work (after-work-of-match-keys2 c)
-
-abbrev at-start-from-match-keys2 : tie.At-match-keys2 Inv-loop μ-loop → tie.Start Inv-loop μ-loop
-at-start-from-match-keys2 c = at-start-from-work (after-work-of-match-keys2 c)
-
-abbrev after-rows-from-match-keys2 : tie.At-match-keys2 Inv-loop μ-loop → tie.After-rows Inv-loop μ-loop
-after-rows-from-match-keys2 c = after-rows-from-work (after-work-of-match-keys2 c)
+abbrev after-work-of-at-match-keys2 : tie.At-match-keys2 Inv-loop μ-loop → tie.After-work Inv-loop μ-loop
+after-work-of-at-match-keys2 c = c .before .before
 
 abbrev after-work-of-enum-told : tie.After-enum-told Inv-loop μ-loop → tie.After-work Inv-loop μ-loop
 after-work-of-enum-told c = c .before .before .before
 
+abbrev after-rows-from-enum-told : tie.After-enum-told Inv-loop μ-loop → tie.After-rows Inv-loop μ-loop
+after-rows-from-enum-told c = after-rows (at-loop-of-weaken-row-arg (after-weaken-row-arg (after-weaken-row (after-work-of-enum-told c))))
+
 abbrev at-loop-from-enum-told : tie.After-enum-told Inv-loop μ-loop → tie.At-loop Inv-loop μ-loop
-at-loop-from-enum-told c = at-loop-from-work (after-work-of-enum-told c)
+at-loop-from-enum-told c = at-loop-of-weaken-row-arg (after-weaken-row-arg (after-weaken-row (after-work-of-enum-told c)))
 
 abbrev at-start-from-enum-told : tie.After-enum-told Inv-loop μ-loop → tie.Start Inv-loop μ-loop
-at-start-from-enum-told c = at-start-from-work (after-work-of-enum-told c)
-
-abbrev after-rows-from-enum-told : tie.After-enum-told Inv-loop μ-loop → tie.After-rows Inv-loop μ-loop
-after-rows-from-enum-told c = after-rows-from-work (after-work-of-enum-told c)
+at-start-from-enum-told c =
+    at-start (after-shared-slice-known2 (after-rows (at-loop-of-weaken-row-arg (after-weaken-row-arg (after-weaken-row (after-work-of-enum-told c))))))
 
 abbrev at-match-keys2 : tie.After-known-told Inv-loop μ-loop → tie.At-match-keys2 Inv-loop μ-loop
 at-match-keys2 c = c .before .before
 
-abbrev at-loop-from-known-told : tie.After-known-told Inv-loop μ-loop → tie.At-loop Inv-loop μ-loop
-at-loop-from-known-told c = at-loop-from-match-keys2 (at-match-keys2 c)
-
-abbrev at-start-from-known-told : tie.After-known-told Inv-loop μ-loop → tie.Start Inv-loop μ-loop
-at-start-from-known-told c = at-start-from-match-keys2 (at-match-keys2 c)
-
 abbrev after-rows-from-known-told : tie.After-known-told Inv-loop μ-loop → tie.After-rows Inv-loop μ-loop
-after-rows-from-known-told c = after-rows-from-match-keys2 (at-match-keys2 c)
+after-rows-from-known-told c =
+    after-rows (at-loop-of-weaken-row-arg (after-weaken-row-arg (after-weaken-row (after-work-of-at-match-keys2 (at-match-keys2 c)))))
 
 abbrev after-weaken-row-from-known-told : tie.After-known-told Inv-loop μ-loop → tie.After-weaken-row Inv-loop μ-loop
-after-weaken-row-from-known-told c = after-weaken-row (after-work-of-match-keys2 ((at-match-keys2 c)))
+after-weaken-row-from-known-told c = after-weaken-row (after-work-of-at-match-keys2 (at-match-keys2 c))
+
+abbrev at-loop-from-known-told : tie.After-known-told Inv-loop μ-loop → tie.At-loop Inv-loop μ-loop
+at-loop-from-known-told c = at-loop-of-weaken-row-arg (after-weaken-row-arg (after-weaken-row (after-work-of-at-match-keys2 (at-match-keys2 c))))
+
+abbrev at-start-from-known-told : tie.After-known-told Inv-loop μ-loop → tie.Start Inv-loop μ-loop
+at-start-from-known-told c =
+    at-start (after-shared-slice-known2 (after-rows (at-loop-of-weaken-row-arg (after-weaken-row-arg (after-weaken-row (after-work-of-at-match-keys2 (at-match-keys2 c)))))))
 
 loop-holds : tie.Need-loop-holds Inv-loop μ-loop
 loop-holds c =
@@ -168,7 +144,7 @@ same-length-2 c = c .before .loop .inv .1
 returns-2 : tie.Need-returns-2 Inv-loop μ-loop
 returns-2 c =
     let l = c .before .loop in
-    let a = at-start-from-loop c .args in
+    let a = at-start-from-after-loop c .args in
     let n = c .before .before .rows .result in (
       l .inv .2 .room,
       pending-end (a .rows) _ _ (l .taken) (l .work) (l .inv .2)

@@ -30,38 +30,35 @@ add-at : tie.Need-add-at Inv-loop μ-loop
 add-at c = search needs
 
 -- the places of the function
+abbrev at-loop : tie.After-row Inv-loop μ-loop → tie.At-loop Inv-loop μ-loop
+at-loop c = c .before .before
+
 abbrev at-start : tie.After-shared-slice-known Inv-loop μ-loop → tie.Start Inv-loop μ-loop
 at-start c = c .before
 
+abbrev after-row : tie.After-all-true Inv-loop μ-loop → tie.After-row Inv-loop μ-loop
+after-row c = c .before .before
+
 abbrev after-shared-slice-known : tie.After-head Inv-loop μ-loop → tie.After-shared-slice-known Inv-loop μ-loop
 after-shared-slice-known c = c .before .before .before
+
+abbrev after-all-true : tie.After-mark-if-arg Inv-loop μ-loop → tie.After-all-true Inv-loop μ-loop
+after-all-true c = c .before
 
 abbrev after-head : tie.After-struct-known Inv-loop μ-loop → tie.After-head Inv-loop μ-loop
 after-head c = c .before
 
 abbrev at-start-from-struct-known : tie.After-struct-known Inv-loop μ-loop → tie.Start Inv-loop μ-loop
-at-start-from-struct-known c = at-start (after-shared-slice-known ((after-head c)))
-
-abbrev at-loop : tie.After-row Inv-loop μ-loop → tie.At-loop Inv-loop μ-loop
-at-loop c = c .before .before
-
-abbrev after-row : tie.After-all-true Inv-loop μ-loop → tie.After-row Inv-loop μ-loop
-after-row c = c .before .before
-
-abbrev after-all-true : tie.After-mark-if-arg Inv-loop μ-loop → tie.After-all-true Inv-loop μ-loop
-after-all-true c = c .before
-
-abbrev at-loop-from-mark-if-arg : tie.After-mark-if-arg Inv-loop μ-loop → tie.At-loop Inv-loop μ-loop
-at-loop-from-mark-if-arg c = at-loop (after-row ((after-all-true c)))
+at-start-from-struct-known c = at-start (after-shared-slice-known (after-head c))
 
 abbrev after-mark-if-arg : tie.After-slice-known2 Inv-loop μ-loop → tie.After-mark-if-arg Inv-loop μ-loop
 after-mark-if-arg c = c .before .before .before
 
-abbrev at-loop-from-slice-known2 : tie.After-slice-known2 Inv-loop μ-loop → tie.At-loop Inv-loop μ-loop
-at-loop-from-slice-known2 c = at-loop-from-mark-if-arg (after-mark-if-arg c)
-
 abbrev after-row-from-slice-known2 : tie.After-slice-known2 Inv-loop μ-loop → tie.After-row Inv-loop μ-loop
-after-row-from-slice-known2 c = after-row (after-all-true ((after-mark-if-arg c)))
+after-row-from-slice-known2 c = after-row (after-all-true (after-mark-if-arg c))
+
+abbrev at-loop-from-slice-known2 : tie.After-slice-known2 Inv-loop μ-loop → tie.At-loop Inv-loop μ-loop
+at-loop-from-slice-known2 c = at-loop (after-row (after-all-true (after-mark-if-arg c)))
 
 loop-holds : tie.Need-loop-holds Inv-loop μ-loop
 loop-holds c =

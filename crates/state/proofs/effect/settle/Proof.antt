@@ -20,7 +20,7 @@ abbrev after-conflict-of-then1 : tie.Then1 → tie.After-conflict
 after-conflict-of-then1 c = c .before
 
 abbrev at-start-from-then1 : tie.Then1 → tie.Start
-at-start-from-then1 c = at-start (after-shared-slice-known ((after-conflict-of-then1 c)))
+at-start-from-then1 c = at-start (after-shared-slice-known (after-conflict-of-then1 c))
 
 abbrev else1 : tie.After-change-arg → tie.Else1
 else1 c = c .before
@@ -29,7 +29,7 @@ abbrev after-change-arg : tie.After-slice-known2 → tie.After-change-arg
 after-change-arg c = c .before .before .before
 
 abbrev after-conflict-from-slice-known2 : tie.After-slice-known2 → tie.After-conflict
-after-conflict-from-slice-known2 c = after-conflict-of-else1 (else1 ((after-change-arg c)))
+after-conflict-from-slice-known2 c = after-conflict-of-else1 (else1 (after-change-arg c))
 
 returns : tie.Need-returns
 returns c = settled-not _ _ _ (at-start-from-then1 c .args .state .now) _ (c .before .conflict .ensures) (c .if1 .taken)

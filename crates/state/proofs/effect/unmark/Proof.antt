@@ -28,14 +28,14 @@ add-at : tie.Need-add-at Inv-loop μ-loop
 add-at c = search needs
 
 -- the places of the function
+abbrev at-loop : tie.After-row Inv-loop μ-loop → tie.At-loop Inv-loop μ-loop
+at-loop c = c .before .before
+
 abbrev at-start : tie.After-head Inv-loop μ-loop → tie.Start Inv-loop μ-loop
 at-start c = c .before .before .before
 
 abbrev after-head : tie.After-struct-known Inv-loop μ-loop → tie.After-head Inv-loop μ-loop
 after-head c = c .before
-
-abbrev at-loop : tie.After-row Inv-loop μ-loop → tie.At-loop Inv-loop μ-loop
-at-loop c = c .before .before
 
 abbrev after-row : tie.After-put-arg Inv-loop μ-loop → tie.After-row Inv-loop μ-loop
 after-row c = c .before
@@ -44,7 +44,7 @@ abbrev after-put-arg : tie.After-slice-known2 Inv-loop μ-loop → tie.After-put
 after-put-arg c = c .before .before .before
 
 abbrev at-loop-from-slice-known2 : tie.After-slice-known2 Inv-loop μ-loop → tie.At-loop Inv-loop μ-loop
-at-loop-from-slice-known2 c = at-loop (after-row ((after-put-arg c)))
+at-loop-from-slice-known2 c = at-loop (after-row (after-put-arg c))
 
 loop-holds : tie.Need-loop-holds Inv-loop μ-loop
 loop-holds c =
