@@ -6,7 +6,7 @@ use mathlib.Core.Path.{_≡_, sym, _∙_, ap}
 use native.Mathlib.Omega.{arith}
 use lib.ListN.{length, take, drop}
 use lib.Seq.{length-take-le}
-use Rattle.judge.proofs.Parts.{part-room, part-length, part-back}
+use Rattle.judge.proofs.Parts.{CameBack, came-back}
 use Rattle.checker.proofs.Checking.{false-true}
 use borrow.Author.Needs.{needs}
 use Rattle.checker.proofs.check_initial.Statement.{statement}
@@ -38,15 +38,10 @@ room-of c = c .before .before
 abbrev state : tie.After-write-initial → List ℕ
 state c = c .write-initial .last .1 .0
 
-state-length : (c : tie.After-write-initial) → length (state c) ≡ atoms (room-of c)
-state-length c =
+came : (c : tie.After-write-initial) → let d = room-of c in CameBack (atoms d) (room d) (state c)
+came c =
     let d = room-of c in
-    part-length (atoms d) (room d) (state c) (fits d) (c .write-initial .kept .1 .0)
-
-state-back : (c : tie.After-write-initial) → let d = room-of c in take (atoms d) (state c ++ drop (atoms d) (room d)) ≡ state c
-state-back c =
-    let d = room-of c in
-    part-back (atoms d) (room d) (state c) (fits d) (c .write-initial .kept .1 .0)
+    came-back (atoms d) (room d) (state c) (fits d) (c .write-initial .kept .1 .0)
 
 state-requires : tie.Need-state-requires
 state-requires c κs = search needs
@@ -64,15 +59,12 @@ write-initial-requires c κs =
     (p .task, long d ∙ p .counted)
 
 array-share-prefix-state : tie.Need-array-share-prefix-state
-array-share-prefix-state c =
-    let w = c .before in
-    let d = room-of w in
-    part-room (atoms d) (room d) (state w) (fits d) (w .write-initial .kept .1 .0)
+array-share-prefix-state c = came (c .before) .room
 
 slice-aggregate-check-true : tie.Need-slice-aggregate-check-true
 slice-aggregate-check-true c =
     let w = c .before .before in
-    sym (ap length (state-back w) ∙ state-length w)
+    came w .whole
 
 check-true-requires : tie.Need-check-true-requires
 check-true-requires c κs = search needs
@@ -80,7 +72,7 @@ check-true-requires c κs = search needs
 returns : tie.Need-returns
 returns c =
     let w = c .before .before .before in
-    c .check-true .ensures ∙ false-true _ _ _ (state-back w ∙ w .write-initial .ensures)
+    c .check-true .ensures ∙ false-true _ _ _ (came w .part ∙ w .write-initial .ensures)
 
 pub check-initial-spec : {M : Type 1} → statement M
 check-initial-spec =

@@ -1,3 +1,4 @@
+-- `propagation::close`: the marks of the atoms are cleared, then those of the closure set.
 use mathlib.Core.Path.{sym}
 use Prim.Native.Nat.{_*_}
 use lib.ListN.{take, drop}
@@ -6,6 +7,17 @@ use Rattle.propagation.proofs.Closed.{cleared-length, ready-cleared, fr
 use borrow.Author.Needs.{needs}
 use Rattle.propagation.proofs.close.Statement.{statement}
 use Rattle.propagation.proofs.close.Tie as tie
+
+-- where the marks are cleared: the start
+abbrev known : tie.After-clear → tie.After-shared-slice-known2
+known d = d .before .before .before
+
+abbrev start : tie.After-clear → tie.Start
+start d = known d .before .before
+
+-- where they are lent
+abbrev cleared : tie.After-propagate-arg → tie.After-clear
+cleared c = c .before .before .before
 
 clear-requires : tie.Need-clear-requires
 clear-requires c κs = search needs
@@ -17,38 +29,18 @@ slice-relend-prefix-propagate : tie.Need-slice-relend-prefix-propagate
 slice-relend-prefix-propagate c = search needs
 
 slice-aggregate-propagate : tie.Need-slice-aggregate-propagate
-slice-aggregate-propagate c = sym (cleared-length _ _ _ (c .before .before .before .clear .ensures))
-
--- the places of the function
-abbrev at-start : tie.After-shared-slice-known → tie.Start
-at-start c = c .before
-
-abbrev after-shared-slice-known : tie.After-clear-arg → tie.After-shared-slice-known
-after-shared-slice-known c = c .before .before .before
-
-abbrev after-clear-arg : tie.After-clear → tie.After-clear-arg
-after-clear-arg c = c .before
-
-abbrev after-clear : tie.After-propagate-arg → tie.After-clear
-after-clear c = c .before .before .before
-
-abbrev at-start-from-propagate-arg : tie.After-propagate-arg → tie.Start
-at-start-from-propagate-arg c = at-start (after-shared-slice-known (after-clear-arg (after-clear c)))
-
-abbrev after-propagate-arg : tie.After-slice-known3 → tie.After-propagate-arg
-after-propagate-arg c = c .before .before .before
-
-abbrev at-start-from-slice-known3 : tie.After-slice-known3 → tie.Start
-at-start-from-slice-known3 c = at-start (after-shared-slice-known (after-clear-arg (after-clear (after-propagate-arg c))))
+slice-aggregate-propagate c = sym (cleared-length _ _ _ (cleared c .clear .ensures))
 
 propagate-requires : tie.Need-propagate-requires
 propagate-requires c κs =
-    let s = at-start-from-propagate-arg c in
-    let q = c .before .before .before .clear in
-    let n = s .args .atoms in
-    let t = drop (2 * n) (now (s .args .marks)) in (
-      ready-cleared n t (q .last .0) (q .ensures) _ (s .pre .few) (s .pre .rows),
-      front-below n _ _ (now (s .args .marks)) (s .pre) (take (2 * n) (q .last .0)) (cleared-length n t (q .last .0) (q .ensures)),
+    let d = cleared c in
+    let s = start d in
+    let q = d .clear in
+    let atoms = s .args .atoms in
+    let t = drop (2 * atoms) (now (s .args .marks)) in
+    let size = cleared-length atoms t (q .last .0) (q .ensures) in (
+      ready-cleared atoms t (q .last .0) (q .ensures) _ (s .pre .few) (s .pre .rows),
+      front-below atoms _ _ (now (s .args .marks)) (s .pre) (take (2 * atoms) (q .last .0)) size,
     )
 
 same-length : tie.Need-same-length
@@ -56,11 +48,13 @@ same-length c = search needs
 
 returns : tie.Need-returns
 returns c =
-    let s = at-start-from-slice-known3 c in
-    let r = c .before .before .propagate in
-    let q = after-clear (after-propagate-arg c) .clear in
-    close-done (s .args .atoms) (now (s .args .clauses)) (now (s .args .literals)) (now (s .args .marks)) (q .last .0) (r .last .1 .1 .0) (r .result)
-    (s .pre) (q .ensures) (r .kept .1 .1 .0) (r .ensures)
+    let p = c .before .before in
+    let d = cleared (p .before) in
+    let s = start d in
+    let a = s .args in
+    let r = p .propagate in
+    close-done (a .atoms) (now (a .clauses)) (now (a .literals)) (now (a .marks)) (d .clear .last .0) (r .last .1 .1 .0) (r .result) (s .pre)
+    (d .clear .ensures) (r .kept .1 .1 .0) (r .ensures)
 
 pub close-spec : {M : Type 1} → statement M
 close-spec =

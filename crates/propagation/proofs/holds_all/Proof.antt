@@ -19,15 +19,28 @@ use Rattle.propagation.proofs.holds_all.Tie as tie
 
 abbrev Inv-loop : tie.InvT-loop
 Inv-loop marks literals i₀ i =
-    (i ≤ length literals) ×
-    ((N : ℕ) (S : List ℕ) → Marked N marks S → allBelow (2 * N) literals ≡ true → allIn S literals ≡ all (has S) (drop i literals))
+    (i ≤ length literals)
+    × ((atoms : ℕ) (S : List ℕ) → Marked atoms marks S → allBelow (2 * atoms) literals ≡ true → allIn S literals ≡ all (has S) (drop i literals))
 
 abbrev μ-loop : tie.MeasureT-loop
 μ-loop marks literals i₀ i = length literals - i
 
+-- where the mark of the literal is looked at: the loop, and whether it is in the set
+abbrev inside : tie.After-holds Inv-loop μ-loop → tie.In-loop Inv-loop μ-loop
+inside d = d .before .before .before
+
+abbrev start : tie.At-loop Inv-loop μ-loop → tie.Start Inv-loop μ-loop
+start h = h .before .before .before
+
+looked :
+    (d : tie.After-holds Inv-loop μ-loop) (atoms : ℕ) (S : List ℕ) → let a = start (inside d .before) .args in
+    Marked atoms (a .marks .now) S → allBelow (2 * atoms) (a .literals .now) ≡ true → d .holds .result ≡ has S (d .before .wide .result)
+looked d atoms S m b =
+    d .holds .ensures atoms S m (place-below _ _ _ _ b (d .before .wide .ensures .0) (inside d .loop-test .taken))
+
 loop-holds : tie.Need-loop-holds Inv-loop μ-loop
 unfolding allIn
-loop-holds c = (omega arith, λ N S m b. refl)
+loop-holds c = (omega arith, λ atoms S m b. refl)
 
 mul-wide : tie.Need-mul-wide Inv-loop μ-loop
 mul-wide c = search needs
@@ -41,24 +54,12 @@ wide-requires c κs = search needs
 holds-requires : tie.Need-holds-requires Inv-loop μ-loop
 holds-requires c κs = search needs
 
--- the places of the function
-abbrev in-loop : tie.After-wide Inv-loop μ-loop → tie.In-loop Inv-loop μ-loop
-in-loop c = c .before .before
-
-abbrev after-wide-of-else1 : tie.Else1 Inv-loop μ-loop → tie.After-wide Inv-loop μ-loop
-after-wide-of-else1 c = c .before .before
-
-abbrev after-wide-of-then1 : tie.Then1 Inv-loop μ-loop → tie.After-wide Inv-loop μ-loop
-after-wide-of-then1 c = c .before .before
-
 returns : tie.Need-returns Inv-loop μ-loop
-returns c = λ N S m b.
-    let t = in-loop (after-wide-of-then1 c) in
-    sym
-    (t .before .loop .inv .1 N S m b
-    ∙ all-off _ _ 0 _ (c .before .before .wide .ensures .0) (t .loop-test .taken) (has S)
-    (sym (c .before .holds .ensures N S m (place-below _ _ _ _ b (c .before .before .wide .ensures .0) (t .loop-test .taken)))
-    ∙ not-true _ (c .if1 .taken)))
+returns c = λ atoms S m b.
+    let d = c .before in
+    let t = inside d in
+    let out = sym (looked d atoms S m b) ∙ not-true _ (c .if1 .taken) in
+    sym (t .before .loop .inv .1 atoms S m b ∙ all-off _ _ 0 _ (d .before .wide .ensures .0) (t .loop-test .taken) (has S) out)
 
 add-i : tie.Need-add-i Inv-loop μ-loop
 add-i c = search needs
@@ -67,18 +68,17 @@ loop-less : tie.Need-loop-less Inv-loop μ-loop
 loop-less c = search needs
 
 loop-again : tie.Need-loop-again Inv-loop μ-loop
-loop-again c = (
-  omega arith,
-  λ N S m b.
-      let t = in-loop (after-wide-of-else1 c) in
-      t .before .loop .inv .1 N S m b
-      ∙ all-on _ _ 0 _ (c .before .before .wide .ensures .0) (t .loop-test .taken) (has S)
-      (sym (c .before .holds .ensures N S m (place-below _ _ _ _ b (c .before .before .wide .ensures .0) (t .loop-test .taken)))
-      ∙ not-false _ (c .if1 .left)),
-)
+loop-again c =
+    let d = c .before in
+    let t = inside d in (
+      omega arith,
+      λ atoms S m b.
+          t .before .loop .inv .1 atoms S m b
+          ∙ all-on _ _ 0 _ (d .before .wide .ensures .0) (t .loop-test .taken) (has S) (sym (looked d atoms S m b) ∙ not-false _ (c .if1 .left)),
+    )
 
 returns-2 : tie.Need-returns-2 Inv-loop μ-loop
-returns-2 c = λ N S m b. sym (c .before .loop .inv .1 N S m b ∙ all-end (has S) _ _ (c .loop-test .left))
+returns-2 c = λ atoms S m b. sym (c .before .loop .inv .1 atoms S m b ∙ all-end (has S) _ _ (c .loop-test .left))
 
 pub holds-all-spec : {M : Type 1} → statement M
 holds-all-spec =

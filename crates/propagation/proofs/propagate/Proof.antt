@@ -1,5 +1,8 @@
+-- `propagation::propagate`: the literals are added, then what follows.
 use mathlib.Core.Path.{_≡_, subst}
 use denote.Ref.{now}
+use Prim.Native.Nat.{ℕ}
+use mathlib.Core.List.{List}
 use Rattle.propagation.specs.declared.Closing.{Closing}
 use Rattle.propagation.specs.declared.Closing.the-variants.{Consistent, Contradictory}
 use Rattle.propagation.specs.Walk.{Seeded}
@@ -8,49 +11,37 @@ use borrow.Author.Needs.{needs}
 use Rattle.propagation.proofs.propagate.Statement.{statement}
 use Rattle.propagation.proofs.propagate.Tie as tie
 
--- the places of the function
-abbrev at-start : tie.After-shared-slice-known → tie.Start
-at-start c = c .before
+-- after the literals are added: the start, and what adding them did
+abbrev known : tie.After-seed → tie.After-shared-slice-known2
+known d = d .before .before .before
 
-abbrev after-shared-slice-known : tie.After-seed-arg → tie.After-shared-slice-known
-after-shared-slice-known c = c .before .before .before
-
-abbrev after-seed-arg : tie.After-seed → tie.After-seed-arg
-after-seed-arg c = c .before
-
-abbrev at-start-from-seed : tie.After-seed → tie.Start
-at-start-from-seed c = at-start (after-shared-slice-known (after-seed-arg c))
-
-abbrev after-seed : tie.After-marks → tie.After-seed
-after-seed c = c .before
-
-abbrev after-marks-of-enum-told : tie.After-enum-told → tie.After-marks
-after-marks-of-enum-told c = c .before .before .before
-
-abbrev after-marks-of-enum-told2 : tie.After-enum-told2 → tie.After-marks
-after-marks-of-enum-told2 c = c .before .before .before
-
-abbrev after-enum-told2 : tie.After-saturate-arg → tie.After-enum-told2
-after-enum-told2 c = c .before
-
-abbrev after-seed-from-saturate-arg : tie.After-saturate-arg → tie.After-seed
-after-seed-from-saturate-arg c = after-seed (after-marks-of-enum-told2 (after-enum-told2 c))
-
-abbrev at-start-from-saturate-arg : tie.After-saturate-arg → tie.Start
-at-start-from-saturate-arg c = at-start (after-shared-slice-known (after-seed-arg (after-seed (after-marks-of-enum-told2 (after-enum-told2 c)))))
-
-abbrev after-saturate-arg : tie.After-slice-known3 → tie.After-saturate-arg
-after-saturate-arg c = c .before .before .before
-
-abbrev after-seed-from-slice-known3 : tie.After-slice-known3 → tie.After-seed
-after-seed-from-slice-known3 c = after-seed (after-marks-of-enum-told2 (after-enum-told2 (after-saturate-arg c)))
-
--- what adding the literals did
 abbrev start : tie.After-seed → tie.Start
-start c = at-start-from-seed c
+start d = known d .before .before
 
-seeded : (c : tie.After-seed) (v : Closing) → c .seed .result ≡ v → Seeded (now (start c .args .marks)) (now (start c .args .literals)) (c .seed .last .1 .0) v
-seeded c v e = subst (λ (x : Closing). Seeded (now (start c .args .marks)) (now (start c .args .literals)) (c .seed .last .1 .0) x) e (c .seed .ensures)
+abbrev clauses : tie.After-seed → List ℕ
+clauses d = now (start d .args .clauses)
+
+abbrev literals : tie.After-seed → List ℕ
+literals d = now (start d .args .literals)
+
+abbrev marks : tie.After-seed → List ℕ
+marks d = now (start d .args .marks)
+
+abbrev added : tie.After-seed → List ℕ
+added d = d .seed .last .1 .0
+
+seeded : (d : tie.After-seed) (v : Closing) → d .seed .result ≡ v → Seeded (marks d) (literals d) (added d) v
+seeded d v e = subst (λ (x : Closing). Seeded (marks d) (literals d) (added d) x) e (d .seed .ensures)
+
+-- where its answer is looked at
+abbrev seed-of : tie.After-slice-known2 → tie.After-seed
+seed-of c = c .before .before
+
+abbrev fine : tie.After-saturate-arg → tie.After-enum-told2
+fine c = c .before
+
+abbrev fine-seed : tie.After-saturate-arg → tie.After-seed
+fine-seed c = seed-of (fine c .before .before)
 
 seed-requires : tie.Need-seed-requires
 seed-requires c κs = search needs
@@ -63,27 +54,27 @@ enum-told-2 c = search needs
 
 saturate-requires : tie.Need-saturate-requires
 saturate-requires c κs =
-    ready-added _ _ (now (at-start-from-saturate-arg c .args .literals)) _ (at-start-from-saturate-arg c .pre .0)
-    (seeded (after-seed-from-saturate-arg c) Consistent (c .before .enum-told2 .given .1))
+    let d = fine-seed c in
+    ready-added _ _ (literals d) _ (start d .pre .0) (seeded d Consistent (fine c .enum-told2 .given .1))
 
 same-length : tie.Need-same-length
 same-length c = search needs
 
 returns : tie.Need-returns
 returns c =
-    let q = after-seed (after-marks-of-enum-told c) in
-    propagate-clash (now (start q .args .clauses)) (now (start q .args .marks)) (now (start q .args .literals)) (q .seed .last .1 .0)
-    (seeded q Contradictory (c .enum-told .given .1))
+    let d = seed-of (c .before .before) in
+    propagate-clash (clauses d) (marks d) (literals d) (added d) (seeded d Contradictory (c .enum-told .given .1))
 
 same-length-2 : tie.Need-same-length-2
 same-length-2 c = search needs
 
 returns-2 : tie.Need-returns-2
 returns-2 c =
-    let q = after-seed-from-slice-known3 c in
-    let r = c .before .before .saturate in
-    propagate-on (now (start q .args .clauses)) (now (start q .args .marks)) (now (start q .args .literals)) (q .seed .last .1 .0) (r .last .1 .0)
-    (r .result) (seeded q Consistent (after-enum-told2 (after-saturate-arg c) .enum-told2 .given .1)) (r .ensures)
+    let t = c .before .before in
+    let d = fine-seed (t .before) in
+    let r = t .saturate in
+    propagate-on (clauses d) (marks d) (literals d) (added d) (r .last .1 .0) (r .result)
+    (seeded d Consistent (fine (t .before) .enum-told2 .given .1)) (r .ensures)
 
 pub propagate-spec : {M : Type 1} → statement M
 propagate-spec =

@@ -3,6 +3,13 @@ use Rattle.definitions.specs.Literal.{fill}
 use Rattle.propagation.proofs.scan_word.Statement.{statement}
 use Rattle.propagation.proofs.scan_word.Tie as tie
 
+-- where the complement is not marked: the word is no fill, and not the first
+abbrev other : tie.After-is-false → tie.Else2
+other d = d .before
+
+abbrev not-fill : tie.After-is-false → tie.Else1
+not-fill d = other d .before
+
 returns : tie.Need-returns
 unfolding fill
 returns c = λ ne _. absurd (ne (c .if1 .taken))
@@ -17,28 +24,17 @@ is-false-requires c κs = (c .before .before .before .pre .0, c .before .before 
 returns-3 : tie.Need-returns-3
 returns-3 c = λ _ _. sym (c .before .is-false .ensures) ∙ c .if3 .taken
 
--- the places of the function
-abbrev else1 : tie.After-is-false → tie.Else1
-else1 c = c .before .before
-
-abbrev after-is-false-of-else4 : tie.Else4 → tie.After-is-false
-after-is-false-of-else4 c = c .before .before
-
-abbrev after-is-false-of-then4 : tie.Then4 → tie.After-is-false
-after-is-false-of-then4 c = c .before .before
-
 returns-4 : tie.Need-returns-4
 unfolding fill
-returns-4 c = (
-  else1 (after-is-false-of-then4 c) .if1 .left,
-  sym (c .before .before .is-false .ensures) ∙ c .before .if3 .left,
-  c .if4 .taken,
-  c .before .before .before .if2 .left,
-)
+returns-4 c =
+    let d = c .before .before in
+    (not-fill d .if1 .left, sym (d .is-false .ensures) ∙ c .before .if3 .left, c .if4 .taken, other d .if2 .left)
 
 returns-5 : tie.Need-returns-5
 unfolding fill
-returns-5 c = (else1 (after-is-false-of-else4 c) .if1 .left, sym (c .before .before .is-false .ensures) ∙ c .before .if3 .left, c .if4 .left)
+returns-5 c =
+    let d = c .before .before in
+    (not-fill d .if1 .left, sym (d .is-false .ensures) ∙ c .before .if3 .left, c .if4 .left)
 
 pub scan-word-spec : {M : Type 1} → statement M
 scan-word-spec = tie.close (tie.spec returns returns-2 is-false-requires returns-3 returns-4 returns-5)

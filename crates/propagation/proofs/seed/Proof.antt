@@ -1,13 +1,11 @@
-use mathlib.Core.Path.{ap}
-use Prim.Native.Nat.{ℕ}
+-- `propagation::seed`: the literals before i are added.
 use Rattle.definitions.specs.Literal.{complement}
 use Rattle.definitions.specs.Closure.{has}
 use Rattle.propagation.proofs.Sets.{even-on}
--- `propagation::seed`: the literals before i are added.
-use Prim.Native.Nat.{_-_}
-use mathlib.Core.Path.{refl, sym, _∙_}
+use Prim.Native.Nat.{ℕ, _-_, _<_}
+use mathlib.Core.Path.{_≡_, refl, sym, _∙_, ap}
 use native.Mathlib.Omega.{arith}
-use lib.ListN.{length}
+use lib.ListN.{length, getD}
 use Rattle.propagation.proofs.Marks.{place-below}
 use Rattle.propagation.proofs.Seeds.{Seeding, seed-start, seed-clash, seed-on, seed-end}
 use borrow.Author.Needs.{needs}
@@ -20,6 +18,25 @@ Inv-loop literals marks₀ i₀ marks i = Seeding marks₀ literals marks i
 abbrev μ-loop : tie.MeasureT-loop
 μ-loop literals marks₀ i₀ marks i = length literals - i
 
+-- at the loop's head: the start
+abbrev start : tie.At-loop Inv-loop μ-loop → tie.Start Inv-loop μ-loop
+start h = h .before .before .before
+
+-- in the loop: the literal there is below the marks
+below :
+    (t : tie.In-loop Inv-loop μ-loop) (x : ℕ) → let h = t .before in
+    x ≡ getD (start h .args .literals .now) (h .loop .i) 0 → x < length (h .loop .marks)
+below t x e =
+    let h = t .before in
+    omega (arith, h .loop .inv .same-length, place-below _ _ _ _ (start h .pre .1) e (t .loop-test .taken))
+
+-- where its complement is looked at
+abbrev inside : tie.After-is-false Inv-loop μ-loop → tie.In-loop Inv-loop μ-loop
+inside c = c .before .before .before
+
+abbrev not-false : tie.After-wide Inv-loop μ-loop → tie.After-is-false Inv-loop μ-loop
+not-false c = c .before .before
+
 loop-holds : tie.Need-loop-holds Inv-loop μ-loop
 loop-holds c = seed-start _ _ (c .before .before .pre .0)
 
@@ -29,47 +46,25 @@ mul-l c = search needs
 shared-slice-read-l : tie.Need-shared-slice-read-l Inv-loop μ-loop
 shared-slice-read-l c = search needs
 
--- the places of the function
-abbrev at-start : tie.At-loop Inv-loop μ-loop → tie.Start Inv-loop μ-loop
-at-start c = c .before .before .before
-
-abbrev at-loop : tie.In-loop Inv-loop μ-loop → tie.At-loop Inv-loop μ-loop
-at-loop c = c .before
-
-abbrev in-loop : tie.After-is-false-arg Inv-loop μ-loop → tie.In-loop Inv-loop μ-loop
-in-loop c = c .before .before
-
-abbrev after-is-false-arg-of-then1 : tie.Then1 Inv-loop μ-loop → tie.After-is-false-arg Inv-loop μ-loop
-after-is-false-arg-of-then1 c = c .before .before
-
-abbrev after-is-false-arg-of-wide : tie.After-wide Inv-loop μ-loop → tie.After-is-false-arg Inv-loop μ-loop
-after-is-false-arg-of-wide c = c .before .before .before
-
-abbrev at-loop-from-then1 : tie.Then1 Inv-loop μ-loop → tie.At-loop Inv-loop μ-loop
-at-loop-from-then1 c = at-loop (in-loop (after-is-false-arg-of-then1 c))
-
 is-false-requires : tie.Need-is-false-requires Inv-loop μ-loop
 is-false-requires c κs =
     let t = c .before .before in
-    let p = at-start (at-loop t) .pre in
-    let e = t .before .loop .inv .same-length in
-    (even-on _ _ e (p .0 .even), omega (arith, e, place-below _ _ _ _ (p .1) refl (t .loop-test .taken)))
+    let h = t .before in
+    (even-on _ _ (h .loop .inv .same-length) (start h .pre .0 .even), below t _ refl)
 
 same-length : tie.Need-same-length Inv-loop μ-loop
-same-length c = at-loop-from-then1 c .loop .inv .same-length
+same-length c = inside (c .before) .before .loop .inv .same-length
 
 returns : tie.Need-returns Inv-loop μ-loop
 returns c =
-    let t = in-loop (after-is-false-arg-of-then1 c) in
+    let t = inside (c .before) in
     seed-clash _ _ _ _ _ (t .before .loop .inv) refl (t .loop-test .taken) (sym (c .before .is-false .ensures) ∙ c .if1 .taken)
 
 wide-requires : tie.Need-wide-requires Inv-loop μ-loop
 wide-requires c κs = search needs
 
 slice-write-marks : tie.Need-slice-write-marks Inv-loop μ-loop
-slice-write-marks c =
-    let t = in-loop (after-is-false-arg-of-wide c) in
-    omega (arith, t .before .loop .inv .same-length, place-below _ _ _ _ (at-start (at-loop t) .pre .1) (c .wide .ensures .0) (t .loop-test .taken))
+slice-write-marks c = below (inside (not-false c)) _ (c .wide .ensures .0)
 
 add-i : tie.Need-add-i Inv-loop μ-loop
 add-i c = search needs
@@ -79,11 +74,12 @@ loop-less c = search needs
 
 loop-again : tie.Need-loop-again Inv-loop μ-loop
 loop-again c =
-    let t = in-loop (after-is-false-arg-of-wide c) in
+    let d = not-false c in
+    let t = inside d in
     let l = t .before .loop in
-    seed-on _ _ _ _ _ (l .inv) (c .wide .ensures .0) (t .loop-test .taken)
-    (omega (arith, l .inv .same-length, place-below _ _ _ _ (at-start (at-loop t) .pre .1) (c .wide .ensures .0) (t .loop-test .taken)))
-    (ap (λ (x : ℕ). has (l .marks) (complement x)) (c .wide .ensures .0) ∙ sym (c .before .before .is-false .ensures) ∙ c .before .if1 .left)
+    let e = c .wide .ensures .0 in
+    seed-on _ _ _ _ _ (l .inv) e (t .loop-test .taken) (below t _ e)
+    (ap (λ (x : ℕ). has (l .marks) (complement x)) e ∙ sym (d .is-false .ensures) ∙ c .before .if1 .left)
 
 same-length-2 : tie.Need-same-length-2 Inv-loop μ-loop
 same-length-2 c = c .before .loop .inv .same-length

@@ -10,7 +10,7 @@ use Rattle.definitions.specs.Literal.{fill}
 use Rattle.definitions.specs.Image.{Task, initialState}
 use Rattle.definitions.specs.Clauses.{width, clauseWords}
 use Rattle.task.specs.Reads.{taskOf}
-use Rattle.judge.proofs.Parts.{part-length, part-room, part-back}
+use Rattle.judge.proofs.Parts.{CameBack, came-back}
 use Rattle.synthesis.specs.Rounds.{unitsFrom}
 use Rattle.synthesis.proofs.Units.{filled, state-right, units-first}
 use borrow.Author.Needs.{needs}
@@ -52,20 +52,10 @@ state c = c .write-initial .last .1 .0
 is-initial : (c : tie.After-write-initial) → state c ≡ initialState (task (room-of c))
 is-initial c = c .write-initial .ensures
 
-state-length : (c : tie.After-write-initial) → length (state c) ≡ atoms (room-of c)
-state-length c =
+came : (c : tie.After-write-initial) → let d = room-of c in CameBack (atoms d) (room d) (state c)
+came c =
     let d = room-of c in
-    part-length (atoms d) (room d) (state c) (fits d) (c .write-initial .kept .1 .0)
-
-state-fits : (c : tie.After-write-initial) → let d = room-of c in atoms d ≤ length (state c ++ drop (atoms d) (room d))
-state-fits c =
-    let d = room-of c in
-    part-room (atoms d) (room d) (state c) (fits d) (c .write-initial .kept .1 .0)
-
-state-back : (c : tie.After-write-initial) → let d = room-of c in take (atoms d) (state c ++ drop (atoms d) (room d)) ≡ state c
-state-back c =
-    let d = room-of c in
-    part-back (atoms d) (room d) (state c) (fits d) (c .write-initial .kept .1 .0)
+    came-back (atoms d) (room d) (state c) (fits d) (c .write-initial .kept .1 .0)
 
 -- where the words are filled, and the state is shared
 abbrev written : tie.After-fill → tie.After-write-initial
@@ -95,12 +85,12 @@ fill-requires : tie.Need-fill-requires
 fill-requires c κs = search needs
 
 array-share-prefix-state : tie.Need-array-share-prefix-state
-array-share-prefix-state c = state-fits (written (c .before .before))
+array-share-prefix-state c = came (written (c .before .before)) .room
 
 slice-aggregate-write-units : tie.Need-slice-aggregate-write-units
 slice-aggregate-write-units c =
     let w = written (fill-of c) in
-    sym (ap length (state-back w) ∙ state-length w)
+    came w .whole
 
 write-units-requires : tie.Need-write-units-requires
 unfolding fill
@@ -108,12 +98,12 @@ write-units-requires c κs =
     let f = fill-of (c .before) in
     let w = written f in
     let d = room-of w in
-    let back = state-back w in
+    let back = came w .part in
     let rows : length (words d) ≡ width * atoms d =
     start (d .before) .pre .1 ∙ ap (λ (k : ℕ). width * k) (sym (d .before .atoms .ensures .0)) in (
-      rw back (omega (arith, state-length w, d .before .atoms .ensures .1)),
+      rw back (omega (arith, came w .size, d .before .atoms .ensures .1)),
       rw back (state-right (task d) (state w) (is-initial w)),
-      rw back (filled (words d) (f .fill .last .0) (atoms d) (length (state w)) rows (state-length w) (f .fill .ensures)),
+      rw back (filled (words d) (f .fill .last .0) (atoms d) (length (state w)) rows (came w .size) (f .fill .ensures)),
     )
 
 same-length : tie.Need-same-length
@@ -125,7 +115,7 @@ returns c =
     let w = written (fill-of (u .before .before)) in
     let rows = u .write-units .last .1 .0 in
     units-first (task (room-of w)) (state w) rows (is-initial w)
-    (subst (λ (z : List ℕ). rows ≡ clauseWords (unitsFrom z 0 (length z))) (state-back w) (u .write-units .ensures))
+    (subst (λ (z : List ℕ). rows ≡ clauseWords (unitsFrom z 0 (length z))) (came w .part) (u .write-units .ensures))
 
 pub write-rows-spec : {M : Type 1} → statement M
 write-rows-spec =
