@@ -28,7 +28,7 @@ fn copy_unflagged(clauses: &[u16], flags: &[u8], work: &mut [u16]) -> usize
         if flags[at] == 1 {
             continue;
         }
-        clause_set::words::copy_to(clause::row(clauses, at), work, WIDTH * count);
+        writing::words(clause::row(clauses, at), work, WIDTH * count);
         count += 1;
     }
     count

@@ -9,6 +9,7 @@ use Rattle.definitions.specs.Lists.{each, range}
 use Rattle.definitions.specs.Clauses.{width}
 use Rattle.clause.specs.Rows.{rowCount}
 use Rattle.clause.proofs.RowLaws.{row-length}
+use Rattle.writing.proofs.Writes.{wrote-between}
 use Rattle.next_set.specs.Build.{rowsWithout, wordsWithout}
 use Rattle.next_set.proofs.Copying.{copy-start, copy-skip, copy-room, copy-row, copy-end}
 use borrow.Author.Needs.{needs}
@@ -60,39 +61,39 @@ at-start-from-then1 c = at-start (after-shared-slice-known (after-rows (at-loop-
 abbrev else1 : tie.After-row Inv-loop μ-loop → tie.Else1 Inv-loop μ-loop
 else1 c = c .before
 
-abbrev after-row : tie.After-copy-to-arg Inv-loop μ-loop → tie.After-row Inv-loop μ-loop
+abbrev after-row : tie.After-words-arg Inv-loop μ-loop → tie.After-row Inv-loop μ-loop
 after-row c = c .before
 
-abbrev after-rows-from-copy-to-arg : tie.After-copy-to-arg Inv-loop μ-loop → tie.After-rows Inv-loop μ-loop
-after-rows-from-copy-to-arg c = after-rows (at-loop-of-in-loop (in-loop-of-else1 (else1 (after-row c))))
+abbrev after-rows-from-words-arg : tie.After-words-arg Inv-loop μ-loop → tie.After-rows Inv-loop μ-loop
+after-rows-from-words-arg c = after-rows (at-loop-of-in-loop (in-loop-of-else1 (else1 (after-row c))))
 
-abbrev at-loop-from-copy-to-arg : tie.After-copy-to-arg Inv-loop μ-loop → tie.At-loop Inv-loop μ-loop
-at-loop-from-copy-to-arg c = at-loop-of-in-loop (in-loop-of-else1 (else1 (after-row c)))
+abbrev at-loop-from-words-arg : tie.After-words-arg Inv-loop μ-loop → tie.At-loop Inv-loop μ-loop
+at-loop-from-words-arg c = at-loop-of-in-loop (in-loop-of-else1 (else1 (after-row c)))
 
-abbrev at-start-from-copy-to-arg : tie.After-copy-to-arg Inv-loop μ-loop → tie.Start Inv-loop μ-loop
-at-start-from-copy-to-arg c = at-start (after-shared-slice-known (after-rows (at-loop-of-in-loop (in-loop-of-else1 (else1 (after-row c))))))
+abbrev at-start-from-words-arg : tie.After-words-arg Inv-loop μ-loop → tie.Start Inv-loop μ-loop
+at-start-from-words-arg c = at-start (after-shared-slice-known (after-rows (at-loop-of-in-loop (in-loop-of-else1 (else1 (after-row c))))))
 
-abbrev in-loop-from-copy-to-arg : tie.After-copy-to-arg Inv-loop μ-loop → tie.In-loop Inv-loop μ-loop
-in-loop-from-copy-to-arg c = in-loop-of-else1 (else1 (after-row c))
+abbrev in-loop-from-words-arg : tie.After-words-arg Inv-loop μ-loop → tie.In-loop Inv-loop μ-loop
+in-loop-from-words-arg c = in-loop-of-else1 (else1 (after-row c))
 
-abbrev after-copy-to-arg : tie.After-slice-known2 Inv-loop μ-loop → tie.After-copy-to-arg Inv-loop μ-loop
-after-copy-to-arg c = c .before .before .before
+abbrev after-words-arg : tie.After-slice-known2 Inv-loop μ-loop → tie.After-words-arg Inv-loop μ-loop
+after-words-arg c = c .before .before .before
 
 abbrev after-rows-from-slice-known2 : tie.After-slice-known2 Inv-loop μ-loop → tie.After-rows Inv-loop μ-loop
-after-rows-from-slice-known2 c = after-rows (at-loop-of-in-loop (in-loop-of-else1 (else1 (after-row (after-copy-to-arg c)))))
+after-rows-from-slice-known2 c = after-rows (at-loop-of-in-loop (in-loop-of-else1 (else1 (after-row (after-words-arg c)))))
 
 abbrev at-loop-from-slice-known2 : tie.After-slice-known2 Inv-loop μ-loop → tie.At-loop Inv-loop μ-loop
-at-loop-from-slice-known2 c = at-loop-of-in-loop (in-loop-of-else1 (else1 (after-row (after-copy-to-arg c))))
+at-loop-from-slice-known2 c = at-loop-of-in-loop (in-loop-of-else1 (else1 (after-row (after-words-arg c))))
 
 abbrev at-start-from-slice-known2 : tie.After-slice-known2 Inv-loop μ-loop → tie.Start Inv-loop μ-loop
 at-start-from-slice-known2 c =
-    at-start (after-shared-slice-known (after-rows (at-loop-of-in-loop (in-loop-of-else1 (else1 (after-row (after-copy-to-arg c)))))))
+    at-start (after-shared-slice-known (after-rows (at-loop-of-in-loop (in-loop-of-else1 (else1 (after-row (after-words-arg c)))))))
 
 abbrev else1-from-slice-known2 : tie.After-slice-known2 Inv-loop μ-loop → tie.Else1 Inv-loop μ-loop
-else1-from-slice-known2 c = else1 (after-row (after-copy-to-arg c))
+else1-from-slice-known2 c = else1 (after-row (after-words-arg c))
 
 abbrev in-loop-from-slice-known2 : tie.After-slice-known2 Inv-loop μ-loop → tie.In-loop Inv-loop μ-loop
-in-loop-from-slice-known2 c = in-loop-of-else1 (else1 (after-row (after-copy-to-arg c)))
+in-loop-from-slice-known2 c = in-loop-of-else1 (else1 (after-row (after-words-arg c)))
 
 loop-holds : tie.Need-loop-holds Inv-loop μ-loop
 loop-holds c = (
@@ -128,29 +129,35 @@ loop-again c =
 row-requires : tie.Need-row-requires Inv-loop μ-loop
 row-requires c κs = search needs
 
-mul-copy-to : tie.Need-mul-copy-to Inv-loop μ-loop
+mul-words : tie.Need-mul-words Inv-loop μ-loop
 unfolding width
-mul-copy-to c =
-    let l = at-loop-from-copy-to-arg c .loop in
-    let a = at-start-from-copy-to-arg c .args in
+mul-words c =
+    let l = at-loop-from-words-arg c .loop in
+    let a = at-start-from-words-arg c .args in
     omega (
       arith,
-      copy-room (now (a .clauses)) (now (a .flags)) (l .work) (after-rows-from-copy-to-arg c .rows .result) (l .count) (l .i) (l .inv .4)
-          (in-loop-from-copy-to-arg c .loop-test .taken) (l .inv .0) (l .inv .1) (omega (arith, l .inv .3, at-start-from-copy-to-arg c .pre .1)),
+      copy-room (now (a .clauses)) (now (a .flags)) (l .work) (after-rows-from-words-arg c .rows .result) (l .count) (l .i) (l .inv .4)
+          (in-loop-from-words-arg c .loop-test .taken) (l .inv .0) (l .inv .1) (omega (arith, l .inv .3, at-start-from-words-arg c .pre .1)),
     )
 
-copy-to-requires : tie.Need-copy-to-requires Inv-loop μ-loop
+-- the row fits
+room : (c : tie.After-words-arg Inv-loop μ-loop) → let l = at-loop-from-words-arg c .loop in
+    width * l .count + length (now (after-row c .row .result)) ≤ length (l .work)
 unfolding width
-copy-to-requires c κs =
-    let l = at-loop-from-copy-to-arg c .loop in
-    let a = at-start-from-copy-to-arg c .args in
+room c =
+    let l = at-loop-from-words-arg c .loop in
+    let a = at-start-from-words-arg c .args in
     omega (
       arith,
-      ap length (c .before .row .ensures),
-      row-length (now (a .clauses)) (l .i) (omega arith),
-      copy-room (now (a .clauses)) (now (a .flags)) (l .work) (after-rows-from-copy-to-arg c .rows .result) (l .count) (l .i) (l .inv .4)
-          (in-loop-from-copy-to-arg c .loop-test .taken) (l .inv .0) (l .inv .1) (omega (arith, l .inv .3, at-start-from-copy-to-arg c .pre .1)),
+      ap length (after-row c .row .ensures),
+      row-length (now (a .clauses)) (l .i) (omega (arith, in-loop-from-words-arg c .loop-test .taken, l .inv .0)),
+      copy-room (now (a .clauses)) (now (a .flags)) (l .work) (after-rows-from-words-arg c .rows .result) (l .count) (l .i) (l .inv .4)
+          (in-loop-from-words-arg c .loop-test .taken) (l .inv .0) (l .inv .1) (omega (arith, l .inv .3, at-start-from-words-arg c .pre .1)),
     )
+
+words-requires : tie.Need-words-requires Inv-loop μ-loop
+unfolding width
+words-requires c κs = room c
 
 add-count : tie.Need-add-count Inv-loop μ-loop
 add-count c = search needs
@@ -166,11 +173,11 @@ loop-again-2 c =
       l .inv .0,
       omega arith,
       omega arith,
-      c .before .before .copy-to .kept .1 .0 ∙ l .inv .3,
+      c .before .before .words .kept .1 .0 ∙ l .inv .3,
       copy-row (now (a .clauses)) (now (a .flags)) (l .work) (after-rows-from-slice-known2 c .rows .result) (l .count) (l .i) (l .inv .4)
           (in-loop-from-slice-known2 c .loop-test .taken) (l .inv .0) (l .inv .1) (omega (arith, l .inv .3, at-start-from-slice-known2 c .pre .1))
-          (else1-from-slice-known2 c .if1 .left) (now (after-row (after-copy-to-arg c) .row .result)) (c .before .before .copy-to .last .1 .0)
-          (after-row (after-copy-to-arg c) .row .ensures) (c .before .before .copy-to .ensures),
+          (else1-from-slice-known2 c .if1 .left) (now (after-row (after-words-arg c) .row .result)) (c .before .before .words .last .1 .0)
+          (after-row (after-words-arg c) .row .ensures) (wrote-between (room (after-words-arg c)) (c .before .before .words .ensures)),
     )
 
 same-length : tie.Need-same-length Inv-loop μ-loop
@@ -196,8 +203,8 @@ copy-unflagged-spec =
     loop-less
     loop-again
     row-requires
-    mul-copy-to
-    copy-to-requires
+    mul-words
+    words-requires
     add-count
     loop-less-2
     loop-again-2
