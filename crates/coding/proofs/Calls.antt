@@ -7,7 +7,7 @@ use lib.Dec.{eqb}
 use lib.ListN.{length}
 use borrow.Author.Tests.{eq-eqb, ne-eqb}
 use Rattle.definitions.specs.Lists.{all, below}
-use Rattle.definitions.specs.Answer.{Refusal, Answer, finding, refused, verdict, outcome, becomes, ask, _>>=_}
+use Rattle.definitions.specs.Answer.{Refusal, Answer, finding, refused, verdict, outcome, becomes}
 use Rattle.definitions.specs.Literal.{isState}
 use Rattle.definitions.specs.Fdr.{FdrTask}
 use Rattle.definitions.specs.FdrImage.{readFdr}

@@ -3,13 +3,13 @@ use mathlib.Core.Path.{_≡_, refl, sym, ap, _∙_, subst}
 use mathlib.Core.List.{List, map, List·Memᴰ}
 use mathlib.Core.Bool.{Bool, true, false, not, _&&_}
 use mathlib.Core.Option.{Option, none, some}
-use Prim.Native.Nat.{ℕ, _+_, _-_, _≤_, _<_}
+use Prim.Native.Nat.{ℕ, _-_, _≤_, _<_}
 use native.Mathlib.Omega.{arith}
 use lib.ListN.{length, getD}
 use lib.Dec.{ltb, leb}
 use borrow.Author.Tests.{lt-ltb, ltb-true, leb-true}
 use Rattle.definitions.specs.Lists.{all, below}
-use Rattle.definitions.specs.Answer.{finding, refused, outcome, becomes, ask, _>>=_}
+use Rattle.definitions.specs.Answer.{finding, refused, outcome, becomes}
 use Rattle.definitions.specs.Literal.{mostAtoms}
 use Rattle.definitions.specs.Groups.{Domain}
 use Rattle.definitions.specs.Fdr.{FdrRow, FdrOperator, FdrTask, noDomain, atomValues, fdrAllTrue}

@@ -1,21 +1,21 @@
 -- Laws of the calls: a task's states, and questions 19 to 21. Assumes nothing.
-use mathlib.Core.Path.{_≡_, refl, sym, ap, _∙_, subst}
+use mathlib.Core.Path.{_≡_, refl, sym, ap, _∙_}
 use mathlib.Core.List.{List}
 use mathlib.Core.Bool.{Bool, true, false, cond, not}
 use Prim.Native.Nat.{ℕ, _*_, _≤_, _<_}
 use native.Mathlib.Omega.{arith}
 use lib.ListN.{length, replicate}
 use lib.Dec.{eqb}
-use borrow.Author.Tests.{eqb-true, not-true, not-false}
-use Rattle.definitions.specs.Answer.{Refusal, finding, refused, outcome, becomes, ask, _>>=_}
+use borrow.Author.Tests.{eqb-true, not-true}
+use Rattle.definitions.specs.Answer.{finding, refused, outcome, becomes}
 use Rattle.definitions.specs.Literal.{mostLiterals, allTrue, allBelow, isState}
-use Rattle.definitions.specs.Image.{Operator, Task, operatorRight}
+use Rattle.definitions.specs.Image.{Operator, Task}
 use Rattle.definitions.specs.Step.{effects, conflict, result, operatorAt, step}
 use Rattle.definitions.proofs.ListLaws.{and-left}
 use Rattle.answer.specs.Answer.{refusalAt}
 use Rattle.answer.specs.Reader.{stateAnswer}
 use Rattle.answer.proofs.ReaderCalls.{question-no, question-yes, stays, done, operator-refused, operator-there, image-fine, state-is}
-use Rattle.task.specs.Reads.{taskOf, Reads}
+use Rattle.task.specs.Reads.{taskOf}
 use Rattle.task.specs.Walk.{operatorIn}
 use Rattle.task.specs.Post.{BlockGiven}
 use Rattle.task.proofs.Questions.{reads, task-read, operator-right}

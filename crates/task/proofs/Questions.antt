@@ -3,20 +3,20 @@ use mathlib.Core.Path.{_≡_, refl, sym, ap, _∙_, subst}
 use mathlib.Core.List.{List, [], _∷_}
 use mathlib.Core.Bool.{Bool, true, false, _&&_}
 use mathlib.Core.Option.{some}
-use Prim.Native.Nat.{ℕ, zero, suc, _+_, _-_, _*_, _≤_, _<_}
+use Prim.Native.Nat.{ℕ, zero, suc, _+_, _-_, _≤_, _<_}
 use native.Mathlib.Numerals.{add-one}
 use native.Mathlib.Omega.{arith}
 use lib.ListN.{length, getD}
 use lib.Dec.{leb}
 use borrow.Author.Tests.{lt-leb, le-leb, leb-true}
 use Rattle.definitions.specs.Lists.{ascending}
-use Rattle.definitions.specs.Answer.{Refusal, Answer, finding, refused, refuse, verdict, ask, askAt, _>>=_}
+use Rattle.definitions.specs.Answer.{Refusal, Answer, finding, refused, verdict, ask, askAt, _>>=_}
 use Rattle.definitions.specs.Literal.{mostAtoms, allBelow, literalList}
 use Rattle.definitions.specs.Image.{mostImage, mostOperators, Operator, Task, part, directory, operatorOf, operatorRight, readOperator, readOperators, readTask}
 use Rattle.definitions.specs.Step.{noOperator, operatorAt}
 use Rattle.definitions.proofs.ListLaws.{and-left, and-right}
 use Rattle.definitions.proofs.AnswerLaws.{not-finding, same-finding, bind-of, ask-of}
-use Rattle.definitions.proofs.ReadLaws.{ReadRight, read-right}
+use Rattle.definitions.proofs.ReadLaws.{read-right}
 use Rattle.definitions.proofs.ListLaws.{getD-mem}
 use Rattle.answer.specs.Answer.{refusalAt}
 use Rattle.answer.proofs.Laws.{verdict-bind}

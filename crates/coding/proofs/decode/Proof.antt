@@ -1,5 +1,5 @@
 -- `coding::decode`: question 17, then the source and the target as question 18.
-use mathlib.Core.Path.{_≡_, refl, sym, ap, _∙_}
+use mathlib.Core.Path.{sym, ap, _∙_}
 use borrow.Author.Tests.{not-true, not-false}
 use Rattle.definitions.specs.Answer.{finding}
 use Rattle.definitions.specs.FdrStep.{isFdrState}

@@ -1,5 +1,5 @@
 -- `fdr::apply`: each answer by what is noted (proofs/Calls.antt).
-use mathlib.Core.Path.{_≡_, _∙_}
+use mathlib.Core.Path.{_≡_}
 use mathlib.Core.Bool.{true}
 use borrow.Author.Tests.{not-true, not-false}
 use Rattle.answer.proofs.Laws.{outcome-of}

@@ -1,5 +1,5 @@
 -- `fdr::read_state`: question 17, then 18.
-use mathlib.Core.Path.{_≡_, sym, ap, _∙_}
+use mathlib.Core.Path.{sym, ap, _∙_}
 use borrow.Author.Tests.{not-true, not-false}
 use Rattle.answer.specs.Answer.{placed, verdictAnswer}
 use Rattle.answer.proofs.ReaderCalls.{first-refused, first-fine, first-not}

@@ -1,5 +1,4 @@
 -- `fdr::set_initial`: question 17, then the length of the state.
-use Prim.Native.Nat.{_+_, _≤_}
 use mathlib.Core.Path.{_≡_, sym, ap, _∙_}
 use native.Mathlib.Omega.{arith}
 use lib.ListN.{length}

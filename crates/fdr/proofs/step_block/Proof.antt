@@ -1,5 +1,5 @@
 -- `fdr::step_block`: question 20, then the rows; what was noted is cleared.
-use mathlib.Core.Path.{_≡_, refl, sym, _∙_}
+use mathlib.Core.Path.{refl, sym, _∙_}
 use borrow.Author.Tests.{not-true, not-false}
 use Rattle.answer.proofs.Laws.{outcome-of}
 use Rattle.fdr.proofs.Calls.{stepped-20, stepped-rows, low-block, blank-size, notes-cleared}

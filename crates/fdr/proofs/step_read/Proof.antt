@@ -1,8 +1,5 @@
 -- `fdr::step_read`: the changes that are lent note nothing.
-use mathlib.Core.Path.{refl, sym}
-use Prim.Native.Nat.{ℕ}
-use lib.ListN.{length-replicate}
-use Rattle.definitions.specs.Literal.{mostAtoms}
+use mathlib.Core.Path.{refl}
 use Rattle.fdr.specs.Change.{noChanges}
 use borrow.Author.Needs.{needs}
 use Rattle.fdr.proofs.step_read.Statement.{statement}

@@ -1,5 +1,5 @@
 -- `fdr_image::are_parts`: the domains, then the other parts over them.
-use mathlib.Core.Path.{_≡_, sym, _∙_}
+use mathlib.Core.Path.{sym, _∙_}
 use native.Mathlib.Omega.{arith}
 use borrow.Author.Tests.{not-true, not-false}
 use Rattle.fdr_image.proofs.Reading.{few-variables, domains-few, laid-lies, laid-room, parts-domains, parts-rest}

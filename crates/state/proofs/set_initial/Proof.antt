@@ -1,5 +1,5 @@
 -- `state::set_initial`: the questions of the image, then the length of the state.
-use mathlib.Core.Path.{_≡_, sym, ap, _∙_}
+use mathlib.Core.Path.{sym, ap, _∙_}
 use Rattle.definitions.specs.Step.{startTask}
 use Rattle.answer.specs.Answer.{placed, verdictAnswer}
 use Rattle.answer.proofs.Laws.{outcome-of}

@@ -1,5 +1,5 @@
 -- `state::write_initial`: zeros, with the atoms of the initial list set.
-use mathlib.Core.Path.{_≡_, ap, _∙_}
+use mathlib.Core.Path.{ap, _∙_}
 use mathlib.Core.List.{List}
 use Prim.Native.Nat.{ℕ}
 use Rattle.task.specs.Reads.{taskOf}

@@ -1,6 +1,6 @@
 -- `task::check_operators`: the verdict of all operators is that of the operators that are left.
 use Prim.Native.Nat.{_≤_, _-_, _+_}
-use mathlib.Core.Path.{_≡_, refl, sym, ap, _∙_}
+use mathlib.Core.Path.{_≡_, sym, ap, _∙_}
 use native.Mathlib.Omega.{arith}
 use Rattle.definitions.specs.Answer.{verdict}
 use Rattle.definitions.specs.Image.{readOperators}

@@ -1,13 +1,10 @@
 -- `fdr::change::are_nones_there`: the test of all rows is the test of those that are left.
-use Prim.Native.Nat.{ℕ}
-use mathlib.Core.Path.{_≡_, refl, sym, ap, _∙_}
+use mathlib.Core.Path.{_≡_, sym, ap, _∙_}
 use mathlib.Core.Bool.{true}
-use mathlib.Core.List.{List}
 use native.Mathlib.Omega.{arith}
 use lib.Dec.{ltb}
-use lib.ListN.{length, length-set}
+use lib.ListN.{length}
 use Rattle.definitions.specs.Lists.{all}
-use Rattle.definitions.specs.Fdr.{FdrRow}
 use Rattle.definitions.specs.FdrImage.{domainsIn}
 use Rattle.fdr_image.specs.Walk.{operatorIn, parsesAt, rowsAt}
 use Rattle.fdr_image.proofs.RowLaws.{rows-done}

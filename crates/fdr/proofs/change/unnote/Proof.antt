@@ -1,5 +1,4 @@
 -- `fdr::change::unnote`: what all rows leave is what those that are left leave of the changes so far.
-use Prim.Native.Nat.{ℕ}
 use mathlib.Core.Path.{_≡_, refl, sym, ap, _∙_}
 use mathlib.Core.Bool.{true}
 use mathlib.Core.List.{List}

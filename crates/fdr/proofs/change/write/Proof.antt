@@ -1,5 +1,4 @@
 -- `fdr::change::write`: what all rows write is what those that are left write in the state so far.
-use Prim.Native.Nat.{ℕ}
 use mathlib.Core.Path.{_≡_, refl, sym, ap, _∙_}
 use mathlib.Core.Bool.{true}
 use mathlib.Core.List.{List}

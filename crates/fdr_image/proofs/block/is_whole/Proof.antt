@@ -1,5 +1,3 @@
-use native.Mathlib.Omega.{arith}
-use mathlib.Core.Path.{_≡_}
 use Rattle.fdr_image.proofs.RowLaws.{whole-short, whole-rest}
 use borrow.Author.Needs.{needs}
 use Rattle.fdr_image.proofs.block.is_whole.Statement.{statement}

@@ -1,5 +1,5 @@
 -- `state::effect::conflict`: the test of all rows is that of the rows that are left.
-use mathlib.Core.Path.{_≡_, refl, sym, ap, _∙_}
+use mathlib.Core.Path.{_≡_, sym, ap, _∙_}
 use mathlib.Core.Bool.{true}
 use native.Mathlib.Omega.{arith}
 use Rattle.task.specs.Walk.{operatorIn, parsesAt, rowsAt}

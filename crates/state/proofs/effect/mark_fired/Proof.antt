@@ -1,5 +1,4 @@
 -- `state::effect::mark_fired`: the marks of all rows are those of the rows that are left, added to the marks so far.
-use Prim.Native.Nat.{ℕ}
 use mathlib.Core.Path.{_≡_, refl, sym, ap, _∙_}
 use mathlib.Core.Bool.{true}
 use mathlib.Core.List.{List}
