@@ -1,134 +1,162 @@
-// The words of a case, in bytes read from standard input, and room for its lists.
+// The words of a case and its lists (specs/Case.antt says what they are).
 ghost use mathlib.Core.Path.{_≡_};
-ghost use Prim.Native.Nat.{_+_, _≤_, _<_};
-ghost use lib.ListN.{length};
+ghost use Prim.Native.Nat.{_+_, _≤_, _<_, min};
+ghost use lib.ListN.{length, getD};
+ghost use Rattle.cases.specs.Case.{mostInput, mostWords, mostBytes, lastEnd, listLength, bytesLength, storedCount, valuesAt, caseEnd};
+ghost use Rattle.cases.specs.Case.{valueAt, wordsFrom, bytesFrom, listOf, bytesOf, Loaded};
+
+// The most words of an input, of a list of words, and the most bytes of the list of bytes.
+const MOST_INPUT: usize = 32768;
+
+const MOST_WORDS: usize = 8200;
+
+const MOST_BYTES: usize = 2100;
 
 // Words of a case before its stored values.
 const HEADER: usize = 11;
 
-// Room for a list of words.
-pub fn room() -> [u16; 8200]
-    ensures { λ r. ⌜ 8200 ≡ length r ⌝ }
+// Room for the words of an input.
+pub fn input_room() -> [u16; MOST_INPUT]
+    ensures { λ r. ⌜ length r ≡ mostInput ⌝ }
 {
-    [0; 8200]
+    [0u16; MOST_INPUT]
+}
+
+// Room for a list of words.
+pub fn words_room() -> [u16; MOST_WORDS]
+    ensures { λ r. ⌜ length r ≡ mostWords ⌝ }
+{
+    [0u16; MOST_WORDS]
 }
 
 // Room for the list of bytes.
-pub fn small_room() -> [u8; 2100]
-    ensures { λ r. ⌜ 2100 ≡ length r ⌝ }
+pub fn bytes_room() -> [u8; MOST_BYTES]
+    ensures { λ r. ⌜ length r ≡ mostBytes ⌝ }
 {
-    [0; 2100]
+    [0u8; MOST_BYTES]
 }
 
-fn byte(bytes: &[u8], i: usize) -> u16
-    ensures { λ r. ⌜ r < 256 ⌝ }
+// Word `i` of the input, zero after its end.
+pub fn word(words: &[u16], i: usize) -> u16
+    ensures { λ r. ⌜ r ≡ getD (now (words .entry)) i 0 ⌝ }
 {
-    if i < bytes.len() { bytes[i] as u16 } else { 0 }
-}
-
-// Word `i` of the input, zero behind its end.
-pub fn word(bytes: &[u8], i: usize) -> u16
-    requires { ⌜ i < 1000000 ⌝ }
-{
-    byte(bytes, 2 * i) + 256 * byte(bytes, 2 * i + 1)
+    if i < words.len() { words[i] } else { 0 }
 }
 
 // Word `i` of the input, or `most` if it is greater.
-fn word_to(bytes: &[u8], i: usize, most: usize) -> usize
-    requires { ⌜ (i < 1000000) × (most < 10000) ⌝ }
-    ensures { λ r. ⌜ r ≤ most ⌝ }
+fn word_to(words: &[u16], i: usize, most: usize) -> usize
+    ensures { λ r. ⌜ r ≡ min (getD (now (words .entry)) i 0) most ⌝ }
 {
-    let w = word(bytes, i) as usize;
+    let w = word(words, i) as usize;
     if w < most { w } else { most }
 }
 
-// The length of list `k` in the case at word `at`.
-pub fn list_length(bytes: &[u8], at: usize, k: usize) -> usize
-    requires { ⌜ (at < 100000) × (k < 4) ⌝ }
-    ensures { λ r. ⌜ r ≤ 8200 ⌝ }
+// The length of list `k`, a list of words, in the case at word `at`.
+pub fn list_length(words: &[u16], at: usize, k: usize) -> usize
+    requires { ⌜ (at ≤ mostInput) × (k < 3) ⌝ }
+    ensures { λ r. ⌜ r ≡ listLength (now (words .entry)) at k ⌝ }
 {
-    word_to(bytes, at + 3 + 2 * k, 8200)
+    word_to(words, at + 3 + 2 * k, MOST_WORDS)
 }
 
 // The length of the list of bytes in the case at word `at`.
-pub fn small_length(bytes: &[u8], at: usize) -> usize
-    requires { ⌜ at < 100000 ⌝ }
-    ensures { λ r. ⌜ r ≤ 2100 ⌝ }
+pub fn bytes_length(words: &[u16], at: usize) -> usize
+    requires { ⌜ at ≤ mostInput ⌝ }
+    ensures { λ r. ⌜ r ≡ bytesLength (now (words .entry)) at ⌝ }
 {
-    word_to(bytes, at + 9, 2100)
+    word_to(words, at + 9, MOST_BYTES)
 }
 
 // How many values of list `k` the case at word `at` stores.
-fn stored(bytes: &[u8], at: usize, k: usize) -> usize
-    requires { ⌜ (at < 100000) × (k < 4) ⌝ }
-    ensures { λ r. ⌜ r ≤ 8200 ⌝ }
+fn stored(words: &[u16], at: usize, k: usize) -> usize
+    requires { ⌜ (at ≤ mostInput) × (k < 4) ⌝ }
+    ensures { λ r. ⌜ r ≡ storedCount (now (words .entry)) at k ⌝ }
 {
-    word_to(bytes, at + 4 + 2 * k, 8200)
+    word_to(words, at + 4 + 2 * k, MOST_WORDS)
 }
 
-// The word at which the stored values of list `k + 1` begin, given that of list `k`.
-fn behind(bytes: &[u8], at: usize, k: usize, from: usize) -> usize
-    requires { ⌜ (at < 100000) × (k < 4) × (from < 200000) ⌝ }
-    ensures { λ r. ⌜ (from ≤ r) × (r ≤ from + 8200) ⌝ }
+// The word at which the stored values of list `k` of the case at word `at` begin.
+fn start(words: &[u16], at: usize, k: usize) -> usize
+    requires { ⌜ (at ≤ mostInput) × (k ≤ 4) ⌝ }
+    ensures { λ r. ⌜ r ≡ valuesAt (now (words .entry)) at k ⌝ }
 {
-    from + stored(bytes, at, k)
+    let mut from = at + HEADER;
+    let mut i: usize = 0;
+    while i < k {
+        from += stored(words, at, i);
+        i += 1;
+    }
+    from
 }
 
-// The word behind the case at word `at`.
-pub fn end(bytes: &[u8], at: usize) -> usize
-    requires { ⌜ at < 100000 ⌝ }
-    ensures { λ r. ⌜ at < r ⌝ }
+// The word after the case at word `at`.
+pub fn end(words: &[u16], at: usize) -> usize
+    requires { ⌜ at ≤ mostInput ⌝ }
+    ensures { λ r. ⌜ r ≡ caseEnd (now (words .entry)) at ⌝ }
 {
-    let list = behind(bytes, at, 0, at + HEADER);
-    let other = behind(bytes, at, 1, list);
-    let small = behind(bytes, at, 2, other);
-    behind(bytes, at, 3, small)
+    start(words, at, 4)
 }
 
 // Value `i` of a list whose first `count` values are stored from word `from` on.
-fn value(bytes: &[u8], from: usize, count: usize, i: usize) -> u16
-    requires { ⌜ (from < 500000) × (i < 10000) ⌝ }
+fn value(words: &[u16], from: usize, count: usize, i: usize) -> u16
+    requires { ⌜ from + count ≤ lastEnd ⌝ }
+    ensures { λ r. ⌜ r ≡ valueAt (now (words .entry)) from count i ⌝ }
 {
-    if i < count { word(bytes, from + i) } else { 7 }
+    if i < count { word(words, from + i) } else { 7 }
 }
 
-fn load_words(bytes: &[u8], from: usize, count: usize, target: &mut [u16])
-    requires { ⌜ (from < 500000) × (length (now target) ≤ 8200) ⌝ }
+fn load_words(words: &[u16], from: usize, count: usize, target: &mut [u16])
+    requires { ⌜ from + count ≤ lastEnd ⌝ }
+    ensures { λ r. ⌜ now (target .exit) ≡ wordsFrom (now (words .entry)) from count (length (now (target .entry))) ⌝ }
 {
     let mut i: usize = 0;
     while i < target.len() {
-        target[i] = value(bytes, from, count, i);
+        target[i] = value(words, from, count, i);
         i += 1;
     }
 }
 
-fn load_bytes(bytes: &[u8], from: usize, count: usize, target: &mut [u8])
-    requires { ⌜ (from < 500000) × (length (now target) ≤ 8200) ⌝ }
+fn load_bytes(words: &[u16], from: usize, count: usize, target: &mut [u8])
+    requires { ⌜ from + count ≤ lastEnd ⌝ }
+    ensures { λ r. ⌜ now (target .exit) ≡ bytesFrom (now (words .entry)) from count (length (now (target .entry))) ⌝ }
 {
     let mut i: usize = 0;
     while i < target.len() {
-        target[i] = (value(bytes, from, count, i) % 256) as u8;
+        target[i] = (value(words, from, count, i) % 256) as u8;
         i += 1;
     }
+}
+
+// Loads list `k`, a list of words, of the case at word `at`.
+fn load_list(words: &[u16], at: usize, k: usize, target: &mut [u16])
+    requires { ⌜ (at ≤ mostInput) × (k < 3) ⌝ }
+    ensures { λ r. ⌜ now (target .exit) ≡ listOf (now (words .entry)) at k (length (now (target .entry))) ⌝ }
+{
+    load_words(words, start(words, at, k), stored(words, at, k), target);
+}
+
+// Loads the list of bytes of the case at word `at`.
+fn load_small(words: &[u16], at: usize, target: &mut [u8])
+    requires { ⌜ at ≤ mostInput ⌝ }
+    ensures { λ r. ⌜ now (target .exit) ≡ bytesOf (now (words .entry)) at (length (now (target .entry))) ⌝ }
+{
+    load_bytes(words, start(words, at, 3), stored(words, at, 3), target);
 }
 
 // Loads the lists of the case at word `at`.
 pub fn load(
-    bytes: &[u8],
+    words: &[u16],
     at: usize,
     image: &mut [u16],
     list: &mut [u16],
     other: &mut [u16],
     small: &mut [u8],
 )
-    requires { ⌜ (at < 100000) × (length (now image) ≤ 8200) × (length (now list) ≤ 8200) × (length (now other) ≤ 8200) × (length (now small) ≤ 2100) ⌝ }
+    requires { ⌜ at ≤ mostInput ⌝ }
+    ensures { λ r. ⌜ Loaded (now (words .entry)) at (length (now (image .entry))) (length (now (list .entry))) (length (now (other .entry))) (length (now (small .entry))) (now (image .exit)) (now (list .exit)) (now (other .exit)) (now (small .exit)) ⌝ }
 {
-    let image_at = at + HEADER;
-    let list_at = behind(bytes, at, 0, image_at);
-    let other_at = behind(bytes, at, 1, list_at);
-    let small_at = behind(bytes, at, 2, other_at);
-    load_words(bytes, image_at, stored(bytes, at, 0), image);
-    load_words(bytes, list_at, stored(bytes, at, 1), list);
-    load_words(bytes, other_at, stored(bytes, at, 2), other);
-    load_bytes(bytes, small_at, stored(bytes, at, 3), small);
+    load_list(words, at, 0, image);
+    load_list(words, at, 1, list);
+    load_list(words, at, 2, other);
+    load_small(words, at, small);
 }

@@ -2,8 +2,8 @@ use Prim.Native.Nat.{_≤_, _-_}
 use native.Mathlib.Omega.{arith}
 use lib.ListN.{length}
 use borrow.Author.Needs.{needs}
-use Rattle.cases.proofs.output.words.Statement.{statement}
-use Rattle.cases.proofs.output.words.Tie as tie
+use Rattle.cases.proofs.write_words.Statement.{statement}
+use Rattle.cases.proofs.write_words.Tie as tie
 
 abbrev Inv-loop : tie.InvT-loop
 Inv-loop list i₀ i = i ≤ length list
@@ -41,8 +41,8 @@ loop-again c = search needs
 returns : tie.Need-returns Inv-loop μ-loop
 returns c = search needs
 
-pub words-spec : {M : Type 1} → statement M
-words-spec =
+pub write-words-spec : {M : Type 1} → statement M
+write-words-spec =
     tie.close
     (tie.spec
     Inv-loop
