@@ -20,8 +20,8 @@ room c =
     let e = ap length (operator-words _ _ _ _ (c .head .ensures) (s .args .places .now)) in
     omega (arith, simp length-append at e)
 
-behind : (c : tie.After-counted) → c .counted .result ≡ c .before .before .before .before .before .before .before .args .at + length (countedBy (c .before .before .before .before .before .before .before .args .places .now) (take (c .before .before .before .head .result .end - 1) (drop 1 (c .before .before .before .before .before .before .before .args .block .now))))
-behind c = c .counted .ensures .next
+after : (c : tie.After-counted) → c .counted .result ≡ c .before .before .before .before .before .before .before .args .at + length (countedBy (c .before .before .before .before .before .before .before .args .places .now) (take (c .before .before .before .head .result .end - 1) (drop 1 (c .before .before .before .before .before .before .before .args .block .now))))
+after c = c .counted .ensures .next
 
 head-requires : tie.Need-head-requires
 head-requires c κs = search needs
@@ -40,29 +40,29 @@ counted-requires c κs =
     let s = c .before .before .before .before .before .before in
     let h = c .before .before .head .ensures in
     let short = precondition-few _ _ _ _ h in
-    let few = s .pre .3 in
-    (record { low = s .pre .0 .low; room = omega (arith, room (c .before .before)) }, operator-pre _ _ _ _ h _ (s .pre .2), omega arith)
+    let few = s .pre .1 .short in
+    (record { low = s .pre .0 .low; room = omega (arith, room (c .before .before)) }, operator-pre _ _ _ _ h _ (s .pre .1 .right), omega arith)
 
 cast-target : tie.Need-cast-target
-cast-target c = omega (arith, block-few _ _ _ _ (c .before .before .before .before .before .head .ensures), c .before .before .before .before .before .before .before .before .before .pre .3)
+cast-target c = omega (arith, block-few _ _ _ _ (c .before .before .before .before .before .head .ensures), c .before .before .before .before .before .before .before .before .before .pre .1 .short)
 
 mul-target : tie.Need-mul-target
-mul-target c = omega (arith, room (c .before .before .before .before .before), behind (c .before .before))
+mul-target c = omega (arith, room (c .before .before .before .before .before), after (c .before .before))
 
 slice-write-target : tie.Need-slice-write-target
-slice-write-target c = omega (arith, room (c .before .before .before .before .before), behind (c .before .before), c .before .before .counted .kept .1 .1 .0)
+slice-write-target c = omega (arith, room (c .before .before .before .before .before), after (c .before .before), c .before .before .counted .kept .1 .1 .0)
 
 add-rows : tie.Need-add-rows
 add-rows c = search needs
 
 add-rows-2 : tie.Need-add-rows-2
-add-rows-2 c = omega (arith, room (c .before .before .before .before .before .before), behind (c .before .before .before))
+add-rows-2 c = omega (arith, room (c .before .before .before .before .before .before), after (c .before .before .before))
 
 rows-requires : tie.Need-rows-requires
 rows-requires c κs =
     let s = c .before .before .before .before .before .before .before .before .before .before in
     let h = c .before .before .before .before .before .before .head .ensures in
-    (record { low = s .pre .0 .low; room = simp length-set (omega (arith, room (c .before .before .before .before .before .before), behind (c .before .before .before), c .before .before .before .counted .kept .1 .1 .0)) }, h .parses, operator-rows _ _ _ _ h _ (s .pre .2), s .pre .3)
+    (record { low = s .pre .0 .low; room = simp length-set (omega (arith, room (c .before .before .before .before .before .before), after (c .before .before .before), c .before .before .before .counted .kept .1 .1 .0)) }, record { parses = h .parses; right = operator-rows _ _ _ _ h _ (s .pre .1 .right); short = s .pre .1 .short })
 
 same-length : tie.Need-same-length
 same-length c = c .before .before .rows .kept .1 .1 .1 .1 .0 ∙ simp length-set (c .before .before .before .before .before .before .counted .kept .1 .1 .0)

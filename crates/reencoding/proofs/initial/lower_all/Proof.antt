@@ -16,7 +16,7 @@ abbrev μ-loop : tie.MeasureT-loop
 μ-loop trues places values₀ i₀ values i = length trues - i
 
 low : (c : tie.After-wide Inv-loop μ-loop) → c .wide .result < atomsOf (c .before .before .before .before .before .before .before .args .places .now)
-low c = true-inside _ _ (c .before .before .before .loop .i) (c .wide .result) (c .before .before .before .before .before .before .before .pre .0) (c .before .before .loop-test .taken) (c .wide .ensures .0)
+low c = true-inside _ _ (c .before .before .before .loop .i) (c .wide .result) (c .before .before .before .before .before .before .before .pre .below) (c .before .before .loop-test .taken) (c .wide .ensures .0)
 
 inside : (c : tie.After-wide Inv-loop μ-loop) → 2 * c .wide .result + 1 < length (c .before .before .before .before .before .before .before .args .places .now)
 inside c = place-inside _ _ (low c)
@@ -58,7 +58,7 @@ shared-slice-read-lower : tie.Need-shared-slice-read-lower Inv-loop μ-loop
 shared-slice-read-lower c = omega (arith, inside (c .before .before .before .before))
 
 lower-requires : tie.Need-lower-requires Inv-loop μ-loop
-lower-requires c κs = omega (arith, c .before .before .before .before .before .before .before .before .before .before .before .pre .1 (c .before .before .before .before .wide .result) (low (c .before .before .before .before)), c .before .wide2 .ensures .0, c .before .before .before .before .before .before .before .loop .inv .0)
+lower-requires c κs = omega (arith, c .before .before .before .before .before .before .before .before .before .before .before .pre .variable (c .before .before .before .before .wide .result) (low (c .before .before .before .before)), c .before .wide2 .ensures .0, c .before .before .before .before .before .before .before .loop .inv .0)
 
 add-i : tie.Need-add-i Inv-loop μ-loop
 add-i c = search needs

@@ -9,16 +9,16 @@ use Rattle.reencoding.proofs.initial.values.Statement.{statement}
 use Rattle.reencoding.proofs.initial.values.Tie as tie
 
 taken : (c : tie.Start) → length (take (c .args .count) (c .args .sizes .now)) ≡ c .args .count
-taken c = length-take-le (c .args .count) (c .args .sizes .now) (c .pre .2)
+taken c = length-take-le (c .args .count) (c .args .sizes .now) (c .pre .1)
 
 room : (c : tie.Start) → c .args .at + length (take (c .args .count) (c .args .sizes .now)) ≤ length (c .args .target .now)
-room c = omega (arith, taken c, c .pre .3)
+room c = omega (arith, taken c, c .pre .2)
 
 slice-aggregate-words : tie.Need-slice-aggregate-words
-slice-aggregate-words c = sym (length-take-le (c .before .before .before .before .before .args .count) (c .before .before .before .before .before .args .sizes .now) (c .before .before .before .before .before .pre .2))
+slice-aggregate-words c = sym (length-take-le (c .before .before .before .before .before .args .count) (c .before .before .before .before .before .args .sizes .now) (c .before .before .before .before .before .pre .1))
 
 words-requires : tie.Need-words-requires
-words-requires c κs = omega (arith, c .before .before .before .before .before .before .pre .3, length-take-le (c .before .before .before .before .before .before .args .count) (c .before .before .before .before .before .before .args .sizes .now) (c .before .before .before .before .before .before .pre .2))
+words-requires c κs = omega (arith, c .before .before .before .before .before .before .pre .2, length-take-le (c .before .before .before .before .before .before .args .count) (c .before .before .before .before .before .before .args .sizes .now) (c .before .before .before .before .before .before .pre .1))
 
 mul-lower-all : tie.Need-mul-lower-all
 mul-lower-all c = search needs
@@ -35,7 +35,7 @@ part-lower-all-end c = words-end _ _ _ _ _ (c .before .before .words .ensures) (
 lower-all-requires : tie.Need-lower-all-requires
 lower-all-requires c κs =
     let s = c .before .before .before .before .before .before .before .before .before .before in
-    (s .pre .0, λ a h. (let e = ap length (part-is _ _ _ _ _ (c .before .before .before .words .ensures) (room s)) in let k = s .pre .1 a h in let t = taken s in omega arith))
+    record { below = s .pre .0 .below; variable = λ a h. (let e = ap length (part-is _ _ _ _ _ (c .before .before .before .words .ensures) (room s)) in let k = s .pre .0 .variable a h in let t = taken s in omega arith) }
 
 same-length : tie.Need-same-length
 same-length c = search needs

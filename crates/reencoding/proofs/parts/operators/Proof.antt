@@ -39,7 +39,7 @@ operator-requires c κs =
     let r = s .pre .2 .room in
     let w = write-room (l .inv) r in
     let e = words-room (s .args .image .now) (l .i) (s .args .places .now) h in
-    (record { low = s .pre .2 .low; room = rw (g .operator) (omega arith) }, g .parses, block-right _ (s .pre .0) (l .i) h _ g _ (s .pre .1), block-most _ (s .pre .0) (l .i) h _ g)
+    (record { low = s .pre .2 .low; room = rw (g .operator) (omega arith) }, record { parses = g .parses; right = block-right _ (s .pre .0) (l .i) h _ g _ (s .pre .1); short = block-most _ (s .pre .0) (l .i) h _ g })
 
 add-i : tie.Need-add-i Inv-loop μ-loop
 add-i c = search needs
