@@ -77,7 +77,10 @@ module _ (w : List ℕ) (i : ℕ) where
   unfolding sum
   sizes-end h = rw (operators-done h)
 
-  pub pairs-next : (at : ℕ) → i < length (taskOf w .operators) → pairsOf at (map wordsOf (drop i (taskOf w .operators))) ≡ (at ∷ wordsOf (operatorAt (taskOf w) i) ∷ []) ++ pairsOf (at + wordsOf (operatorAt (taskOf w) i)) (map wordsOf (drop (i + 1) (taskOf w .operators)))
+  pub pairs-next :
+      (at : ℕ) → i < length (taskOf w .operators) → pairsOf at (map wordsOf (drop i (taskOf w .operators))) ≡
+      (at ∷ wordsOf (operatorAt (taskOf w) i) ∷ []) ++ pairsOf (at + wordsOf (operatorAt (taskOf w) i))
+      (map wordsOf (drop (i + 1) (taskOf w .operators)))
   unfolding pairsOf
   pairs-next at h = rw (operators-left h)
 
@@ -85,12 +88,18 @@ module _ (w : List ℕ) (i : ℕ) where
   unfolding pairsOf
   pairs-end at h = rw (operators-done h)
 
-  pub words-next : (places : List ℕ) → i < length (taskOf w .operators) → operatorsBy places (drop i (taskOf w .operators)) ≡ operatorBy places (operatorAt (taskOf w) i) ++ operatorsBy places (drop (i + 1) (taskOf w .operators))
+  pub words-next :
+      (places : List ℕ) → i < length (taskOf w .operators) → operatorsBy places (drop i (taskOf w .operators)) ≡ operatorBy places
+      (operatorAt (taskOf w) i) ++ operatorsBy places (drop (i + 1) (taskOf w .operators))
   unfolding operatorsBy each
   words-next places h = rw (operators-left h)
 
-  pub words-room : (places : List ℕ) → i < length (taskOf w .operators) → length (operatorsBy places (drop i (taskOf w .operators))) ≡ length (operatorBy places (operatorAt (taskOf w) i)) + length (operatorsBy places (drop (i + 1) (taskOf w .operators)))
-  words-room places h = ap length (words-next places h) ∙ length-append (operatorBy places (operatorAt (taskOf w) i)) (operatorsBy places (drop (i + 1) (taskOf w .operators)))
+  pub words-room :
+      (places : List ℕ) → i < length (taskOf w .operators) → length (operatorsBy places (drop i (taskOf w .operators))) ≡ length
+      (operatorBy places (operatorAt (taskOf w) i)) + length (operatorsBy places (drop (i + 1) (taskOf w .operators)))
+  words-room places h =
+      ap length (words-next places h)
+      ∙ length-append (operatorBy places (operatorAt (taskOf w) i)) (operatorsBy places (drop (i + 1) (taskOf w .operators)))
 
   pub words-end : (places : List ℕ) → length (taskOf w .operators) ≤ i → operatorsBy places (drop i (taskOf w .operators)) ≡ []
   unfolding operatorsBy each

@@ -81,7 +81,9 @@ module _ (places : List ℕ) (e : ℕ) (cs : List ℕ) (right : rowRight (atomsO
   unfolding rowRight
   row-conditions = list-below (atomsOf places) cs (and-right (ltb e (2 * atomsOf places)) (literalList (atomsOf places) cs) right)
 
-pub row-words : (places : List ℕ) (e : ℕ) (cs : List ℕ) → rowBy places (row e cs) ≡ e % 2 ∷ getD places (2 * (e / 2)) 0 ∷ getD places (2 * (e / 2) + 1) 0 ∷ countedBy places cs
+pub row-words :
+    (places : List ℕ) (e : ℕ) (cs : List ℕ)
+    → rowBy places (row e cs) ≡ e % 2 ∷ getD places (2 * (e / 2)) 0 ∷ getD places (2 * (e / 2) + 1) 0 ∷ countedBy places cs
 unfolding rowBy atom
 row-words places e cs = refl
 
