@@ -26,10 +26,10 @@ use Rattle.clause.proofs.ClauseLaws.{right-some, right-list, list-below, clause
 use Rattle.cover.specs.Join.{Placed, Grouped}
 use Rattle.cover.specs.None.{inGroup, liesIn, Within}
 use Rattle.cover.specs.Cover.{Room, Covered}
-use Rattle.cover.specs.Domains.{domainBy, Domained}
+use Rattle.cover.specs.Domains.{domainBy, coverWords, Domained}
 use Rattle.cover.proofs.Lookups.{rows-wider}
 use Rattle.cover.proofs.Joining.{at-variable, variable-at, variable-low}
-use Rattle.cover.proofs.DomainLaws.{domains-size}
+use Rattle.cover.proofs.DomainLaws.{cover-length}
 
 -- ---- the rows
 module _ (N : ℕ) (w : List ℕ) (read : ClausesRead N w) where
@@ -209,15 +209,13 @@ module _ (N : ℕ) (C : List (List ℕ)) (ps ss ns : List ℕ) (n : ℕ) (cov : 
         flags = cov .flags;
       }
 
-  pub words-are : groupWords N C ≡ each (domainBy ss ns) (below n) ++ ps
-  unfolding groupWords
+  pub words-are : groupWords N C ≡ coverWords ps ss ns n
+  unfolding groupWords coverWords
   words-are = ap₂ _++_ domains-are places-are
 
   pub words-length : length (groupWords N C) ≡ 2 * n + 2 * N
-  unfolding below
   words-length =
-      let a = length-append (each (domainBy ss ns) (below n)) ps in
-      let b = domains-size ss ns 0 n in
+      let b = cover-length ps ss ns n in
       let c = cov .places in
       ap length words-are ∙ omega arith
 

@@ -6,7 +6,7 @@ ghost use Rattle.definitions.specs.Lists.{each, below};
 ghost use Rattle.clause.specs.Rows.{clausesOf, ClausesRead};
 ghost use Rattle.writing.specs.Writing.{Wrote};
 ghost use Rattle.cover.specs.Cover.{Room, Covered};
-ghost use Rattle.cover.specs.Domains.{domainBy, Domained};
+ghost use Rattle.cover.specs.Domains.{domainBy, coverWords, Domained};
 
 pub mod join; // join.rt: the groups
 pub mod mutex; // mutex.rt: atoms that are mutex
@@ -46,7 +46,7 @@ pub fn cover(
 }
 
 // Writes the domains part: of each variable the number of its values, with none if that is one, and 1 if it is.
-pub fn domains(sizes: &[u16], none: &[u16], count: usize, target: &mut [u16], at: usize) -> usize
+fn domains(sizes: &[u16], none: &[u16], count: usize, target: &mut [u16], at: usize) -> usize
     requires { ⌜ (Domained (now sizes) (now none) count) × (at + 2 * count ≤ length (now target)) ⌝ }
     ensures { λ r. ⌜ Wrote (now (target .entry)) at (each (domainBy (now (sizes .entry)) (now (none .entry))) (below count)) (now (target .exit)) r ⌝ }
 {
@@ -60,4 +60,20 @@ pub fn domains(sizes: &[u16], none: &[u16], count: usize, target: &mut [u16], at
         v += 1;
     }
     to
+}
+
+// Writes the domains part, then the atoms part.
+pub fn write(
+    places: &[u16],
+    sizes: &[u16],
+    none: &[u16],
+    count: usize,
+    target: &mut [u16],
+    at: usize,
+) -> usize
+    requires { ⌜ (Domained (now sizes) (now none) count) × (at + length (coverWords (now places) (now sizes) (now none) count) ≤ length (now target)) ⌝ }
+    ensures { λ r. ⌜ Wrote (now (target .entry)) at (coverWords (now (places .entry)) (now (sizes .entry)) (now (none .entry)) count) (now (target .exit)) r ⌝ }
+{
+    let to = domains(sizes, none, count, target, at);
+    writing::words(places, target, to)
 }

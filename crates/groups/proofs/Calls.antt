@@ -1,10 +1,9 @@
 -- The answers of the call: a refusal of the checker, question 16, the groups. Assumes nothing.
 use mathlib.Core.Path.{_≡_, _∙_, ap}
-use mathlib.Core.List.{List, _++_}
+use mathlib.Core.List.{List}
 use Prim.Native.Nat.{ℕ, _+_, _*_, _≤_, _<_}
 use native.Mathlib.Omega.{arith}
 use lib.ListN.{length}
-use Rattle.definitions.specs.Lists.{each, below}
 use Rattle.definitions.specs.Answer.{Refusal, finding, refused, outcome, verdict}
 use Rattle.definitions.specs.Checker.{check}
 use Rattle.definitions.specs.Groups.{groups, groupWords, written, groupsCall}
@@ -17,7 +16,7 @@ use Rattle.writing.specs.Writing.{Wrote}
 use Rattle.writing.proofs.Writes.{wrote-same}
 use Rattle.writing.proofs.Target.{fits-not, fits-done}
 use Rattle.cover.specs.Cover.{Covered}
-use Rattle.cover.specs.Domains.{domainBy}
+use Rattle.cover.specs.Domains.{coverWords}
 use Rattle.cover.proofs.Covering.{words-are, words-length}
 use Rattle.groups.specs.Groups.{groupsAnswer}
 
@@ -38,7 +37,7 @@ module _ (N : ℕ) (C : List (List ℕ)) (ps ss ns : List ℕ) (n : ℕ) (cov : 
   groups-not h = fits-not (length (groups N C)) (groupWords N C) old (let e = words-length N C ps ss ns n cov in omega arith)
 
   pub groups-done :
-      2 * n + 2 * N ≤ length old → {new : List ℕ} {end : ℕ} → Wrote old 0 (each (domainBy ss ns) (below n) ++ ps) new end
+      2 * n + 2 * N ≤ length old → {new : List ℕ} {end : ℕ} → Wrote old 0 (coverWords ps ss ns n) new end
       → outcome (finding n) new ≡ written old (groupsAnswer N C (length old))
   unfolding groupsAnswer groups
   groups-done h {new = new} w =

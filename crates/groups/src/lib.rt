@@ -1,36 +1,16 @@
 // The groups of a task by an accepted clause set: its variables, their values and domains.
 ghost use mathlib.Core.Path.{_≡_};
-ghost use mathlib.Core.List.{_++_};
-ghost use Prim.Native.Nat.{_+_, _*_, _≤_};
 ghost use lib.ListN.{length};
-ghost use Rattle.definitions.specs.Lists.{each, below};
 ghost use Rattle.definitions.specs.Answer.{outcome};
 ghost use Rattle.definitions.specs.Groups.{written, groupsCall};
 ghost use Rattle.answer.specs.Answer.{countAnswer};
 ghost use Rattle.task.specs.Reads.{taskOf, Reads};
 ghost use Rattle.clause.specs.Rows.{clausesOf, ClausesRead};
-ghost use Rattle.writing.specs.Writing.{Wrote};
 ghost use Rattle.cover.specs.Cover.{Room};
-ghost use Rattle.cover.specs.Domains.{domainBy, Domained};
 ghost use Rattle.groups.specs.Groups.{groupsAnswer};
 use answer::Counted;
 use answer::Refusal;
 use answer::Verdict;
-
-// Writes the domains part, then the atoms part.
-fn write_parts(
-    places: &[u16],
-    sizes: &[u16],
-    none: &[u16],
-    count: usize,
-    target: &mut [u16],
-) -> usize
-    requires { ⌜ (Domained (now sizes) (now none) count) × (2 * count + length (now places) ≤ length (now target)) ⌝ }
-    ensures { λ r. ⌜ Wrote (now (target .entry)) 0 (each (domainBy (now (sizes .entry)) (now (none .entry))) (below count) ++ now (places .entry)) (now (target .exit)) r ⌝ }
-{
-    let at = cover::domains(sizes, none, count, target, 0);
-    writing::words(places, target, at)
-}
 
 // Question 16, and the groups written, with room for the places of the atoms and for the groups.
 fn write_groups(
@@ -48,7 +28,7 @@ fn write_groups(
     if target.len() < 2 * count + 2 * atoms {
         return answer::refuse_count(Refusal::TARGET);
     }
-    write_parts(places, sizes, none, count, target);
+    cover::write(places, sizes, none, count, target, 0);
     Counted::Count(count)
 }
 

@@ -29,17 +29,17 @@ use Rattle.clause.proofs.ClauseLaws.{list-below}
 use Rattle.cover.specs.Join.{Placed}
 use Rattle.cover.specs.Cover.{Covered}
 use Rattle.writing.specs.Writing.{Wrote}
-use Rattle.cover.specs.Domains.{domainBy}
-use Rattle.writing.proofs.Writes.{wrote-same, wrote-both}
-use Rattle.cover.proofs.DomainLaws.{domains-size}
+use Rattle.cover.specs.Domains.{domainBy, coverWords}
+use Rattle.writing.proofs.Writes.{wrote-same}
+use Rattle.cover.proofs.DomainLaws.{domains-size, cover-length}
 use Rattle.cover.proofs.Joining.{variable-low}
-use Rattle.cover.proofs.Covering.{domains-are, places-are}
+use Rattle.cover.proofs.Covering.{domains-are, places-are, domained}
 use Rattle.writing.proofs.Target.{fits-not, fits-done}
 use Rattle.checker.specs.Accepts.{Accepts}
 use Rattle.checker.proofs.Written.{call-refused, call-accepted}
 use Rattle.reencoding.specs.Words.{atomsOf, literalBy, literalsBy, countedBy, rowBy, rowsBy, operatorBy}
-use Rattle.reencoding.specs.Parts.{sum, wordsOf, lengthsOf, partsStart, imageSize, pairsOf, headerBy, lowered, operatorsBy, imageBy}
-use Rattle.reencoding.specs.Image.{Laid, encodeAnswer}
+use Rattle.reencoding.specs.Parts.{sum, wordsOf, lengthsOf, partsStart, imageSize, pairsOf, headerBy, lowered, operatorsBy, taskWords, imageBy}
+use Rattle.reencoding.specs.Image.{Valued, Laid, encodeAnswer}
 use Rattle.reencoding.proofs.WordLaws.{literals-length}
 use Rattle.reencoding.proofs.SizeLaws.{operator-length}
 use Rattle.reencoding.proofs.PartLaws.{header-length}
@@ -212,23 +212,21 @@ module _ (w : List ℕ) (rd : Reads w) (C : List (List ℕ)) (ps ss ns : List �
       cc
 
   pub image-is : encodedImage t C ≡ imageBy t ps ss ns n
-  unfolding encodedImage fdrWords imageBy
-  image-is = ap₂ _++_ header-is parts-words
+  unfolding encodedImage fdrWords imageBy coverWords taskWords
+  image-is = ap₂ _++_ header-is (parts-words ∙ sym (append-assoc (each (domainBy ss ns) (below n)) ps _))
 
   pub image-length : length (imageBy t ps ss ns n) ≡ imageSize n t
-  unfolding imageBy imageSize lengthsOf sum below
+  unfolding imageBy taskWords imageSize lengthsOf sum
   image-length =
-      let d = each (domainBy ss ns) (below n) in
       let l = lowered ps (taskOf w .initial) (take n ss) in
       let g = literalsBy ps (taskOf w .goal) in
       let o = operatorsBy ps (taskOf w .operators) in
-      let e1 = length-append (headerBy n t) (d ++ (ps ++ (l ++ (g ++ o)))) in
-      let e2 = length-append d (ps ++ (l ++ (g ++ o))) in
-      let e3 = length-append ps (l ++ (g ++ o)) in
-      let e4 = length-append l (g ++ o) in
-      let e5 = length-append g o in
+      let e1 = length-append (headerBy n t) (coverWords ps ss ns n ++ (l ++ (g ++ o))) in
+      let e2 = length-append (coverWords ps ss ns n) (l ++ (g ++ o)) in
+      let e3 = length-append l (g ++ o) in
+      let e4 = length-append g o in
       let s1 = header-length n t in
-      let s2 = domains-size ss ns 0 n in
+      let s2 = cover-length ps ss ns n in
       let s3 = cov .places in
       let s4 = lowered-length ps (taskOf w .initial) (take n ss) in
       let s5 = length-take-le n ss (let a = cov .sizes in let b = cov .grouped .few in let c = cov .few in omega arith) in
@@ -238,15 +236,18 @@ module _ (w : List ℕ) (rd : Reads w) (C : List (List ℕ)) (ps ss ns : List �
 
   pub laid : Laid t ps ss ns n
   laid =
+      let few = cov .few in
+      let count = cov .grouped .few in
+      let sizes = cov .sizes in
       record {
-        few = (let a = cov .grouped .few in let b = cov .few in omega arith);
-        places = cov .places;
-        low = cov .low;
-        variable = λ a h. (let v = variable-low C (taskOf w .atoms) ps (cov .grouped .placed) a h in let c = cov .grouped .count in omega arith);
-        sizes = cov .sizes;
-        small = λ v. (let a = cov .grouped .small v in let b = cov .few in omega arith);
-        nones = cov .nones;
-        flags = cov .flags;
+        valued = record {
+          few = omega arith;
+          places = cov .places;
+          low = cov .low;
+          variable = λ a h. (let v = variable-low C (taskOf w .atoms) ps (cov .grouped .placed) a h in let c = cov .grouped .count in omega arith);
+          sizes = omega arith;
+        };
+        domained = domained (taskOf w .atoms) C ps ss ns n cov;
       }
 
   -- question 16, and the image written
@@ -276,49 +277,10 @@ module _ (w c : List ℕ) (marks : ℕ) (old : List ℕ) where
   unfolding encodeCall encodeAnswer
   encode-accepted a = call-accepted w c marks (λ (x : Accepted). encodeAnswer (x .task) (x .clauses) (length old)) old a
 
--- ---- the image written part after part
-module _ (w : List ℕ) (rd : Reads w) (ps ss ns : List ℕ) (n : ℕ) (lay : Laid (taskOf w) ps ss ns n) where
-  pub atoms-of : taskOf w .atoms ≡ atomsOf ps
-  unfolding atomsOf
-  atoms-of = let e = lay .places in omega arith
+-- ---- the places are those of the task's atoms
+pub atoms-of : (w ps ss : List ℕ) (n : ℕ) → Valued (taskOf w) ps ss n → taskOf w .atoms ≡ atomsOf ps
+unfolding atomsOf
+atoms-of w ps ss n v = let e = v .places in omega arith
 
-  -- the place where each part ends, by the lengths of the parts
-  pub record Ends (total : ℕ) : Type 0 where
-    pub header : length (headerBy n (taskOf w)) ≡ 10 + 2 * length (taskOf w .operators)
-    pub domains : length (each (domainBy ss ns) (below n)) ≡ 2 * n
-    pub values : length (lowered ps (taskOf w .initial) (take n ss)) ≡ n
-    pub all :
-        total
-        ≡ length (headerBy n (taskOf w)) + length (each (domainBy ss ns) (below n)) + length ps
-        + length (lowered ps (taskOf w .initial) (take n ss)) + length (literalsBy ps (taskOf w .goal)) + length (operatorsBy ps (taskOf w .operators))
-
-  pub ends : Ends (length (imageBy (taskOf w) ps ss ns n))
-  unfolding imageBy partsStart below
-  ends =
-      let d = each (domainBy ss ns) (below n) in
-      let l = lowered ps (taskOf w .initial) (take n ss) in
-      let g = literalsBy ps (taskOf w .goal) in
-      let o = operatorsBy ps (taskOf w .operators) in
-      let e1 = length-append (headerBy n (taskOf w)) (d ++ (ps ++ (l ++ (g ++ o)))) in
-      let e2 = length-append d (ps ++ (l ++ (g ++ o))) in
-      let e3 = length-append ps (l ++ (g ++ o)) in
-      let e4 = length-append l (g ++ o) in
-      let e5 = length-append g o in
-      record {
-        header = header-length n (taskOf w);
-        domains = domains-size ss ns 0 n;
-        values = lowered-length ps (taskOf w .initial) (take n ss) ∙ length-take-le n ss (let a = lay .sizes in let b = lay .few in omega arith);
-        all = omega arith;
-      }
-
-  pub image-wrote : (t₀ t₁ t₂ t₃ t₄ t₅ t₆ : List ℕ) (e₁ e₂ e₃ e₄ e₅ e₆ : ℕ)
-      → Wrote t₀ 0 (headerBy n (taskOf w)) t₁ e₁ → Wrote t₁ e₁ (each (domainBy ss ns) (below n)) t₂ e₂ → Wrote t₂ e₂ ps t₃ e₃
-      → Wrote t₃ e₃ (lowered ps (taskOf w .initial) (take n ss)) t₄ e₄ → Wrote t₄ e₄ (literalsBy ps (taskOf w .goal)) t₅ e₅
-      → Wrote t₅ e₅ (operatorsBy ps (taskOf w .operators)) t₆ e₆ → Wrote t₀ 0 (imageBy (taskOf w) ps ss ns n) t₆ e₆
-  unfolding imageBy
-  image-wrote t₀ t₁ t₂ t₃ t₄ t₅ t₆ e₁ e₂ e₃ e₄ e₅ e₆ w₁ w₂ w₃ w₄ w₅ w₆ =
-      let d = each (domainBy ss ns) (below n) in
-      let l = lowered ps (taskOf w .initial) (take n ss) in
-      let g = literalsBy ps (taskOf w .goal) in
-      let o = operatorsBy ps (taskOf w .operators) in
-      wrote-both w₁ (wrote-both w₂ (wrote-both w₃ (wrote-both w₄ (wrote-both w₅ w₆))))
+pub values-length : (w ps ss : List ℕ) (n : ℕ) → Valued (taskOf w) ps ss n → length (lowered ps (taskOf w .initial) (take n ss)) ≡ n
+values-length w ps ss n v = lowered-length ps (taskOf w .initial) (take n ss) ∙ length-take-le n ss (v .sizes)

@@ -40,7 +40,9 @@ module _ (vs : List ℕ) (v x : ℕ) where
 
 -- ---- the walk over the true atoms
 module _ (places trues vs : List ℕ) (i : ℕ) where
-  pub lowered-next : (a v : ℕ) (vs′ : List ℕ) → i < length trues → a ≡ getD trues i 0 → v ≡ getD places (2 * a) 0 → vs′ ≡ lower vs v (getD places (2 * a + 1) 0) → lowered places (drop i trues) vs ≡ lowered places (drop (i + 1) trues) vs′
+  pub lowered-next :
+      (a v : ℕ) (vs′ : List ℕ) → i < length trues → a ≡ getD trues i 0 → v ≡ getD places (2 * a) 0 → vs′ ≡ lower vs v (getD places (2 * a + 1) 0)
+      → lowered places (drop i trues) vs ≡ lowered places (drop (i + 1) trues) vs′
   unfolding lowered
   lowered-next a v vs′ h ea ev e = rw (left-here trues i 0 a ea h, e, ev)
 
@@ -102,7 +104,9 @@ module _ (t : List ℕ) (at : ℕ) (vs t′ : List ℕ) (end : ℕ) (w : Wrote t
         next = (let n = w .next in omega arith);
       }
 
-  pub wrote-lowered : (places trues vs′ : List ℕ) → vs′ ≡ lowered places trues (take (end - at) (drop at t′)) → Wrote t at (lowered places trues vs) (take at t′ ++ (vs′ ++ drop (end - at) (drop at t′))) end
+  pub wrote-lowered :
+      (places trues vs′ : List ℕ) → vs′ ≡ lowered places trues (take (end - at) (drop at t′))
+      → Wrote t at (lowered places trues vs) (take at t′ ++ (vs′ ++ drop (end - at) (drop at t′))) end
   wrote-lowered places trues vs′ e =
       let same : vs′ ≡ lowered places trues vs = e ∙ ap (lowered places trues) part-is in
       rw (← same) (wrote-again vs′ (ap length same ∙ lowered-length places trues vs))
@@ -164,7 +168,10 @@ module _ (p : ℕ → Bool) (x : ℕ) where
   first-more i [] m = absurd (List·Memᴰ·not-nil m)
   first-more i (a ∷ g) m = go (p a) refl (ℕ-discrete x a) (List·Memᴰ·cases-cons m) (λ k. first-more (suc i) g k)
     where
-      go : (b : Bool) → p a ≡ b → Dec (x ≡ a) → (x ≡ a) ⊎ List·Memᴰ x g → (List·Memᴰ x g → firstBy more (suc i) g ≡ min (firstBy p (suc i) g) (placeIn x (suc i) g)) → firstBy more i (a ∷ g) ≡ min (firstBy p i (a ∷ g)) (placeIn x i (a ∷ g))
+      go :
+          (b : Bool) → p a ≡ b → Dec (x ≡ a) → (x ≡ a) ⊎ List·Memᴰ x g
+          → (List·Memᴰ x g → firstBy more (suc i) g ≡ min (firstBy p (suc i) g) (placeIn x (suc i) g))
+          → firstBy more i (a ∷ g) ≡ min (firstBy p i (a ∷ g)) (placeIn x i (a ∷ g))
       go true e d c rec =
           let h = place-low x i (a ∷ g) in
           first-here more i a g (or-left (eqb a x) e) ∙ rw (first-here p i a g e) (omega arith)
@@ -185,7 +192,9 @@ module _ (N : ℕ) (C : List (List ℕ)) (ps : List ℕ) (placed : Placed C N ps
   Holds : (ℕ → Bool) → List ℕ → Type 0
   Holds p vs = (v : ℕ) → v < length G → getD vs v 0 ≡ firstBy p 0 (getD G v [])
 
-  holds-lower : (p : ℕ → Bool) (vs : List ℕ) (a : ℕ) → a < N → length vs ≡ length G → Holds p vs → Holds (more p a) (lower vs (getD ps (2 * a) 0) (getD ps (2 * a + 1) 0))
+  holds-lower :
+      (p : ℕ → Bool) (vs : List ℕ) (a : ℕ) → a < N → length vs ≡ length G → Holds p vs
+      → Holds (more p a) (lower vs (getD ps (2 * a) 0) (getD ps (2 * a + 1) 0))
   unfolding Holds lower more places.var places.val groups
   holds-lower p vs a low size h v inside = go (ℕ-discrete v w)
     where
@@ -209,13 +218,19 @@ module _ (N : ℕ) (C : List (List ℕ)) (ps : List ℕ) (placed : Placed C N ps
       go (no e) =
           getD-set-other vs w v (min (getD vs w 0) x) 0 e
           ∙ h v inside
-          ∙ first-same p (more p a) 0 (getD G v []) (λ b m. sym (or-false (p b) (eqb b a) (ne-eqb b a (λ s. e (sym (sym (ap (λ (k : ℕ). getD ps (2 * k) 0) s) ∙ variable-at C N ps placed v b (mem-in G v b m) .1))))))
+          ∙ first-same p (more p a) 0 (getD G v [])
+          (λ b m.
+          sym
+          (or-false (p b) (eqb b a)
+          (ne-eqb b a (λ s. e (sym (sym (ap (λ (k : ℕ). getD ps (2 * k) 0) s) ∙ variable-at C N ps placed v b (mem-in G v b m) .1))))))
         where
           or-false : (y z : Bool) → z ≡ false → (y || z) ≡ y
           or-false true z q = refl
           or-false false z q = q
 
-  holds-lowered : (trues : List ℕ) (p : ℕ → Bool) (vs : List ℕ) → allBelow N trues ≡ true → length vs ≡ length G → Holds p vs → Holds (λ b. p b || member b trues) (lowered ps trues vs)
+  holds-lowered :
+      (trues : List ℕ) (p : ℕ → Bool) (vs : List ℕ) → allBelow N trues ≡ true → length vs ≡ length G → Holds p vs
+      → Holds (λ b. p b || member b trues) (lowered ps trues vs)
   unfolding Holds lowered lower member any allBelow all more
   holds-lowered [] p vs low size h v inside = h v inside ∙ first-same p (λ b. p b || false) 0 (getD G v []) (λ b m. sym (or-nothing (p b)))
     where
@@ -227,7 +242,8 @@ module _ (N : ℕ) (C : List (List ℕ)) (ps : List ℕ) (placed : Placed C N ps
       (and-right (ltb a N) (all (λ x. ltb x N) trues) low)
       (length-set vs (getD ps (2 * a) 0) (min (getD vs (getD ps (2 * a) 0) 0) (getD ps (2 * a + 1) 0)) ∙ size)
       (holds-lower p vs a (ltb-true a N (and-left (ltb a N) (all (λ x. ltb x N) trues) low)) size h) v inside
-      ∙ first-same (λ b. more p a b || any (eqb b) trues) (λ b. p b || (eqb b a || any (eqb b) trues)) 0 (getD G v []) (λ b m. or-assoc (p b) (eqb b a) (any (eqb b) trues))
+      ∙ first-same (λ b. more p a b || any (eqb b) trues) (λ b. p b || (eqb b a || any (eqb b) trues)) 0 (getD G v [])
+      (λ b m. or-assoc (p b) (eqb b a) (any (eqb b) trues))
     where
       or-assoc : (x y z : Bool) → ((x || y) || z) ≡ (x || (y || z))
       or-assoc true y z = refl
@@ -239,7 +255,9 @@ unfolding valueIn firstBy
 value-first s i [] = refl
 value-first s i (a ∷ g) = go (eqb (getD s a 0) 1) refl (value-first s (suc i) g)
   where
-    go : (b : Bool) → eqb (getD s a 0) 1 ≡ b → valueIn s (suc i) g ≡ firstBy (λ a. eqb (getD s a 0) 1) (suc i) g → valueIn s i (a ∷ g) ≡ firstBy (λ a. eqb (getD s a 0) 1) i (a ∷ g)
+    go :
+        (b : Bool) → eqb (getD s a 0) 1 ≡ b → valueIn s (suc i) g ≡ firstBy (λ a. eqb (getD s a 0) 1) (suc i) g
+        → valueIn s i (a ∷ g) ≡ firstBy (λ a. eqb (getD s a 0) 1) i (a ∷ g)
     go true e rec = rw (e, valueIn) (sym (first-here (λ a. eqb (getD s a 0) 1) i a g e))
     go false e rec = rw (e, valueIn) (rec ∙ sym (first-on (λ a. eqb (getD s a 0) 1) i a g e))
 
@@ -251,7 +269,9 @@ initial-true t a h = rw (table-at (stateOf (t .initial)) (t .atoms) a h) (go (me
     go true = refl
     go false = refl
 
-pub initial-are : (t : Task) (C : List (List ℕ)) (ps ss ns : List ℕ) (n : ℕ) → Covered (t .atoms) C ps ss ns n → allBelow (t .atoms) (t .initial) ≡ true → map (valueIn (initialState t) 0) (groups (t .atoms) C) ≡ lowered ps (t .initial) (take n ss)
+pub initial-are :
+    (t : Task) (C : List (List ℕ)) (ps ss ns : List ℕ) (n : ℕ) → Covered (t .atoms) C ps ss ns n → allBelow (t .atoms) (t .initial) ≡ true
+    → map (valueIn (initialState t) 0) (groups (t .atoms) C) ≡ lowered ps (t .initial) (take n ss)
 unfolding groups Holds
 initial-are t C ps ss ns n cov low =
     ext-getD 0 (map (valueIn (initialState t) 0) (groupsBelow C (t .atoms))) (lowered ps (t .initial) (take n ss)) sizes same
@@ -274,11 +294,14 @@ initial-are t C ps ss ns n cov low =
         ∙ cov .grouped .size v
         ∙ sym (first-none (λ a. false) 0 (getD GG v []) (λ a m. refl) ∙ omega arith)
 
-    same : (v : ℕ) → v < length (map (valueIn (initialState t) 0) GG) → getD (map (valueIn (initialState t) 0) GG) v 0 ≡ getD (lowered ps (t .initial) (take n ss)) v 0
+    same :
+        (v : ℕ) → v < length (map (valueIn (initialState t) 0) GG)
+        → getD (map (valueIn (initialState t) 0) GG) v 0 ≡ getD (lowered ps (t .initial) (take n ss)) v 0
     same v h =
         let l = length-map GG (valueIn (initialState t) 0) in
         let inside : v < length GG = omega arith in
         getD-map-low (valueIn (initialState t) 0) GG v [] 0 inside
         ∙ value-first (initialState t) 0 (getD GG v [])
-        ∙ first-same (λ a. eqb (getD (initialState t) a 0) 1) (λ a. false || member a (t .initial)) 0 (getD GG v []) (λ a m. initial-true t a (all-below C (t .atoms) v a (mem-in GG v a m)))
+        ∙ first-same (λ a. eqb (getD (initialState t) a 0) 1) (λ a. false || member a (t .initial)) 0 (getD GG v [])
+        (λ a m. initial-true t a (all-below C (t .atoms) v a (mem-in GG v a m)))
         ∙ sym (holds-lowered (t .atoms) C ps (cov .grouped .placed) (t .initial) (λ a. false) (take n ss) low (taken ∙ count) start v inside)

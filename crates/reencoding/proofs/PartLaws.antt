@@ -10,15 +10,13 @@ use lib.Seq.{drop-cons}
 use Rattle.definitions.specs.Lists.{each}
 use Rattle.definitions.specs.Image.{Operator, Task, operatorRight}
 use Rattle.definitions.specs.Step.{noOperator, operatorAt}
-use Rattle.definitions.specs.Image.{rowsSize, operatorSize, operatorsSize}
+use Rattle.definitions.specs.Image.{mostImage, rowsSize, operatorSize, operatorsSize}
 use Rattle.definitions.proofs.ImageSize.{Sizes, read-sizes}
 use Rattle.definitions.proofs.Walks.{left-here}
 use Rattle.task.specs.Reads.{taskOf, Reads}
 use Rattle.task.specs.Walk.{operatorIn}
 use Rattle.task.specs.Post.{BlockGiven}
 use Rattle.task.proofs.Questions.{operator-right}
-use Rattle.writing.specs.Writing.{Wrote}
-use Rattle.writing.proofs.Writes.{wrote-both}
 use Rattle.reencoding.specs.Words.{atomsOf, operatorBy}
 use Rattle.reencoding.specs.Parts.{sum, wordsOf, lengthsOf, partsStart, imageSize, pairsOf, headerBy, operatorsBy}
 use Rattle.reencoding.proofs.SizeLaws.{block-sized, operator-length}
@@ -44,7 +42,7 @@ module _ (w : List ℕ) (rd : Reads w) (i : ℕ) (h : i < length (taskOf w .oper
   pub block-some : 2 ≤ length b
   block-some = let a = size-is in let c = operator-some (operatorAt (taskOf w) i) in omega arith
 
-  pub block-most : length b ≤ 8192
+  pub block-most : length b ≤ mostImage
   unfolding operatorAt
   block-most =
       let a = size-is in
@@ -79,7 +77,10 @@ module _ (w : List ℕ) (i : ℕ) where
   unfolding sum
   sizes-end h = rw (operators-done h)
 
-  pub pairs-next : (at : ℕ) → i < length (taskOf w .operators) → pairsOf at (map wordsOf (drop i (taskOf w .operators))) ≡ (at ∷ wordsOf (operatorAt (taskOf w) i) ∷ []) ++ pairsOf (at + wordsOf (operatorAt (taskOf w) i)) (map wordsOf (drop (i + 1) (taskOf w .operators)))
+  pub pairs-next :
+      (at : ℕ) → i < length (taskOf w .operators) → pairsOf at (map wordsOf (drop i (taskOf w .operators))) ≡
+      (at ∷ wordsOf (operatorAt (taskOf w) i) ∷ []) ++ pairsOf (at + wordsOf (operatorAt (taskOf w) i))
+      (map wordsOf (drop (i + 1) (taskOf w .operators)))
   unfolding pairsOf
   pairs-next at h = rw (operators-left h)
 
@@ -87,12 +88,18 @@ module _ (w : List ℕ) (i : ℕ) where
   unfolding pairsOf
   pairs-end at h = rw (operators-done h)
 
-  pub words-next : (places : List ℕ) → i < length (taskOf w .operators) → operatorsBy places (drop i (taskOf w .operators)) ≡ operatorBy places (operatorAt (taskOf w) i) ++ operatorsBy places (drop (i + 1) (taskOf w .operators))
+  pub words-next :
+      (places : List ℕ) → i < length (taskOf w .operators) → operatorsBy places (drop i (taskOf w .operators)) ≡ operatorBy places
+      (operatorAt (taskOf w) i) ++ operatorsBy places (drop (i + 1) (taskOf w .operators))
   unfolding operatorsBy each
   words-next places h = rw (operators-left h)
 
-  pub words-room : (places : List ℕ) → i < length (taskOf w .operators) → length (operatorsBy places (drop i (taskOf w .operators))) ≡ length (operatorBy places (operatorAt (taskOf w) i)) + length (operatorsBy places (drop (i + 1) (taskOf w .operators)))
-  words-room places h = ap length (words-next places h) ∙ length-append (operatorBy places (operatorAt (taskOf w) i)) (operatorsBy places (drop (i + 1) (taskOf w .operators)))
+  pub words-room :
+      (places : List ℕ) → i < length (taskOf w .operators) → length (operatorsBy places (drop i (taskOf w .operators))) ≡ length
+      (operatorBy places (operatorAt (taskOf w) i)) + length (operatorsBy places (drop (i + 1) (taskOf w .operators)))
+  words-room places h =
+      ap length (words-next places h)
+      ∙ length-append (operatorBy places (operatorAt (taskOf w) i)) (operatorsBy places (drop (i + 1) (taskOf w .operators)))
 
   pub words-end : (places : List ℕ) → length (taskOf w .operators) ≤ i → operatorsBy places (drop i (taskOf w .operators)) ≡ []
   unfolding operatorsBy each
@@ -104,7 +111,7 @@ unfolding sum wordsOf operatorsSize
 sum-most [] = omega arith
 sum-most (o ∷ os) = let h = sum-most os in let k = operator-some o in omega arith
 
-pub sizes-most : (w : List ℕ) → Reads w → 10 + 2 * length (taskOf w .goal) + sum (map wordsOf (taskOf w .operators)) ≤ 16384
+pub sizes-most : (w : List ℕ) → Reads w → 10 + 2 * length (taskOf w .goal) + sum (map wordsOf (taskOf w .operators)) ≤ 2 * mostImage
 sizes-most w rd = let a = sum-most (taskOf w .operators) in let b = task-sizes w rd .words in omega arith
 
 pub pairs-length : (at : ℕ) (ls : List ℕ) → length (pairsOf at ls) ≡ 2 * length ls
@@ -128,30 +135,11 @@ module _ (n : ℕ) (t : Task) where
       let b = length-map (t .operators) wordsOf in
       omega arith
 
-  pub header-wrote : (m a g : ℕ) → m ≡ length (t .operators) → a ≡ t .atoms → g ≡ length (t .goal)
-      → (t₀ t₁ t₂ t₃ t₄ t₅ : List ℕ) (e₁ e₂ e₃ e₄ e₅ : ℕ)
-      → Wrote (set (set t₀ 0 n) 1 m) 2 ((10 + 2 * m) ∷ 2 * n ∷ []) t₁ e₁
-      → Wrote t₁ e₁ ((10 + 2 * m + 2 * n) ∷ 2 * a ∷ []) t₂ e₂
-      → Wrote t₂ e₂ ((10 + 2 * m + 2 * n + 2 * a) ∷ n ∷ []) t₃ e₃
-      → Wrote t₃ e₃ ((10 + 2 * m + 2 * n + 2 * a + n) ∷ 2 * g ∷ []) t₄ e₄
-      → Wrote t₄ e₄ (pairsOf (10 + 2 * m + 2 * n + 2 * a + n + 2 * g) (map wordsOf (t .operators))) t₅ e₅
-      → Wrote t₀ 0 (headerBy n t) t₅ e₅
+  -- the numbers, and the pairs one after the other
+  pub header-parts :
+      (m a g : ℕ) → m ≡ length (t .operators) → a ≡ t .atoms → g ≡ length (t .goal) → let start = 10 + 2 * m in
+      headerBy n t
+      ≡ n ∷ m ∷ start ∷ 2 * n ∷ (start + 2 * n) ∷ 2 * a ∷ (start + 2 * n + 2 * a) ∷ n ∷ (start + 2 * n + 2 * a + n) ∷ 2 * g
+      ∷ pairsOf (start + 2 * n + 2 * a + n + 2 * g) (map wordsOf (t .operators))
   unfolding headerBy partsStart lengthsOf pairsOf
-  header-wrote m a g em ea eg t₀ t₁ t₂ t₃ t₄ t₅ e₁ e₂ e₃ e₄ e₅ w₁ w₂ w₃ w₄ w₅ =
-      rw (← em, ← ea, ← eg)
-      (record { target = all .target; next = (let z = all .next in omega arith) })
-    where
-      rest : List ℕ
-      rest = pairsOf (10 + 2 * m + 2 * n + 2 * a + n + 2 * g) (map wordsOf (t .operators))
-
-      four : Wrote t₃ e₃ (((10 + 2 * m + 2 * n + 2 * a + n) ∷ 2 * g ∷ []) ++ rest) t₅ e₅
-      four = wrote-both w₄ w₅
-
-      three : Wrote t₂ e₂ ((10 + 2 * m + 2 * n + 2 * a) ∷ n ∷ (10 + 2 * m + 2 * n + 2 * a + n) ∷ 2 * g ∷ rest) t₅ e₅
-      three = wrote-both w₃ four
-
-      two : Wrote t₁ e₁ ((10 + 2 * m + 2 * n) ∷ 2 * a ∷ (10 + 2 * m + 2 * n + 2 * a) ∷ n ∷ (10 + 2 * m + 2 * n + 2 * a + n) ∷ 2 * g ∷ rest) t₅ e₅
-      two = wrote-both w₂ three
-
-      all : Wrote (set (set t₀ 0 n) 1 m) 2 ((10 + 2 * m) ∷ 2 * n ∷ (10 + 2 * m + 2 * n) ∷ 2 * a ∷ (10 + 2 * m + 2 * n + 2 * a) ∷ n ∷ (10 + 2 * m + 2 * n + 2 * a + n) ∷ 2 * g ∷ rest) t₅ e₅
-      all = wrote-both w₁ two
+  header-parts m a g em ea eg = rw (em, ea, eg)

@@ -39,7 +39,9 @@ rows-exact (suc k) [] rs e = not-some e
 rows-exact (suc k) (x ∷ []) rs e = not-some e
 rows-exact (suc k) (x ∷ (c ∷ xs)) rs e = first (leb c (length xs)) refl (λ rs h. rows-exact k (drop c xs) rs h)
   where
-    first : (b : Bool) → leb c (length xs) ≡ b → ((rs : List Row) → rowsOf k (drop c xs) ≡ some rs → (length rs ≡ k) × (rowsSize rs ≡ length (drop c xs))) → (length rs ≡ suc k) × (rowsSize rs ≡ suc (suc (length xs)))
+    first :
+        (b : Bool) → leb c (length xs) ≡ b → ((rs : List Row) → rowsOf k (drop c xs) ≡ some rs → (length rs ≡ k) × (rowsSize rs ≡ length (drop c xs)))
+        → (length rs ≡ suc k) × (rowsSize rs ≡ suc (suc (length xs)))
     first false h rec = not-some (rw (h, rowsOf) at e)
     first true h rec = second (rowsOf k (drop c xs)) refl
       where
@@ -107,7 +109,8 @@ module _ (b : List ℕ) (o : Operator) (end k : ℕ) (read : BlockRead b o end k
       omega arith
 
 pub block-sized : (b : List ℕ) → blockParses b ≡ true → operatorSize (operatorIn b) ≡ length b
-block-sized b ok = operator-sized b (operatorIn b) (getD b 0 0 + 1) (getD b (getD b 0 0 + 1) 0) (block-read b ok (getD b 0 0) (getD b (getD b 0 0 + 1) 0) refl refl)
+block-sized b ok =
+    operator-sized b (operatorIn b) (getD b 0 0 + 1) (getD b (getD b 0 0 + 1) 0) (block-read b ok (getD b 0 0) (getD b (getD b 0 0 + 1) 0) refl refl)
 
 -- ---- the words that an operator becomes
 rows-length : (places : List ℕ) (rs : List Row) → length (rowsBy places rs) ≡ 2 * rowsSize rs

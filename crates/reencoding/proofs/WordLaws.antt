@@ -7,17 +7,14 @@ use native.Mathlib.Nat.{mul-suc, mul-zero}
 use native.Mathlib.Omega.{arith}
 use lib.Dec.{ltb}
 use lib.ListN.{length, getD, set, take, drop, length-append, length-take, length-drop, drop-of-length-le}
-use borrow.Author.Tests.{ltb-true}
+use borrow.Author.Tests.{ltb-true, eqb-true, eqb-false}
 use Rattle.definitions.specs.Lists.{all, each, ascending}
-use Rattle.definitions.specs.Literal.{atom, allBelow, literalList}
+use Rattle.definitions.specs.Literal.{atom, positive, allBelow, literalList}
 use Rattle.definitions.specs.Image.{Row, Operator, rowRight, operatorRight}
 use Rattle.definitions.proofs.ListLaws.{and-left, and-right}
 use Rattle.definitions.proofs.Walks.{left-here}
 use Rattle.task.specs.Walk.{row}
 use Rattle.clause.proofs.ClauseLaws.{list-below}
-use Rattle.writing.specs.Writing.{Wrote, Writing}
-use Rattle.writing.proofs.Writes.{write-two, write-same}
-use Rattle.clause.proofs.ClauseLaws.{low-at}
 use Rattle.reencoding.specs.Words.{atomsOf, literalBy, literalsBy, countedBy, rowBy, rowsBy, operatorBy}
 
 -- ---- lengths
@@ -39,15 +36,33 @@ unfolding countedBy
 counted-length places ls = let a = literals-length places ls in omega arith
 
 -- ---- a literal's place lies within the places
-pub literal-inside : (places ls : List ℕ) (i l : ℕ) → allBelow (2 * atomsOf places) ls ≡ true → i < length ls → l ≡ getD ls i 0 → 2 * (l / 2) + 1 < length places
-unfolding atomsOf
-literal-inside places ls i l h low e = let k = low-at (2 * (length places / 2)) ls i h low in omega arith
+pub literal-inside : (places : List ℕ) (l : ℕ) → l < 2 * atomsOf places → 2 * atom l + 1 < length places
+unfolding atomsOf atom
+literal-inside places l h = omega arith
+
+pub literal-length : (places : List ℕ) (l : ℕ) → length (literalBy places l) ≡ 2
+unfolding literalBy
+literal-length places l = refl
+
+pub literal-words :
+    (places : List ℕ) (l a s : ℕ) → a ≡ atom l → s ≡ l % 2
+    → literalBy places l ≡ getD places (2 * a) 0 ∷ (2 * getD places (2 * a + 1) 0 + s) ∷ []
+unfolding literalBy
+literal-words places l a s ea es = rw (ea, es)
+
+pub sign-even : (l : ℕ) → positive l ≡ true → 0 ≡ l % 2
+unfolding positive
+sign-even l h = sym (eqb-true (l % 2) 0 h)
+
+pub sign-odd : (l : ℕ) → positive l ≡ false → 1 ≡ l % 2
+unfolding positive
+sign-odd l h = let n = eqb-false (l % 2) 0 h in omega arith
 
 -- ---- the next literal is written
 module _ (places ls : List ℕ) (i : ℕ) where
-  pub literals-next : (x : ℕ) → i < length ls → x ≡ getD ls i 0 → literalsBy places (drop i ls) ≡ getD places (2 * (x / 2)) 0 ∷ (2 * getD places (2 * (x / 2) + 1) 0 + getD ls i 0 % 2) ∷ literalsBy places (drop (i + 1) ls)
-  unfolding literalsBy literalBy each atom
-  literals-next x h e = rw (left-here ls i 0 (getD ls i 0) refl h, e)
+  pub literals-next : i < length ls → literalsBy places (drop i ls) ≡ literalBy places (getD ls i 0) ++ literalsBy places (drop (i + 1) ls)
+  unfolding literalsBy each
+  literals-next h = rw (left-here ls i 0 (getD ls i 0) refl h)
 
   pub literals-end : length ls ≤ i → literalsBy places (drop i ls) ≡ []
   unfolding literalsBy each
@@ -66,7 +81,9 @@ module _ (places : List ℕ) (e : ℕ) (cs : List ℕ) (right : rowRight (atomsO
   unfolding rowRight
   row-conditions = list-below (atomsOf places) cs (and-right (ltb e (2 * atomsOf places)) (literalList (atomsOf places) cs) right)
 
-pub row-words : (places : List ℕ) (e : ℕ) (cs : List ℕ) → rowBy places (row e cs) ≡ e % 2 ∷ getD places (2 * (e / 2)) 0 ∷ getD places (2 * (e / 2) + 1) 0 ∷ countedBy places cs
+pub row-words :
+    (places : List ℕ) (e : ℕ) (cs : List ℕ)
+    → rowBy places (row e cs) ≡ e % 2 ∷ getD places (2 * (e / 2)) 0 ∷ getD places (2 * (e / 2) + 1) 0 ∷ countedBy places cs
 unfolding rowBy atom
 row-words places e cs = refl
 

@@ -5,20 +5,24 @@ use Prim.Native.Nat.{ℕ, _*_, _≤_, _<_}
 use lib.Dec.{leb}
 use lib.ListN.{length, getD}
 use Rattle.definitions.specs.Answer.{Answer, finding, ask, _>>=_}
+use Rattle.definitions.specs.Literal.{mostAtoms}
 use Rattle.definitions.specs.Image.{Task}
 use Rattle.definitions.specs.Groups.{Written}
 use Rattle.definitions.specs.Encoding.{encodedImage}
+use Rattle.cover.specs.Domains.{Domained}
 
--- the n groups of a task's atoms are words: places of the atoms, size of each group, whether none is a value of it
-pub record Laid (t : Task) (ps ss ns : List ℕ) (n : ℕ) : Type 0 where
-  pub few : n ≤ 1024
+-- the n groups of a task's atoms are words: places of the atoms, size of each group
+pub record Valued (t : Task) (ps ss : List ℕ) (n : ℕ) : Type 0 where
+  pub few : n ≤ mostAtoms
   pub places : length ps ≡ 2 * t .atoms
-  pub low : (i : ℕ) → getD ps i 0 < 1024
+  pub low : (i : ℕ) → getD ps i 0 < mostAtoms
   pub variable : (a : ℕ) → a < t .atoms → getD ps (2 * a) 0 < n
-  pub sizes : length ss ≡ 1024
-  pub small : (v : ℕ) → getD ss v 0 ≤ 1024
-  pub nones : length ns ≡ 1024
-  pub flags : (v : ℕ) → getD ns v 0 ≤ 1
+  pub sizes : n ≤ length ss
+
+-- and whether none is a value of them
+pub record Laid (t : Task) (ps ss ns : List ℕ) (n : ℕ) : Type 0 where
+  pub valued : Valued t ps ss n
+  pub domained : Domained ss ns n
 
 -- question 16 of re-encoding, and the finding
 unfoldable pub encodeAnswer : Task → List (List ℕ) → ℕ → Answer Written

@@ -2,10 +2,9 @@
 use mathlib.Core.List.{List, [], _∷_, _++_, map}
 use Prim.Native.Nat.{ℕ, _+_, _-_, _*_, min}
 use lib.ListN.{length, getD, set, take}
-use Rattle.definitions.specs.Lists.{each, below}
-use Rattle.definitions.specs.Image.{Operator, Task}
-use Rattle.definitions.specs.Image.{operatorSize}
-use Rattle.cover.specs.Domains.{domainBy}
+use Rattle.definitions.specs.Lists.{each}
+use Rattle.definitions.specs.Image.{Operator, Task, operatorSize}
+use Rattle.cover.specs.Domains.{coverWords}
 use Rattle.reencoding.specs.Words.{literalsBy, operatorBy}
 
 unfoldable pub sum : List ℕ → ℕ
@@ -50,8 +49,10 @@ lowered places (a ∷ trues) values =
 unfoldable pub operatorsBy : List ℕ → List Operator → List ℕ
 operatorsBy places os = each (operatorBy places) os
 
--- the image, by the places of the atoms, the sizes of the n groups, and which have the value none
+-- the initial values, the goal and the operators, by the places of the atoms and the sizes of the n groups
+unfoldable pub taskWords : Task → List ℕ → List ℕ → ℕ → List ℕ
+taskWords t places sizes n = lowered places (t .initial) (take n sizes) ++ (literalsBy places (t .goal) ++ operatorsBy places (t .operators))
+
+-- the image, by these and by which groups have the value none
 unfoldable pub imageBy : Task → List ℕ → List ℕ → List ℕ → ℕ → List ℕ
-imageBy t places sizes none n =
-    headerBy n t
-    ++ (each (domainBy sizes none) (below n) ++ (places ++ (lowered places (t .initial) (take n sizes) ++ (literalsBy places (t .goal) ++ operatorsBy places (t .operators)))))
+imageBy t places sizes none n = headerBy n t ++ (coverWords places sizes none n ++ taskWords t places sizes n)

@@ -1,16 +1,35 @@
-// Literals, rows and operators as words of the re-encoded image. Each function gives the place behind the words that it wrote.
+// Literals, rows and operators as words of the re-encoded image. Each function gives the place after the words that it wrote.
+use literal::Literal;
 ghost use mathlib.Core.Path.{_≡_};
 ghost use mathlib.Core.Bool.{true};
-ghost use Prim.Native.Nat.{_+_, _*_, _≤_, _<_};
+ghost use Prim.Native.Nat.{_+_, _*_, _%_, _≤_, _<_};
 ghost use lib.ListN.{length};
-ghost use Rattle.definitions.specs.Lists.{all};
-ghost use Rattle.definitions.specs.Literal.{allBelow, literalList};
-ghost use Rattle.definitions.specs.Image.{rowRight, operatorRight};
-ghost use Rattle.task.specs.Walk.{row, blockParses, operatorIn, parsesAt, rowsAt};
+ghost use Rattle.definitions.specs.Literal.{allBelow};
+ghost use Rattle.definitions.specs.Image.{rowRight};
+ghost use Rattle.task.specs.Walk.{row, operatorIn, rowsAt};
 ghost use Rattle.writing.specs.Writing.{Wrote};
-ghost use Rattle.reencoding.specs.Words.{atomsOf, literalsBy, countedBy, rowBy, rowsBy, operatorBy, Ready};
+ghost use Rattle.reencoding.specs.Words.{atomsOf, literalBy, literalsBy, countedBy, rowBy, rowsBy, operatorBy, Ready, RowsGiven, OperatorGiven};
 
-// Writes literals: of each the variable, and twice the value, plus 1 if it is negated.
+// 1 if a literal is negative, else 0.
+fn sign(l: Literal) -> u16
+    ensures { λ r. ⌜ r ≡ l .code % 2 ⌝ }
+{
+    if l.is_positive() { 0 } else { 1 }
+}
+
+// Writes a literal: the variable of its atom, and twice the value, plus 1 if it is negative.
+fn literal(l: Literal, places: &[u16], target: &mut [u16], at: usize) -> usize
+    requires { ⌜ (Ready (now places) (literalBy (now places) (l .code)) (now target) at) × (l .code < 2 * atomsOf (now places)) ⌝ }
+    ensures { λ r. ⌜ Wrote (now (target .entry)) at (literalBy (now (places .entry)) (l .code)) (now (target .exit)) r ⌝ }
+{
+    let a = l.atom();
+    let negative = sign(l);
+    target[at] = places[2 * a];
+    target[at + 1] = 2 * places[2 * a + 1] + negative;
+    at + 2
+}
+
+// Writes literals.
 pub fn literals(list: &[u16], places: &[u16], target: &mut [u16], at: usize) -> usize
     requires { ⌜ (Ready (now places) (literalsBy (now places) (now list)) (now target) at) × (allBelow (2 * atomsOf (now places)) (now list) ≡ true) ⌝ }
     ensures { λ r. ⌜ Wrote (now (target .entry)) at (literalsBy (now (places .entry)) (now (list .entry))) (now (target .exit)) r ⌝ }
@@ -19,10 +38,7 @@ pub fn literals(list: &[u16], places: &[u16], target: &mut [u16], at: usize) -> 
     let mut i: usize = 0;
     while i < list.len() {
         let l = list[i];
-        let a = literal::wide(l) / 2;
-        target[to] = places[2 * a];
-        target[to + 1] = 2 * places[2 * a + 1] + l % 2;
-        to += 2;
+        to = literal(Literal { code: l }, places, target, to);
         i += 1;
     }
     to
@@ -58,7 +74,7 @@ fn rows(
     target: &mut [u16],
     at: usize,
 ) -> usize
-    requires { ⌜ (Ready (now places) (rowsBy (now places) (rowsAt (now block) from count)) (now target) at) × (parsesAt (now block) from count ≡ true) × (all (rowRight (atomsOf (now places))) (rowsAt (now block) from count) ≡ true) × (length (now block) ≤ 8192) ⌝ }
+    requires { ⌜ (Ready (now places) (rowsBy (now places) (rowsAt (now block) from count)) (now target) at) × (RowsGiven (now places) (now block) from count) ⌝ }
     ensures { λ r. ⌜ Wrote (now (target .entry)) at (rowsBy (now (places .entry)) (rowsAt (now (block .entry)) from count)) (now (target .exit)) r ⌝ }
 {
     let mut to = at;
@@ -79,11 +95,11 @@ fn rows(
 
 // Writes the operator of a block.
 pub fn operator(block: &[u16], places: &[u16], target: &mut [u16], at: usize) -> usize
-    requires { ⌜ (Ready (now places) (operatorBy (now places) (operatorIn (now block))) (now target) at) × (blockParses (now block) ≡ true) × (operatorRight (atomsOf (now places)) (operatorIn (now block)) ≡ true) × (length (now block) ≤ 8192) ⌝ }
+    requires { ⌜ (Ready (now places) (operatorBy (now places) (operatorIn (now block))) (now target) at) × (OperatorGiven (now places) (now block)) ⌝ }
     ensures { λ r. ⌜ Wrote (now (target .entry)) at (operatorBy (now (places .entry)) (operatorIn (now (block .entry)))) (now (target .exit)) r ⌝ }
 {
     let task::block::BlockHead { end, rows: count } = task::block::head(block);
-    let behind = counted(&block[1..end], places, target, at);
-    target[behind] = count as u16;
-    rows(block, end + 1, count, places, target, behind + 1)
+    let to = counted(&block[1..end], places, target, at);
+    target[to] = count as u16;
+    rows(block, end + 1, count, places, target, to + 1)
 }

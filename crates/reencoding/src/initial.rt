@@ -1,11 +1,9 @@
-// The initial values: of each variable the value of its group's true atom, or none behind the last.
+// The initial values: of each variable the value of its group's true atom, or none after the last.
 ghost use mathlib.Core.Path.{_≡_};
-ghost use mathlib.Core.Bool.{true};
-ghost use Prim.Native.Nat.{ℕ, _+_, _*_, _≤_, _<_};
-ghost use lib.ListN.{length, getD, take};
-ghost use Rattle.definitions.specs.Literal.{allBelow};
+ghost use Prim.Native.Nat.{_+_, _≤_, _<_};
+ghost use lib.ListN.{length, take};
 ghost use Rattle.writing.specs.Writing.{Wrote};
-ghost use Rattle.reencoding.specs.Words.{atomsOf};
+ghost use Rattle.reencoding.specs.Words.{AtomsGiven};
 ghost use Rattle.reencoding.specs.Parts.{lower, lowered};
 
 // Lowers the value of a variable to `x`.
@@ -20,7 +18,7 @@ fn lower(values: &mut [u16], v: usize, x: u16)
 
 // Lowers the value of each variable to that of its true atoms.
 fn lower_all(trues: &[u16], places: &[u16], values: &mut [u16])
-    requires { ⌜ (allBelow (atomsOf (now places)) (now trues) ≡ true) × ((a : ℕ) → a < atomsOf (now places) → getD (now places) (2 * a) 0 < length (now values)) ⌝ }
+    requires { ⌜ AtomsGiven (now places) (now trues) (length (now values)) ⌝ }
     ensures { λ _. ⌜ now (values .exit) ≡ lowered (now (places .entry)) (now (trues .entry)) (now (values .entry)) ⌝ }
 {
     let mut i: usize = 0;
@@ -40,7 +38,7 @@ pub fn values(
     target: &mut [u16],
     at: usize,
 ) -> usize
-    requires { ⌜ (allBelow (atomsOf (now places)) (now trues) ≡ true) × ((a : ℕ) → a < atomsOf (now places) → getD (now places) (2 * a) 0 < count) × (count ≤ length (now sizes)) × (at + count ≤ length (now target)) ⌝ }
+    requires { ⌜ (AtomsGiven (now places) (now trues) count) × (count ≤ length (now sizes)) × (at + count ≤ length (now target)) ⌝ }
     ensures { λ r. ⌜ Wrote (now (target .entry)) at (lowered (now (places .entry)) (now (trues .entry)) (take count (now (sizes .entry)))) (now (target .exit)) r ⌝ }
 {
     let end = writing::words(&sizes[..count], target, at);

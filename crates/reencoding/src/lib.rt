@@ -1,6 +1,6 @@
 // Re-encoding of a task by an accepted clause set: the finite-domain image.
 ghost use mathlib.Core.Path.{_≡_};
-ghost use Prim.Native.Nat.{_≤_};
+ghost use Prim.Native.Nat.{_+_, _≤_};
 ghost use lib.ListN.{length};
 ghost use Rattle.definitions.specs.Answer.{outcome};
 ghost use Rattle.definitions.specs.Groups.{written};
@@ -10,12 +10,32 @@ ghost use Rattle.task.specs.Reads.{taskOf, Reads};
 ghost use Rattle.clause.specs.Rows.{clausesOf, ClausesRead};
 ghost use Rattle.cover.specs.Cover.{Room};
 ghost use Rattle.writing.specs.Writing.{Wrote};
-ghost use Rattle.reencoding.specs.Parts.{imageBy};
-ghost use Rattle.reencoding.specs.Image.{Laid, encodeAnswer};
+ghost use Rattle.reencoding.specs.Parts.{taskWords, imageBy};
+ghost use Rattle.reencoding.specs.Image.{Valued, Laid, encodeAnswer};
+use answer::Counted;
+use answer::Refusal;
+use answer::Verdict;
 
 pub mod block; // block.rt: literals and operators as words of the image
 pub mod initial; // initial.rt: the initial values
 pub mod parts; // parts.rt: sizes, directory and operators
+
+// Writes the initial values, the goal and the operators of a task whose atoms are in `count` groups.
+fn write_parts(
+    image: &[u16],
+    places: &[u16],
+    sizes: &[u16],
+    count: usize,
+    target: &mut [u16],
+    at: usize,
+) -> usize
+    requires { ⌜ (Reads (now image)) × (Valued (taskOf (now image)) (now places) (now sizes) count) × (at + length (taskWords (taskOf (now image)) (now places) (now sizes) count) ≤ length (now target)) ⌝ }
+    ensures { λ r. ⌜ Wrote (now (target .entry)) at (taskWords (taskOf (now (image .entry))) (now (places .entry)) (now (sizes .entry)) count) (now (target .exit)) r ⌝ }
+{
+    let goal = initial::values(task::initial(image), places, sizes, count, target, at);
+    let operators = block::literals(task::goal(image), places, target, goal);
+    parts::operators(image, places, target, operators)
+}
 
 // Writes the image of a task whose atoms are in `count` groups.
 fn write_image(
@@ -29,12 +49,9 @@ fn write_image(
     requires { ⌜ (Reads (now image)) × (Laid (taskOf (now image)) (now places) (now sizes) (now none) count) × (length (imageBy (taskOf (now image)) (now places) (now sizes) (now none) count) ≤ length (now target)) ⌝ }
     ensures { λ r. ⌜ Wrote (now (target .entry)) 0 (imageBy (taskOf (now (image .entry))) (now (places .entry)) (now (sizes .entry)) (now (none .entry)) count) (now (target .exit)) r ⌝ }
 {
-    let domains = parts::header(image, count, target);
-    let atoms = cover::domains(sizes, none, count, target, domains);
-    let values = writing::words(places, target, atoms);
-    let goal = initial::values(task::initial(image), places, sizes, count, target, values);
-    let operators = block::literals(task::goal(image), places, target, goal);
-    parts::operators(image, places, target, operators)
+    let variables = parts::header(image, count, target);
+    let values = cover::write(places, sizes, none, count, target, variables);
+    write_parts(image, places, sizes, count, target, values)
 }
 
 // Question 16, and the image written, with room for the places of the atoms and for the groups. The length is known before
@@ -46,7 +63,7 @@ fn write_task(
     sizes: &mut [u16],
     none: &mut [u16],
     target: &mut [u16],
-) -> answer::Counted
+) -> Counted
     requires { ⌜ (Reads (now image)) × (ClausesRead (taskOf (now image) .atoms) (now clauses)) × (Room (taskOf (now image) .atoms) (now places) (now sizes) (now none)) ⌝ }
     ensures { λ r. ⌜ outcome (countAnswer r) (now (target .exit)) ≡ written (now (target .entry)) (encodeAnswer (taskOf (now (image .entry))) (clausesOf (now (clauses .entry))) (length (now (target .entry)))) ⌝ }
 {
@@ -54,24 +71,20 @@ fn write_task(
     let count = cover::cover(clauses, atoms, places, sizes, none);
     let words = parts::size(image, count);
     if target.len() < words {
-        return answer::Counted::Refused(answer::Refusal {
-            number: answer::Refusal::TARGET,
-            first: 0,
-            second: 0,
-        });
+        return answer::refuse_count(Refusal::TARGET);
     }
     write_image(image, places, sizes, none, count, target);
-    answer::Counted::Count(words)
+    Counted::Count(words)
 }
 
 // The re-encoding of a task by clauses that are read.
-pub fn reencode_read(image: &[u16], clauses: &[u16], target: &mut [u16]) -> answer::Counted
+pub fn reencode_read(image: &[u16], clauses: &[u16], target: &mut [u16]) -> Counted
     requires { ⌜ (Reads (now image)) × (ClausesRead (taskOf (now image) .atoms) (now clauses)) ⌝ }
     ensures { λ r. ⌜ outcome (countAnswer r) (now (target .exit)) ≡ written (now (target .entry)) (encodeAnswer (taskOf (now (image .entry))) (clausesOf (now (clauses .entry))) (length (now (target .entry)))) ⌝ }
 {
-    let mut places = [0u16; 2048];
-    let mut sizes = [0u16; 1024];
-    let mut none = [1u16; 1024];
+    let mut places = [0u16; literal::MOST_LITERALS];
+    let mut sizes = [0u16; literal::MOST_ATOMS];
+    let mut none = [1u16; literal::MOST_ATOMS];
     let words = 2 * task::atoms(image);
     write_task(
         image,
@@ -84,17 +97,12 @@ pub fn reencode_read(image: &[u16], clauses: &[u16], target: &mut [u16]) -> answ
 }
 
 // The re-encoding of a task by a clause set: the checker's questions, then 16. Gives the length of the image.
-pub fn reencode(
-    image: &[u16],
-    clauses: &[u16],
-    marks: &mut [u8],
-    target: &mut [u16],
-) -> answer::Counted
+pub fn reencode(image: &[u16], clauses: &[u16], marks: &mut [u8], target: &mut [u16]) -> Counted
     ensures { λ r. ⌜ outcome (countAnswer r) (now (target .exit)) ≡ written (now (target .entry)) (encodeCall (now (image .entry)) (now (clauses .entry)) (length (now (marks .entry))) (length (now (target .entry)))) ⌝ }
 {
     let checked = checker::accept(image, clauses, marks);
     match checked {
-        answer::Verdict::Refused(f) => answer::Counted::Refused(f),
-        answer::Verdict::Fine => reencode_read(image, clauses, target),
+        Verdict::Refused(f) => Counted::Refused(f),
+        Verdict::Fine => reencode_read(image, clauses, target),
     }
 }

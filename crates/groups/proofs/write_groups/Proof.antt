@@ -3,6 +3,7 @@ use mathlib.Core.Path.{_≡_, _∙_}
 use native.Mathlib.Omega.{arith}
 use lib.ListN.{length}
 use Rattle.answer.proofs.Laws.{outcome-of}
+use Rattle.cover.proofs.DomainLaws.{cover-length}
 use Rattle.cover.proofs.Covering.{domained}
 use Rattle.groups.proofs.Calls.{groups-not, groups-done}
 use borrow.Author.Needs.{needs}
@@ -17,10 +18,10 @@ abbrev covered : tie.After-slice-known7 → tie.After-cover
 covered c = sizes-back c .before .before .before
 
 -- where the target is long enough
-abbrev lent : tie.After-write-parts-arg4 → tie.After-write-parts-arg
+abbrev lent : tie.After-write-arg4 → tie.After-write-arg
 lent c = c .before .before .before
 
-abbrev fits : tie.After-write-parts-arg4 → tie.Else1
+abbrev fits : tie.After-write-arg4 → tie.Else1
 fits c = lent c .before
 
 cover-requires : tie.Need-cover-requires
@@ -53,13 +54,13 @@ returns c =
     let not = groups-not _ _ _ _ _ _ (covered (t .before) .cover .ensures) _ (t .if1 .taken) in
     outcome-of _ _ _ _ (c .refuse-count .ensures) not
 
-write-parts-requires : tie.Need-write-parts-requires
-write-parts-requires c κs =
+write-requires : tie.Need-write-requires
+write-requires c κs =
     let e = fits c in
-    let v = covered (e .before) .cover .ensures in
-    let places = v .places in
+    let g = covered (e .before) .cover in
+    let places = g .ensures .places in
     let room = e .if1 .left in
-    (domained _ _ _ _ _ _ v, omega arith)
+    (domained _ _ _ _ _ _ (g .ensures), omega (arith, cover-length (g .last .1 .1 .0) (g .last .1 .1 .1 .0) (g .last .1 .1 .1 .1 .0) (g .result)))
 
 same-length-4 : tie.Need-same-length-4
 same-length-4 c = search needs
@@ -77,7 +78,7 @@ returns-2 : tie.Need-returns-2
 returns-2 c =
     let w = c .before .before in
     let e = fits (w .before) in
-    groups-done _ _ _ _ _ _ (covered (e .before) .cover .ensures) _ (e .if1 .left) (w .write-parts .ensures)
+    groups-done _ _ _ _ _ _ (covered (e .before) .cover .ensures) _ (e .if1 .left) (w .write .ensures)
 
 pub write-groups-spec : {M : Type 1} → statement M
 write-groups-spec =
@@ -92,7 +93,7 @@ write-groups-spec =
     same-length-2
     same-length-3
     returns
-    write-parts-requires
+    write-requires
     same-length-4
     same-length-5
     same-length-6

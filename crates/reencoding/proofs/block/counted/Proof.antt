@@ -18,14 +18,26 @@ mul-target : tie.Need-mul-target
 mul-target c = search needs
 
 slice-write-target : tie.Need-slice-write-target
-slice-write-target c = omega (arith, c .before .before .before .pre .0 .room, counted-length (c .before .before .before .args .places .now) (c .before .before .before .args .list .now))
+slice-write-target c =
+    omega (
+      arith,
+      c .before .before .before .pre .0 .room,
+      counted-length (c .before .before .before .args .places .now) (c .before .before .before .args .list .now),
+    )
 
 add-literals : tie.Need-add-literals
 add-literals c = search needs
 
+-- the places of the function
+abbrev at-start : tie.After-shared-slice-known → tie.Start
+at-start c = c .before
+
+abbrev after-shared-slice-known : tie.After-literals-arg → tie.After-shared-slice-known
+after-shared-slice-known c = c .before .before .before
+
 literals-requires : tie.Need-literals-requires
 literals-requires c κs =
-    let s = c .before .before .before .before in
+    let s = at-start (after-shared-slice-known c) in
     let r = s .pre .0 .room in
     let a = counted-length (s .args .places .now) (s .args .list .now) in
     let b = literals-length (s .args .places .now) (s .args .list .now) in

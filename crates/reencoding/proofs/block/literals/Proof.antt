@@ -1,36 +1,38 @@
-use Prim.Native.Nat.{ℕ, _≤_, _<_, _-_, _+_, _*_, _/_}
-use mathlib.Core.Path.{_≡_, refl}
+use Prim.Native.Nat.{ℕ, _+_, _-_, _≤_}
 use native.Mathlib.Omega.{arith}
-use lib.ListN.{length, drop, length-drop, length-set}
+use mathlib.Core.List.{List, _++_}
+use lib.ListN.{length, getD, drop}
+use Rattle.clause.proofs.ClauseLaws.{low-at}
 use Rattle.writing.specs.Writing.{Writing}
-use Rattle.writing.proofs.Writes.{write-start, write-same, write-two, write-end, write-room}
-use Rattle.reencoding.specs.Words.{literalsBy}
-use Rattle.reencoding.proofs.WordLaws.{literals-length, literal-inside, literals-next, literals-end}
+use Rattle.writing.proofs.Writes.{write-start, write-same, write-part, write-end, part-room}
+use Rattle.reencoding.specs.Words.{literalBy, literalsBy}
+use Rattle.reencoding.proofs.WordLaws.{literals-next, literals-end}
 use borrow.Author.Needs.{needs}
 use Rattle.reencoding.proofs.block.literals.Statement.{statement}
 use Rattle.reencoding.proofs.block.literals.Tie as tie
 
 abbrev Inv-loop : tie.InvT-loop
-Inv-loop list places target₀ at to₀ i₀ target to i = (i ≤ length list) × Writing target₀ at (literalsBy places list) target to (literalsBy places (drop i list))
+Inv-loop list places target₀ at to₀ i₀ target to i =
+    (i ≤ length list) × Writing target₀ at (literalsBy places list) target to (literalsBy places (drop i list))
 
 abbrev μ-loop : tie.MeasureT-loop
 μ-loop list places target₀ at to₀ i₀ target to i = length list - i
 
-room : (c : tie.In-loop Inv-loop μ-loop) → c .before .loop .to + 2 ≤ length (c .before .loop .target)
-room c =
-    let l = c .before .loop in
-    let s = c .before .before .before .before .before in
-    let r = write-room (l .inv .1) (s .pre .0 .room) in
-    let d = length-drop (l .i) (s .args .list .now) in
-    let e = literals-length (s .args .places .now) (drop (l .i) (s .args .list .now)) in
-    let t = c .loop-test .taken in
-    omega arith
+abbrev lent : tie.At-loop Inv-loop μ-loop → tie.After-shared-slice-known2 Inv-loop μ-loop
+lent c = c .before .before
 
-size : (c : tie.In-loop Inv-loop μ-loop) → length (c .before .loop .target) ≡ length (c .before .before .before .before .before .args .target .now)
-size c = c .before .loop .inv .1 .size
+abbrev start : tie.At-loop Inv-loop μ-loop → tie.Start Inv-loop μ-loop
+start c = lent c .before .before
 
-inside : (c : tie.After-wide Inv-loop μ-loop) → 2 * (c .wide .result / 2) + 1 < length (c .before .before .before .before .before .before .before .args .places .now)
-inside c = literal-inside _ _ (c .before .before .before .loop .i) (c .wide .result) (c .before .before .before .before .before .before .before .pre .1) (c .before .before .loop-test .taken) (c .wide .ensures .0)
+-- literal i, and what is left to be written at it
+left :
+    (t : tie.In-loop Inv-loop μ-loop) → let l = t .before in let a = start l .args in
+    Writing (a .target .now) (a .at) (literalsBy (a .places .now) (a .list .now)) (l .loop .target) (l .loop .to)
+    (literalBy (a .places .now) (getD (a .list .now) (l .loop .i) 0) ++ literalsBy (a .places .now) (drop (l .loop .i + 1) (a .list .now)))
+left t = let l = t .before in write-same (literals-next _ _ (l .loop .i) (t .loop-test .taken)) (l .loop .inv .1)
+
+abbrev in-loop : tie.After-literal-arg Inv-loop μ-loop → tie.In-loop Inv-loop μ-loop
+in-loop c = c .before .before
 
 loop-holds : tie.Need-loop-holds Inv-loop μ-loop
 loop-holds c = (omega arith, write-start)
@@ -41,53 +43,14 @@ mul-l c = search needs
 shared-slice-read-l : tie.Need-shared-slice-read-l Inv-loop μ-loop
 shared-slice-read-l c = search needs
 
-wide-requires : tie.Need-wide-requires Inv-loop μ-loop
-wide-requires c κs = search needs
-
-mul-target : tie.Need-mul-target Inv-loop μ-loop
-mul-target c = search needs
-
-mul-target-2 : tie.Need-mul-target-2 Inv-loop μ-loop
-mul-target-2 c = search needs
-
-shared-slice-read-target : tie.Need-shared-slice-read-target Inv-loop μ-loop
-shared-slice-read-target c = omega (arith, inside (c .before))
-
-mul-target-3 : tie.Need-mul-target-3 Inv-loop μ-loop
-mul-target-3 c = search needs
-
-slice-write-target : tie.Need-slice-write-target Inv-loop μ-loop
-slice-write-target c = omega (arith, room (c .before .before .before))
-
-mul-target-4 : tie.Need-mul-target-4 Inv-loop μ-loop
-mul-target-4 c = search needs
-
-add-target : tie.Need-add-target Inv-loop μ-loop
-add-target c = search needs
-
-mul-target-5 : tie.Need-mul-target-5 Inv-loop μ-loop
-mul-target-5 c = search needs
-
-shared-slice-read-target-2 : tie.Need-shared-slice-read-target-2 Inv-loop μ-loop
-shared-slice-read-target-2 c = omega (arith, inside (c .before .before))
-
-mul-target-6 : tie.Need-mul-target-6 Inv-loop μ-loop
-mul-target-6 c = omega (arith, c .before .before .before .before .before .before .before .before .before .pre .0 .low (2 * (c .before .before .wide .result / 2) + 1))
-
-add-target-2 : tie.Need-add-target-2 Inv-loop μ-loop
-add-target-2 c = omega (arith, c .before .before .before .before .before .before .before .before .before .pre .0 .low (2 * (c .before .before .wide .result / 2) + 1))
-
-add-target-3 : tie.Need-add-target-3 Inv-loop μ-loop
-add-target-3 c = search needs
-
-mul-target-7 : tie.Need-mul-target-7 Inv-loop μ-loop
-mul-target-7 c = search needs
-
-slice-write-target-2 : tie.Need-slice-write-target-2 Inv-loop μ-loop
-slice-write-target-2 c = simp length-set (omega (arith, room (c .before .before .before .before)))
-
-add-to : tie.Need-add-to Inv-loop μ-loop
-add-to c = search needs
+literal-requires : tie.Need-literal-requires Inv-loop μ-loop
+literal-requires c κs =
+    let t = in-loop c in
+    let l = t .before in
+    let s = start l in
+    let low = low-at _ _ (l .loop .i) (s .pre .1) (t .loop-test .taken) in
+    let room = part-room (literalBy (s .args .places .now) (getD (s .args .list .now) (l .loop .i) 0)) _ (left t) (s .pre .0 .room) in
+    (record { low = s .pre .0 .low; room = room }, low)
 
 add-i : tie.Need-add-i Inv-loop μ-loop
 add-i c = search needs
@@ -97,8 +60,8 @@ loop-less c = search needs
 
 loop-again : tie.Need-loop-again Inv-loop μ-loop
 loop-again c =
-    let l = c .before .before .before .before .before .loop in
-    (omega arith, write-two (write-same (literals-next _ _ (l .i) (c .before .before .wide .result) (c .before .before .before .before .loop-test .taken) (c .before .before .wide .ensures .0)) (l .inv .1)))
+    let w = c .before .before in
+    (omega arith, write-part (left (in-loop (w .before))) (w .literal .ensures))
 
 same-length : tie.Need-same-length Inv-loop μ-loop
 same-length c = c .before .loop .inv .1 .size
@@ -117,22 +80,7 @@ literals-spec =
     loop-holds
     mul-l
     shared-slice-read-l
-    wide-requires
-    mul-target
-    mul-target-2
-    shared-slice-read-target
-    mul-target-3
-    slice-write-target
-    mul-target-4
-    add-target
-    mul-target-5
-    shared-slice-read-target-2
-    mul-target-6
-    add-target-2
-    add-target-3
-    mul-target-7
-    slice-write-target-2
-    add-to
+    literal-requires
     add-i
     loop-less
     loop-again

@@ -33,8 +33,27 @@ mul-target-2 c = search needs
 mul-target-3 : tie.Need-mul-target-3
 mul-target-3 c = omega (arith, inside (c .before .before .before))
 
+-- the places of the function
+abbrev at-start : tie.After-shared-slice-known → tie.Start
+at-start c = c .before
+
+abbrev after-shared-slice-known : tie.After-shared-slice-known3 → tie.After-shared-slice-known
+after-shared-slice-known c = c .before .before .before
+
+abbrev after-shared-slice-known3 : tie.After-shared-slice-known4 → tie.After-shared-slice-known3
+after-shared-slice-known3 c = c .before
+
+abbrev at-start-from-shared-slice-known4 : tie.After-shared-slice-known4 → tie.Start
+at-start-from-shared-slice-known4 c = at-start (after-shared-slice-known ((after-shared-slice-known3 c)))
+
+abbrev after-shared-slice-known4 : tie.After-counted-arg → tie.After-shared-slice-known4
+after-shared-slice-known4 c = c .before
+
+abbrev at-start-from-counted-arg : tie.After-counted-arg → tie.Start
+at-start-from-counted-arg c = at-start-from-shared-slice-known4 (after-shared-slice-known4 c)
+
 shared-slice-read-target : tie.Need-shared-slice-read-target
-shared-slice-read-target c = omega (arith, inside (c .before .before .before .before))
+shared-slice-read-target c = omega (arith, inside (at-start (after-shared-slice-known c)))
 
 add-target : tie.Need-add-target
 add-target c = search needs
@@ -43,7 +62,7 @@ mul-target-4 : tie.Need-mul-target-4
 mul-target-4 c = search needs
 
 slice-write-target-2 : tie.Need-slice-write-target-2
-slice-write-target-2 c = simp length-set (omega (arith, room (c .before .before .before .before)))
+slice-write-target-2 c = simp length-set (omega (arith, room (at-start (after-shared-slice-known c))))
 
 mul-target-5 : tie.Need-mul-target-5
 mul-target-5 c = search needs
@@ -52,10 +71,10 @@ add-target-2 : tie.Need-add-target-2
 add-target-2 c = search needs
 
 mul-target-6 : tie.Need-mul-target-6
-mul-target-6 c = omega (arith, inside (c .before .before .before .before))
+mul-target-6 c = omega (arith, inside (at-start (after-shared-slice-known c)))
 
 shared-slice-read-target-2 : tie.Need-shared-slice-read-target-2
-shared-slice-read-target-2 c = omega (arith, inside (c .before .before .before .before .before))
+shared-slice-read-target-2 c = omega (arith, inside (at-start-from-shared-slice-known4 c))
 
 add-target-3 : tie.Need-add-target-3
 add-target-3 c = search needs
@@ -64,14 +83,14 @@ mul-target-7 : tie.Need-mul-target-7
 mul-target-7 c = search needs
 
 slice-write-target-3 : tie.Need-slice-write-target-3
-slice-write-target-3 c = simp length-set (omega (arith, room (c .before .before .before .before .before)))
+slice-write-target-3 c = simp length-set (omega (arith, room (at-start-from-shared-slice-known4 c)))
 
 add-counted : tie.Need-add-counted
 add-counted c = search needs
 
 counted-requires : tie.Need-counted-requires
 counted-requires c κs =
-    let s = c .before .before .before .before .before .before in
+    let s = at-start-from-counted-arg c in
     let r = s .pre .0 .room in
     let a = row-length (s .args .places .now) (s .args .effect) (s .args .conditions .now) in
     let b = counted-length (s .args .places .now) (s .args .conditions .now) in

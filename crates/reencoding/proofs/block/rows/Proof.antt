@@ -1,5 +1,5 @@
-use Prim.Native.Nat.{ℕ, _≤_, _<_, _-_, _+_}
-use mathlib.Core.Path.{_≡_, refl, _∙_}
+use Prim.Native.Nat.{ℕ, _-_}
+use mathlib.Core.Path.{_≡_}
 use mathlib.Core.Bool.{true}
 use native.Mathlib.Omega.{arith}
 use lib.ListN.{length}
@@ -14,18 +14,33 @@ use Rattle.reencoding.proofs.WordLaws.{rows-next, rows-room, rows-first
 use borrow.Author.Needs.{needs}
 use Rattle.reencoding.proofs.block.rows.Statement.{statement}
 use Rattle.reencoding.proofs.block.rows.Tie as tie
-use Rattle.task.proofs.block.row.Reads as block-row-reads′
 
 abbrev Inv-loop : tie.InvT-loop
-Inv-loop block from count places target₀ at to₀ next₀ left₀ target to next left = (parsesAt block next left ≡ true) × ((all (rowRight (atomsOf places)) (rowsAt block next left) ≡ true) × Writing target₀ at (rowsBy places (rowsAt block from count)) target to (rowsBy places (rowsAt block next left)))
+Inv-loop block from count places target₀ at to₀ next₀ left₀ target to next left =
+    (parsesAt block next left ≡ true)
+    × (all (rowRight (atomsOf places)) (rowsAt block next left) ≡ true)
+    × Writing target₀ at (rowsBy places (rowsAt block from count)) target to (rowsBy places (rowsAt block next left))
 
 abbrev μ-loop : tie.MeasureT-loop
 μ-loop block from count places target₀ at to₀ next₀ left₀ target to next left = left
 
+abbrev lent : tie.At-loop Inv-loop μ-loop → tie.After-shared-slice-known2 Inv-loop μ-loop
+lent c = c .before .before
+
+abbrev start : tie.At-loop Inv-loop μ-loop → tie.Start Inv-loop μ-loop
+start c = lent c .before .before
+
+-- where a row is taken apart
+abbrev at : tie.After-row Inv-loop μ-loop → tie.At-loop Inv-loop μ-loop
+at c = c .before .before
+
+abbrev taken : tie.After-row-arg2 Inv-loop μ-loop → tie.After-row Inv-loop μ-loop
+taken c = c .before .before
+
 loop-holds : tie.Need-loop-holds Inv-loop μ-loop
 loop-holds c =
-    let p = c .before .before .before .pre in
-    (p .1, (p .2, write-start))
+    let p = c .before .before .before .pre .1 in
+    (p .parses, p .right, write-start)
 
 row-requires : tie.Need-row-requires Inv-loop μ-loop
 row-requires c κs = (c .before .loop .inv .0, omega arith)
@@ -44,14 +59,15 @@ part-row-end c = c .row .ensures .high
 
 row-requires-2 : tie.Need-row-requires-2 Inv-loop μ-loop
 row-requires-2 c κs =
-    let l = c .before .before .before .before .loop in
-    let s = c .before .before .before .before .before .before .before .before in
-    let r = c .before .before .row .ensures .row in
-    let w = write-room (l .inv .1 .1) (s .pre .0 .room) in
-    let q = rows-room (s .args .places .now) _ _ _ r in
-    let short = part-short (s .args .block .now) (c .before .before .row .result .end - c .before .before .row .result .from) (c .before .before .row .result .from) in
-    let h = s .pre .3 in
-    (record { low = s .pre .0 .low; room = omega arith }, rows-first (s .args .places .now) _ _ _ r _ (l .inv .1 .0), omega arith)
+    let d = taken c in
+    let s = start (at d) in
+    let v = at d .loop .inv in
+    let r = d .row in
+    let room = write-room (v .2) (s .pre .0 .room) in
+    let first = rows-room (s .args .places .now) _ _ _ (r .ensures .row) in
+    let part = part-short (s .args .block .now) (r .result .end - r .result .from) (r .result .from) in
+    let short = s .pre .1 .short in
+    (record { low = s .pre .0 .low; room = omega arith }, rows-first (s .args .places .now) _ _ _ (r .ensures .row) _ (v .1), omega arith)
 
 sub-left : tie.Need-sub-left Inv-loop μ-loop
 sub-left c = search needs
@@ -61,18 +77,20 @@ loop-less c = search needs
 
 loop-again : tie.Need-loop-again Inv-loop μ-loop
 loop-again c =
-    let l = c .before .before .before .before .before .before .before .loop in
-    let s = c .before .before .before .before .before .before .before .before .before .before .before in
-    let r = c .before .before .before .before .before .row .ensures in
-    (r .next, (rows-others (s .args .places .now) _ _ _ (r .row) _ (l .inv .1 .0), write-part (write-same (rows-next _ _ _ _ (r .row)) (l .inv .1 .1)) (c .before .before .row2 .ensures)))
+    let w = c .before .before in
+    let d = taken (w .before) in
+    let v = at d .loop .inv in
+    let r = d .row .ensures in
+    let others = rows-others (start (at d) .args .places .now) _ _ _ (r .row) _ (v .1) in
+    (r .next, others, write-part (write-same (rows-next _ _ _ _ (r .row)) (v .2)) (w .row2 .ensures))
 
 same-length : tie.Need-same-length Inv-loop μ-loop
-same-length c = c .before .loop .inv .1 .1 .size
+same-length c = c .before .loop .inv .2 .size
 
 returns : tie.Need-returns Inv-loop μ-loop
 returns c =
     let l = c .before .loop in
-    write-end (write-same (rows-nothing _ _ (rows-none _ (l .next) (l .left) (omega arith))) (l .inv .1 .1))
+    write-end (write-same (rows-nothing _ _ (rows-none _ (l .next) (l .left) (omega arith))) (l .inv .2))
 
 pub rows-spec : {M : Type 1} → statement M
 rows-spec =

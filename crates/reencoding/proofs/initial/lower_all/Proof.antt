@@ -15,10 +15,64 @@ Inv-loop trues places values₀ i₀ values i = (length values ≡ length values
 abbrev μ-loop : tie.MeasureT-loop
 μ-loop trues places values₀ i₀ values i = length trues - i
 
-low : (c : tie.After-wide Inv-loop μ-loop) → c .wide .result < atomsOf (c .before .before .before .before .before .before .before .args .places .now)
-low c = true-inside _ _ (c .before .before .before .loop .i) (c .wide .result) (c .before .before .before .before .before .before .before .pre .0) (c .before .before .loop-test .taken) (c .wide .ensures .0)
+-- the places of the function
+abbrev at-start : tie.After-shared-slice-known Inv-loop μ-loop → tie.Start Inv-loop μ-loop
+at-start c = c .before
 
-inside : (c : tie.After-wide Inv-loop μ-loop) → 2 * c .wide .result + 1 < length (c .before .before .before .before .before .before .before .args .places .now)
+abbrev after-shared-slice-known : tie.At-loop Inv-loop μ-loop → tie.After-shared-slice-known Inv-loop μ-loop
+after-shared-slice-known c = c .before .before .before
+
+abbrev at-loop : tie.In-loop Inv-loop μ-loop → tie.At-loop Inv-loop μ-loop
+at-loop c = c .before
+
+abbrev at-start-from-loop : tie.In-loop Inv-loop μ-loop → tie.Start Inv-loop μ-loop
+at-start-from-loop c = at-start (after-shared-slice-known ((at-loop c)))
+
+abbrev in-loop : tie.After-wide Inv-loop μ-loop → tie.In-loop Inv-loop μ-loop
+in-loop c = c .before .before
+
+abbrev at-start-from-wide : tie.After-wide Inv-loop μ-loop → tie.Start Inv-loop μ-loop
+at-start-from-wide c = at-start-from-loop (in-loop c)
+
+abbrev after-wide : tie.After-wide2 Inv-loop μ-loop → tie.After-wide Inv-loop μ-loop
+after-wide c = c .before .before .before
+
+abbrev at-start-from-wide2 : tie.After-wide2 Inv-loop μ-loop → tie.Start Inv-loop μ-loop
+at-start-from-wide2 c = at-start-from-wide (after-wide c)
+
+abbrev at-loop-from-wide2 : tie.After-wide2 Inv-loop μ-loop → tie.At-loop Inv-loop μ-loop
+at-loop-from-wide2 c = at-loop (in-loop ((after-wide c)))
+
+abbrev after-wide2 : tie.After-shared-slice-known5 Inv-loop μ-loop → tie.After-wide2 Inv-loop μ-loop
+after-wide2 c = c .before
+
+abbrev at-start-from-shared-slice-known5 : tie.After-shared-slice-known5 Inv-loop μ-loop → tie.Start Inv-loop μ-loop
+at-start-from-shared-slice-known5 c = at-start-from-wide2 (after-wide2 c)
+
+abbrev at-loop-from-shared-slice-known5 : tie.After-shared-slice-known5 Inv-loop μ-loop → tie.At-loop Inv-loop μ-loop
+at-loop-from-shared-slice-known5 c = at-loop-from-wide2 (after-wide2 c)
+
+abbrev in-loop-from-shared-slice-known5 : tie.After-shared-slice-known5 Inv-loop μ-loop → tie.In-loop Inv-loop μ-loop
+in-loop-from-shared-slice-known5 c = in-loop (after-wide ((after-wide2 c)))
+
+abbrev after-shared-slice-known5 : tie.After-slice-known2 Inv-loop μ-loop → tie.After-shared-slice-known5 Inv-loop μ-loop
+after-shared-slice-known5 c = c .before .before .before
+
+abbrev at-loop-from-slice-known2 : tie.After-slice-known2 Inv-loop μ-loop → tie.At-loop Inv-loop μ-loop
+at-loop-from-slice-known2 c = at-loop-from-shared-slice-known5 (after-shared-slice-known5 c)
+
+abbrev after-wide-from-slice-known2 : tie.After-slice-known2 Inv-loop μ-loop → tie.After-wide Inv-loop μ-loop
+after-wide-from-slice-known2 c = after-wide (after-wide2 ((after-shared-slice-known5 c)))
+
+abbrev in-loop-from-slice-known2 : tie.After-slice-known2 Inv-loop μ-loop → tie.In-loop Inv-loop μ-loop
+in-loop-from-slice-known2 c = in-loop-from-shared-slice-known5 (after-shared-slice-known5 c)
+
+low : (c : tie.After-wide Inv-loop μ-loop) → c .wide .result < atomsOf (at-start-from-wide c .args .places .now)
+low c =
+    true-inside _ _ (c .before .before .before .loop .i) (c .wide .result) (at-start-from-wide c .pre .below) (c .before .before .loop-test .taken)
+    (c .wide .ensures .0)
+
+inside : (c : tie.After-wide Inv-loop μ-loop) → 2 * c .wide .result + 1 < length (at-start-from-wide c .args .places .now)
 inside c = place-inside _ _ (low c)
 
 loop-holds : tie.Need-loop-holds Inv-loop μ-loop
@@ -55,10 +109,16 @@ mul-lower-2 : tie.Need-mul-lower-2 Inv-loop μ-loop
 mul-lower-2 c = search needs
 
 shared-slice-read-lower : tie.Need-shared-slice-read-lower Inv-loop μ-loop
-shared-slice-read-lower c = omega (arith, inside (c .before .before .before .before))
+shared-slice-read-lower c = omega (arith, inside (after-wide (after-wide2 c)))
 
 lower-requires : tie.Need-lower-requires Inv-loop μ-loop
-lower-requires c κs = omega (arith, c .before .before .before .before .before .before .before .before .before .before .before .pre .1 (c .before .before .before .before .wide .result) (low (c .before .before .before .before)), c .before .wide2 .ensures .0, c .before .before .before .before .before .before .before .loop .inv .0)
+lower-requires c κs =
+    omega (
+      arith,
+      at-start-from-shared-slice-known5 c .pre .variable (after-wide (after-wide2 c) .wide .result) (low (after-wide (after-wide2 c))),
+      c .before .wide2 .ensures .0,
+      at-loop-from-shared-slice-known5 c .loop .inv .0,
+    )
 
 add-i : tie.Need-add-i Inv-loop μ-loop
 add-i c = search needs
@@ -68,8 +128,13 @@ loop-less c = search needs
 
 loop-again : tie.Need-loop-again Inv-loop μ-loop
 loop-again c =
-    let l = c .before .before .before .before .before .before .before .before .before .before .loop in
-    (c .before .before .lower .kept .0 ∙ l .inv .0, l .inv .1 ∙ lowered-next _ _ (l .values) (l .i) (c .before .before .before .before .before .before .before .wide .result) (c .before .before .before .before .wide2 .result) _ (c .before .before .before .before .before .before .before .before .before .loop-test .taken) (c .before .before .before .before .before .before .before .wide .ensures .0) (c .before .before .before .before .wide2 .ensures .0) (c .before .before .lower .ensures))
+    let l = at-loop-from-slice-known2 c .loop in (
+      c .before .before .lower .kept .0 ∙ l .inv .0,
+      l .inv .1
+          ∙ lowered-next _ _ (l .values) (l .i) (after-wide-from-slice-known2 c .wide .result) (after-wide2 (after-shared-slice-known5 c) .wide2 .result)
+          _ (in-loop-from-slice-known2 c .loop-test .taken) (after-wide-from-slice-known2 c .wide .ensures .0)
+          (after-wide2 (after-shared-slice-known5 c) .wide2 .ensures .0) (c .before .before .lower .ensures),
+    )
 
 same-length : tie.Need-same-length Inv-loop μ-loop
 same-length c = c .before .loop .inv .0

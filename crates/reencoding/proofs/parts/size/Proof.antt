@@ -47,12 +47,26 @@ add-result-4 c = search needs
 blocks-size-requires : tie.Need-blocks-size-requires
 blocks-size-requires c κs = search needs
 
+-- the places of the function
+abbrev at-start : tie.After-goal → tie.Start
+at-start c = c .before .before
+
+abbrev after-goal : tie.After-blocks-size → tie.After-goal
+after-goal c = c .before .before .before
+
 add-result-5 : tie.Need-add-result-5
-add-result-5 c = omega (arith, sizes-most _ (c .before .before .before .before .before .pre .0), c .blocks-size .ensures, ap length (c .before .before .before .goal .ensures))
+add-result-5 c = omega (arith, sizes-most _ (at-start (after-goal c) .pre .0), c .blocks-size .ensures, ap length (c .before .before .before .goal .ensures))
 
 returns : tie.Need-returns
 unfolding imageSize lengthsOf partsStart sum
-returns c = omega (arith, c .blocks-size .ensures, ap length (c .before .before .before .goal .ensures), c .before .atoms .ensures .0, c .before .before .operators .ensures .0)
+returns c =
+    omega (
+      arith,
+      c .blocks-size .ensures,
+      ap length (c .before .before .before .goal .ensures),
+      c .before .atoms .ensures .0,
+      c .before .before .operators .ensures .0,
+    )
 
 pub size-spec : {M : Type 1} → statement M
 size-spec =
