@@ -1,7 +1,7 @@
--- The checker's questions in turn. Assumes nothing.
+-- The checker's questions one after the other. Assumes nothing.
 use mathlib.Core.Bool.{Bool, true, false}
 use mathlib.Core.Option.{Option, none, some}
-use mathlib.Core.Path.{_≡_, refl, sym, _∙_, ap}
+use mathlib.Core.Path.{_≡_, refl, sym, _∙_, ap, subst}
 use mathlib.Core.List.{List}
 use Prim.Native.Nat.{ℕ, _+_, _*_, _≤_, _<_}
 use native.Mathlib.Numerals.{add-one}
@@ -10,18 +10,20 @@ use lib.ListN.{length, getD, drop, drop-of-length-le}
 use borrow.Author.Tests.{le-leb, lt-leb}
 use Rattle.definitions.specs.Lists.{firstFail}
 use Rattle.definitions.specs.Answer.{Refusal, Answer, finding, refused, refuse, verdict, ask, askAt, _>>=_}
-use Rattle.definitions.specs.Literal.{holdsIn}
+use Rattle.definitions.specs.Literal.{mostAtoms, holdsIn}
 use Rattle.definitions.specs.Image.{Task, initialState, readTask}
 use Rattle.definitions.specs.Clauses.{readClauses}
 use Rattle.definitions.specs.Checker.{askTrue, askKept, accept, Accepted, check}
 use Rattle.definitions.proofs.Walks.{left-here}
-use Rattle.answer.specs.Answer.{refusalAt}
-use Rattle.clause.specs.Rows.{clausesOf}
+use Rattle.definitions.proofs.AnswerLaws.{not-finding}
+use Rattle.answer.specs.Answer.{refusalAt, verdictAnswer}
+use Rattle.answer.specs.declared.Verdict.{Verdict}
+use Rattle.answer.specs.declared.Verdict.the-variants.{Fine, Refused}
+use Rattle.clause.specs.Rows.{clausesOf, ClausesRead}
 use Rattle.answer.proofs.Laws.{verdict-refused}
-use Rattle.clause.proofs.ReadLaws.{read-fine}
 use Rattle.task.specs.Reads.{taskOf, Reads}
-use Rattle.task.proofs.Questions.{reads}
-use Rattle.checker.specs.Search.{falseAnswer, Read}
+use Rattle.judge.specs.Promise.{Read}
+use Rattle.checker.specs.Search.{falseAnswer, Reading, Input}
 
 -- ---- the walk to the first element that fails
 module _ {A : Type 0} (p : A → Bool) (xs : List A) (i : ℕ) where
@@ -54,43 +56,53 @@ false-true t C s h = rw h (go (firstFail (holdsIn (initialState t)) 0 C))
     go none = refl
     go (some i) = refl
 
--- ---- the questions in turn
+-- ---- the questions one after the other
 module _ (w c : List ℕ) (marks : ℕ) where
   pub check-task : (r : Refusal) → refused r ≡ verdict (readTask w) → refused r ≡ verdict (check w c marks)
   unfolding check _>>=_ verdict
   check-task r h = rw (verdict-refused (readTask w) r (sym h))
 
-  pub check-set : (n : ℕ) → Reads w → n ≡ taskOf w .atoms → (r : Refusal) → refused r ≡ verdict (readClauses n c) → refused r ≡ verdict (check w c marks)
+  pub check-set :
+      (atoms : ℕ) → Reads w → atoms ≡ taskOf w .atoms → (r : Refusal) → refused r ≡ verdict (readClauses atoms c)
+      → refused r ≡ verdict (check w c marks)
   unfolding check _>>=_ verdict
-  check-set n task atoms r h = rw (task .found, verdict-refused (readClauses (taskOf w .atoms) c) r (sym (rw atoms at h)))
+  check-set atoms task counted r h = rw (task .found, verdict-refused (readClauses (taskOf w .atoms) c) r (sym (rw counted at h)))
 
-  module _ (n : ℕ) (read : Read w c n) where
-    set′ : readClauses (taskOf w .atoms) c ≡ finding (clausesOf c)
-    set′ = rw (read .atoms) at (read .clauses .read)
-
-    pub check-marks : marks < 2 * n → refused (refusalAt 13 0 0) ≡ verdict (check w c marks)
+  module _ (task : Reads w) (clauses : ClausesRead (taskOf w .atoms) c) where
+    check-marks : marks < 2 * taskOf w .atoms → refused (refusalAt 13 0 0) ≡ verdict (check w c marks)
     unfolding check _>>=_ ask askAt verdict
-    check-marks h = rw (read .task .found, set′, lt-leb (2 * taskOf w .atoms) marks (rw (read .atoms) at h))
+    check-marks h = rw (task .found, clauses .read, lt-leb (2 * taskOf w .atoms) marks h)
 
-    module _ (room : 2 * n ≤ marks) where
-      room′ : leb (2 * taskOf w .atoms) marks ≡ true
-      room′ = le-leb (2 * taskOf w .atoms) marks (rw (read .atoms) at room)
+    pub input-marks : (r : Verdict) → verdictAnswer r ≡ refused (refusalAt 13 0 0) → marks < 2 * taskOf w .atoms → Input w c marks r
+    input-marks Fine e h = absurd (not-finding (sym e))
+    input-marks (Refused f) e h = e ∙ check-marks h
 
-      pub check-initial : (r : Refusal) → refused r ≡ askTrue (taskOf w) (clausesOf c) → refused r ≡ verdict (check w c marks)
-      unfolding check accept _>>=_ ask askAt verdict
-      check-initial r h = rw (read .task .found, set′, room′, sym h)
+  module _ (r : Reading w c marks) where
+    room : leb (2 * taskOf w .atoms) marks ≡ true
+    room = le-leb (2 * taskOf w .atoms) marks (r .marked)
 
-      pub check-kept : finding tt ≡ askTrue (taskOf w) (clausesOf c) → (a : Answer (Unit {0})) → a ≡ askKept (taskOf w) (clausesOf c) 0 (clausesOf c) → a ≡ verdict (check w c marks)
-      unfolding check accept _>>=_ ask askAt verdict
-      check-kept h a e = e ∙ rw (read .task .found, set′, room′, sym h) (go (askKept (taskOf w) (clausesOf c) 0 (clausesOf c)))
-        where
-          x : Accepted
-          x = record { task = taskOf w; clauses = clausesOf c }
+    pub check-initial : (x : Refusal) → refused x ≡ askTrue (taskOf w) (clausesOf c) → refused x ≡ verdict (check w c marks)
+    unfolding check accept _>>=_ ask askAt verdict
+    check-initial x h = rw (r .task .found, r .clauses .read, room, sym h)
 
-          go : (a : Answer (Unit {0})) → a ≡ verdict (a >>= λ _. finding x)
-          go (finding tt) = refl
-          go (refused r) = refl
+    pub check-kept :
+        finding tt ≡ askTrue (taskOf w) (clausesOf c) → askKept (taskOf w) (clausesOf c) 0 (clausesOf c) ≡ verdict (check w c marks)
+    unfolding check accept _>>=_ ask askAt verdict
+    check-kept h = rw (r .task .found, r .clauses .read, room, sym h) (go (askKept (taskOf w) (clausesOf c) 0 (clausesOf c)))
+      where
+        x : Accepted
+        x = record { task = taskOf w; clauses = clausesOf c }
 
--- what both readings tell
-pub read-both : (w c : List ℕ) (n : ℕ) → finding tt ≡ verdict (readTask w) → (n ≡ taskOf w .atoms) × (n ≤ 1024) → finding tt ≡ verdict (readClauses n c) → Read w c n
-read-both w c n task atoms set = record { task = reads w task; atoms = atoms .0; few = atoms .1; clauses = read-fine n c tt (sym set) }
+        go : (a : Answer (Unit {0})) → a ≡ verdict (a >>= λ _. finding x)
+        go (finding tt) = refl
+        go (refused r) = refl
+
+    -- what is read, of a number of atoms
+    pub read-both : (atoms : ℕ) → atoms ≡ taskOf w .atoms → atoms ≤ mostAtoms → Read w c atoms
+    read-both atoms counted few =
+        record {
+          task = r .task;
+          counted = counted;
+          few = few;
+          clauses = subst (λ (k : ℕ). ClausesRead k c) (sym counted) (r .clauses);
+        }

@@ -1,9 +1,9 @@
 -- The first rows of clause words. Assumes nothing.
 use mathlib.Core.Path.{_≡_, sym, _∙_, ap, subst}
-use mathlib.Core.List.{List, []}
+use mathlib.Core.List.{List, [], _++_}
 use Prim.Native.Nat.{ℕ, _+_, _*_, _≤_, _<_}
 use native.Mathlib.Omega.{arith}
-use lib.ListN.{length, take, drop, take-append-drop, length-drop}
+use lib.ListN.{length, take, drop, take-append-drop, length-append, length-drop}
 use lib.Seq.{length-take-le, take-append-le, drop-append-le, getD-take, ext-getD}
 use Rattle.definitions.specs.Clauses.{width, mostRows, clauseOf, clauseRight, rowAt}
 use Rattle.clause.specs.Rows.{rowCount, clausesOf, ClausesRead}
@@ -54,14 +54,29 @@ module _ (w : List ℕ) (low : ℕ) (inside : low ≤ rowCount w) where
       let l : i < low = omega arith in
       clauses-at v i (omega (arith, prefix-count)) ∙ ap clauseOf (prefix-row i l) ∙ sym (getD-take low (clausesOf w) i [] l ∙ clauses-at w i (omega arith)))
 
-  pub prefix-judged : (n : ℕ) → ClausesRead n w → Judged n (take (width * low) w)
-  prefix-judged n read = record { right = λ i h. let l : i < low = omega (arith, prefix-count) in ap (clauseRight n) (prefix-row i l) ∙ read-right n w read .right i (omega arith) }
+  pub prefix-judged : (atoms : ℕ) → ClausesRead atoms w → Judged atoms (take (width * low) w)
+  prefix-judged atoms read =
+      record {
+        right =
+            λ i h.
+            let l : i < low = omega (arith, prefix-count) in
+            ap (clauseRight atoms) (prefix-row i l) ∙ read-right atoms w read .right i (omega arith);
+      }
 
   -- the flags of the first rows' clauses
-  pub prefix-first : (n i : ℕ) (C : List (List ℕ)) (o o′ : Operator) (s s′ : List ℕ) → FirstFlag s i → s ≡ s′ → s′ ≡ failFlags n C o (clausesOf (take (width * low) w)) → o ≡ o′ → FirstFlag (failFlags n C o′ (take low (clausesOf w))) i
-  prefix-first n i C o o′ s s′ first e f eo = subst (λ (l : List ℕ). FirstFlag l i) (e ∙ f ∙ rw (prefix-clauses, eo)) first
+  pub prefix-first :
+      (atoms i : ℕ) (C : List (List ℕ)) (o o′ : Operator) (s : List ℕ) → FirstFlag s i
+      → s ≡ failFlags atoms C o (clausesOf (take (width * low) w)) → o ≡ o′ → FirstFlag (failFlags atoms C o′ (take low (clausesOf w))) i
+  prefix-first atoms i C o o′ s first f eo = subst (λ (l : List ℕ). FirstFlag l i) (f ∙ rw (prefix-clauses, eo)) first
 
 -- clauses that are read have no more rows than a buffer of flags
-pub few-rows : (n : ℕ) (w : List ℕ) (k : ℕ) → ClausesRead n w → k ≡ 10000 → rowCount w ≤ k
-unfolding rowCount width mostRows
-few-rows n w k read h = let few = read-few n w read in omega arith
+pub few-rows : (atoms : ℕ) (w : List ℕ) (k : ℕ) → ClausesRead atoms w → k ≡ mostRows → rowCount w ≤ k
+unfolding rowCount width
+few-rows atoms w k read h =
+    let few = read-few atoms w read in
+    omega arith
+
+-- a buffer whose first part was lent and came back
+pub part-kept :
+    (e : ℕ) (a x : List ℕ) → e ≤ length a → length x ≡ length (take e a) → length (x ++ drop e a) ≡ length a
+part-kept e a x room kept = omega (arith, length-append x (drop e a), length-drop e a, length-take-le e a room)

@@ -27,7 +27,9 @@ module _ {A : Type 0} (p : A → Bool) (d : A) where
   first-none i [] h = refl
   first-none i (x ∷ xs) h = rw (h 0 (omega arith), firstFail) (first-none (suc i) xs (λ k l. h (suc k) (omega arith)))
 
-  pub first-some : (i : ℕ) (xs : List A) (j : ℕ) → j < length xs → ((k : ℕ) → k < j → p (getD xs k d) ≡ true) → p (getD xs j d) ≡ false → firstFail p i xs ≡ some (i + j)
+  pub first-some :
+      (i : ℕ) (xs : List A) (j : ℕ) → j < length xs → ((k : ℕ) → k < j → p (getD xs k d) ≡ true) → p (getD xs j d) ≡ false
+      → firstFail p i xs ≡ some (i + j)
   unfolding firstFail
   first-some i [] j low h f = absurd (omega arith)
   first-some i (x ∷ xs) zero low h f = rw (f, firstFail, add-zero)
@@ -41,7 +43,9 @@ module _ (t : Task) (C : List (List ℕ)) where
   kept-below i [] h = refl
   kept-below i (f ∷ D) h = rw (h 0 (omega arith), askKept) (kept-below (suc i) D (λ k l. h (suc k) (omega arith)))
 
-  kept-until : (i : ℕ) (D : List (List ℕ)) (low under : ℕ) → low < length D → ((k : ℕ) → k < low → failsUnder t C (getD D k []) ≡ none) → failsUnder t C (getD D low []) ≡ some under → askKept t C i D ≡ refuse 11 (i + low) under
+  kept-until :
+      (i : ℕ) (D : List (List ℕ)) (low under : ℕ) → low < length D → ((k : ℕ) → k < low → failsUnder t C (getD D k []) ≡ none)
+      → failsUnder t C (getD D low []) ≡ some under → askKept t C i D ≡ refuse 11 (i + low) under
   unfolding askKept
   kept-until i [] low under l h f = absurd (omega arith)
   kept-until i (g ∷ D) zero under l h f = rw (f, askKept, add-zero)
@@ -65,16 +69,23 @@ module _ (t : Task) (C : List (List ℕ)) where
     search-failed h = kept-until 0 C low under h all-keep (s .fails h) ∙ ap (λ n. refuse 11 n under) (zero-add low)
 
   -- one operator more: the flags of the clauses below `low`, and the first of them
-  module _ (j low under : ℕ) (s : Searched t C j low under) (i : ℕ) (flags : List ℕ) (judged : flags ≡ failFlags (t .atoms) C (operatorAt t j) (take low C)) (first : FirstFlag flags i) where
+  module _
+      (j low under : ℕ) (s : Searched t C j low under) (i : ℕ) (flags : List ℕ)
+      (judged : flags ≡ failFlags (t .atoms) C (operatorAt t j) (take low C)) (first : FirstFlag flags i) where
     flags-length : length flags ≡ low
     unfolding failFlags
     flags-length = ap length judged ∙ length-map (take low C) (λ f. bit (not (kept (t .atoms) C (operatorAt t j) f))) ∙ length-take-le low C (s .inside)
 
     flag-at : (k : ℕ) → k < low → getD flags k 0 ≡ bit (not (kept (t .atoms) C (operatorAt t j) (getD C k [])))
     unfolding failFlags
-    flag-at k h = ap (λ l. getD l k 0) judged ∙ go (take low C) k (subst (λ (z : ℕ). k < z) (sym (length-take-le low C (s .inside))) h) ∙ ap (λ f. bit (not (kept (t .atoms) C (operatorAt t j) f))) (getD-take low C k [] h)
+    flag-at k h =
+        ap (λ l. getD l k 0) judged
+        ∙ go (take low C) k (subst (λ (z : ℕ). k < z) (sym (length-take-le low C (s .inside))) h)
+        ∙ ap (λ f. bit (not (kept (t .atoms) C (operatorAt t j) f))) (getD-take low C k [] h)
       where
-        go : (D : List (List ℕ)) (k : ℕ) → k < length D → getD (map (λ f. bit (not (kept (t .atoms) C (operatorAt t j) f))) D) k 0 ≡ bit (not (kept (t .atoms) C (operatorAt t j) (getD D k [])))
+        go :
+            (D : List (List ℕ)) (k : ℕ) → k < length D
+            → getD (map (λ f. bit (not (kept (t .atoms) C (operatorAt t j) f))) D) k 0 ≡ bit (not (kept (t .atoms) C (operatorAt t j) (getD D k [])))
         go [] k h = absurd (omega arith)
         go (f ∷ D) zero h = refl
         go (f ∷ D) (suc k) h = go D k (omega arith)
@@ -116,26 +127,34 @@ module _ (t : Task) (C : List (List ℕ)) where
         record {
           inside = let a = s .inside in omega arith;
           keeps = keeps-more i (omega arith) (omega arith);
-          fails = λ _. first-some (λ o. kept (t .atoms) C o (getD C i [])) noOperator 0 (t .operators) j more (λ k l. s .keeps i k h l) (fails-here h) ∙ ap some (zero-add j);
+          fails =
+              λ _. first-some (λ o. kept (t .atoms) C o (getD C i [])) noOperator 0 (t .operators) j more (λ k l. s .keeps i k h l) (fails-here h)
+              ∙ ap some (zero-add j);
         }
 
--- one operator more, over n atoms
-module _ (t : Task) (C : List (List ℕ)) (n j low under i : ℕ) (atoms : n ≡ t .atoms) (s : Searched t C j low under) (first : FirstFlag (failFlags n C (operatorAt t j) (take low C)) i) where
+-- one operator more, over so many atoms
+module _
+    (t : Task) (C : List (List ℕ)) (atoms j low under i : ℕ) (counted : atoms ≡ t .atoms) (s : Searched t C j low under)
+    (first : FirstFlag (failFlags atoms C (operatorAt t j) (take low C)) i) where
   first′ : FirstFlag (failFlags (t .atoms) C (operatorAt t j) (take low C)) i
-  first′ = subst (λ (N : ℕ). FirstFlag (failFlags N C (operatorAt t j) (take low C)) i) atoms first
+  first′ = subst (λ (N : ℕ). FirstFlag (failFlags N C (operatorAt t j) (take low C)) i) counted first
 
-  pub turn-same : low ≤ i → Searched t C (j + 1) low under
-  turn-same h = search-same t C j low under s i (failFlags (t .atoms) C (operatorAt t j) (take low C)) refl first′ h
+  pub operator-same : low ≤ i → Searched t C (j + 1) low under
+  operator-same h = search-same t C j low under s i (failFlags (t .atoms) C (operatorAt t j) (take low C)) refl first′ h
 
-  pub turn-lower : j < length (t .operators) → i < low → Searched t C (j + 1) i j
-  turn-lower more h = search-lower t C j low under s i (failFlags (t .atoms) C (operatorAt t j) (take low C)) refl first′ more h
+  pub operator-lower : j < length (t .operators) → i < low → Searched t C (j + 1) i j
+  operator-lower more h = search-lower t C j low under s i (failFlags (t .atoms) C (operatorAt t j) (take low C)) refl first′ more h
 
 pub search-begins : (t : Task) (C : List (List ℕ)) (low : ℕ) → low ≡ length C → Searched t C 0 low 0
 search-begins t C low h = subst (λ (k : ℕ). Searched t C 0 k 0) (sym h) (search-starts t C)
 
-pub search-ends : (t : Task) (C : List (List ℕ)) (j low under : ℕ) → j ≡ length (t .operators) → Searched t C j low under → Searched t C (length (t .operators)) low under
+pub search-ends :
+    (t : Task) (C : List (List ℕ)) (j low under : ℕ) → j ≡ length (t .operators) → Searched t C j low under
+    → Searched t C (length (t .operators)) low under
 search-ends t C j low under h s = subst (λ (k : ℕ). Searched t C k low under) h s
 
-pub search-refused : (t : Task) (C : List (List ℕ)) (low under : ℕ) → Searched t C (length (t .operators)) low under → low < length C → askKept t C 0 C ≡ refused (refusalAt 11 low under)
+pub search-refused :
+    (t : Task) (C : List (List ℕ)) (low under : ℕ) → Searched t C (length (t .operators)) low under → low < length C
+    → askKept t C 0 C ≡ refused (refusalAt 11 low under)
 unfolding refuse
 search-refused t C low under s h = search-failed t C low under s h

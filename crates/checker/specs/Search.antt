@@ -3,15 +3,18 @@ use mathlib.Core.Bool.{true}
 use mathlib.Core.List.{List, []}
 use mathlib.Core.Option.{Option, none, some}
 use mathlib.Core.Path.{_≡_}
-use Prim.Native.Nat.{ℕ, _≤_, _<_}
+use Prim.Native.Nat.{ℕ, _*_, _≤_, _<_}
 use lib.ListN.{length, getD}
-use Rattle.definitions.specs.Answer.{Answer, finding, refuse}
+use Rattle.definitions.specs.Answer.{Answer, finding, refused, refuse, verdict}
 use Rattle.definitions.specs.Image.{Task}
 use Rattle.definitions.specs.Step.{operatorAt}
 use Rattle.definitions.specs.Kept.{kept}
-use Rattle.definitions.specs.Checker.{failsUnder}
+use Rattle.definitions.specs.Checker.{failsUnder, check}
+use Rattle.answer.specs.Answer.{placed}
+use Rattle.answer.specs.declared.Verdict as verdicts
 use Rattle.task.specs.Reads.{taskOf, Reads}
-use Rattle.clause.specs.Rows.{ClausesRead}
+use Rattle.clause.specs.Rows.{rowCount, ClausesRead}
+use Rattle.judge.specs.Promise.{Read}
 
 -- the first flag, or the end where there is none
 pub record FirstFlag (flags : List ℕ) (i : ℕ) : Type 0 where
@@ -30,9 +33,20 @@ unfoldable pub falseAnswer : Option ℕ → Answer (Unit {0})
 falseAnswer none = finding tt
 falseAnswer (some i) = refuse 10 i 0
 
--- the image and the clauses are read
-pub record Read (w c : List ℕ) (n : ℕ) : Type 0 where
+-- what is asked to judge the first clauses under an operator, with so many marks, and a flag for each of them
+pub record Judging (w c : List ℕ) (atoms operator marks flags : ℕ) : Type 0 where
+  pub read : Read w c atoms
+  pub operator-of : operator < length (taskOf w .operators)
+  pub marked : 2 * atoms ≤ marks
+  pub inside : flags ≤ rowCount c
+
+-- questions 1 to 9 and 13 are answered yes
+pub record Reading (w c : List ℕ) (marks : ℕ) : Type 0 where
   pub task : Reads w
-  pub atoms : n ≡ taskOf w .atoms
-  pub few : n ≤ 1024
-  pub clauses : ClausesRead n c
+  pub clauses : ClausesRead (taskOf w .atoms) c
+  pub marked : 2 * taskOf w .atoms ≤ marks
+
+-- what the answer to these questions says
+abbrev pub Input : List ℕ → List ℕ → ℕ → verdicts.Verdict → Type 0
+Input w c marks verdicts.the-variants.Fine = Reading w c marks
+Input w c marks (verdicts.the-variants.Refused f) = refused (placed f) ≡ verdict (check w c marks)

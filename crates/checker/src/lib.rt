@@ -1,6 +1,6 @@
 // The checker: whether every clause of a set holds initially and is kept under every operator.
 ghost use mathlib.Core.Path.{_≡_};
-ghost use Prim.Native.Nat.{_*_, _≤_, _<_};
+ghost use Prim.Native.Nat.{_*_, _≤_};
 ghost use lib.ListN.{length, take};
 ghost use Rattle.definitions.specs.Lists.{firstFail};
 ghost use Rattle.definitions.specs.Answer.{refused, verdict};
@@ -11,24 +11,11 @@ ghost use Rattle.answer.specs.Answer.{refusalAt, verdictAnswer};
 ghost use Rattle.task.specs.Reads.{taskOf};
 ghost use Rattle.clause.specs.Rows.{rowCount, clausesOf};
 ghost use Rattle.judge.specs.Judging.{failFlags};
-ghost use Rattle.checker.specs.Search.{falseAnswer, FirstFlag, Read};
+ghost use Rattle.judge.specs.Promise.{Read};
+ghost use Rattle.checker.specs.Search.{falseAnswer, FirstFlag, Judging, Reading, Input};
 use answer::Refusal;
 use answer::Verdict;
 use clause::WIDTH;
-
-// Room for a state.
-fn state_room() -> [u8; 1024]
-    ensures { λ r. ⌜ length r ≡ 1024 ⌝ }
-{
-    [0u8; 1024]
-}
-
-// Room for a flag for each clause.
-fn flag_room() -> [u8; 10000]
-    ensures { λ r. ⌜ length r ≡ 10000 ⌝ }
-{
-    [0u8; 10000]
-}
 
 // Whether all clauses hold in a state, or the lowest that is false there.
 pub fn check_true(clauses: &[u16], state: &[u8]) -> Verdict
@@ -46,13 +33,13 @@ pub fn check_true(clauses: &[u16], state: &[u8]) -> Verdict
 }
 
 // Question 10.
-fn check_initial(image: &[u16], clauses: &[u16], n: usize) -> Verdict
-    requires { ⌜ Read (now image) (now clauses) n ⌝ }
+fn check_initial(image: &[u16], clauses: &[u16], atoms: usize) -> Verdict
+    requires { ⌜ Read (now image) (now clauses) atoms ⌝ }
     ensures { λ r. ⌜ verdictAnswer r ≡ askTrue (taskOf (now (image .entry))) (clausesOf (now (clauses .entry))) ⌝ }
 {
-    let mut state = state_room();
-    state::write_initial(image, &mut state[..n]);
-    check_true(clauses, &state[..n])
+    let mut state = literal::room::state();
+    state::write_initial(image, &mut state[..atoms]);
+    check_true(clauses, &state[..atoms])
 }
 
 // The place of the first flag, or the number of flags where there is none.
@@ -69,23 +56,22 @@ fn first_flag(flags: &[u8]) -> usize
     i
 }
 
-// The lowest of the first `low` clauses that is not kept under an operator, or `low` where all are.
+// The lowest of the first clauses, one for each flag, that is not kept under an operator, or their number where all are.
 fn first_failing(
     image: &[u16],
     clauses: &[u16],
-    n: usize,
+    atoms: usize,
     operator: usize,
-    low: usize,
     marks: &mut [u8],
     fails: &mut [u8],
 ) -> usize
-    requires { ⌜ Read (now image) (now clauses) n × (operator < length (taskOf (now image) .operators)) × (low ≤ rowCount (now clauses)) × (2 * n ≤ length (now marks)) × (rowCount (now clauses) ≤ length (now fails)) ⌝ }
-    ensures { λ r. ⌜ FirstFlag (failFlags n (clausesOf (now (clauses .entry))) (operatorAt (taskOf (now (image .entry))) operator) (take low (clausesOf (now (clauses .entry))))) r ⌝ }
+    requires { ⌜ Judging (now image) (now clauses) atoms operator (length (now marks)) (length (now fails)) ⌝ }
+    ensures { λ r. ⌜ FirstFlag (failFlags atoms (clausesOf (now (clauses .entry))) (operatorAt (taskOf (now (image .entry))) operator) (take (length (now (fails .entry))) (clausesOf (now (clauses .entry))))) r ⌝ }
 {
     let block = task::operator_block(image, operator);
-    let end = WIDTH * low;
-    judge::bulk::judge(clauses, &clauses[..end], block, marks, n, &mut fails[..low]);
-    first_flag(&fails[..low])
+    let end = WIDTH * fails.len();
+    judge::bulk::judge(clauses, &clauses[..end], block, marks, atoms, fails);
+    first_flag(fails)
 }
 
 // The refusal of question 11.
@@ -103,11 +89,11 @@ fn refuse_kept(low: usize, under: usize) -> Verdict
 fn check_kept(
     image: &[u16],
     clauses: &[u16],
-    n: usize,
+    atoms: usize,
     marks: &mut [u8],
     fails: &mut [u8],
 ) -> Verdict
-    requires { ⌜ Read (now image) (now clauses) n × (2 * n ≤ length (now marks)) × (rowCount (now clauses) ≤ length (now fails)) ⌝ }
+    requires { ⌜ Read (now image) (now clauses) atoms × (2 * atoms ≤ length (now marks)) × (rowCount (now clauses) ≤ length (now fails)) ⌝ }
     ensures { λ r. ⌜ verdictAnswer r ≡ askKept (taskOf (now (image .entry))) (clausesOf (now (clauses .entry))) 0 (clausesOf (now (clauses .entry))) ⌝ }
 {
     let count = clause::rows(clauses);
@@ -116,7 +102,7 @@ fn check_kept(
     let mut under: usize = 0;
     let mut operator: usize = 0;
     while operator < operators {
-        let first = first_failing(image, clauses, n, operator, low, marks, fails);
+        let first = first_failing(image, clauses, atoms, operator, marks, &mut fails[..low]);
         let judged = operator;
         operator += 1;
         if low <= first {
@@ -131,26 +117,46 @@ fn check_kept(
     Verdict::Fine
 }
 
-// Whether a set of clauses is accepted: questions 1 to 9, 13, 10, 11.
-pub fn accept(image: &[u16], clauses: &[u16], marks: &mut [u8]) -> Verdict
-    ensures { λ r. ⌜ verdictAnswer r ≡ verdict (check (now (image .entry)) (now (clauses .entry)) (length (now (marks .entry)))) ⌝ }
+// Questions 1 to 9 and 13, of so many marks.
+fn check_input(image: &[u16], clauses: &[u16], marks: usize) -> Verdict
+    ensures { λ r. ⌜ Input (now (image .entry)) (now (clauses .entry)) marks r ⌝ }
 {
     let read = task::read(image);
     if let Verdict::Refused(f) = read {
         return Verdict::Refused(f);
     }
-    let n = task::atoms(image);
-    let set = clause::check_rows(clauses, n);
-    if let Verdict::Refused(f) = set {
+    let atoms = task::atoms(image);
+    let rows = clause::check_rows(clauses, atoms);
+    if let Verdict::Refused(f) = rows {
         return Verdict::Refused(f);
     }
-    if marks.len() < 2 * n {
+    if marks < 2 * atoms {
         return answer::refuse(Refusal::BUFFERS);
     }
-    let initial = check_initial(image, clauses, n);
+    Verdict::Fine
+}
+
+// Questions 10 and 11.
+fn check_set(image: &[u16], clauses: &[u16], marks: &mut [u8]) -> Verdict
+    requires { ⌜ Reading (now image) (now clauses) (length (now marks)) ⌝ }
+    ensures { λ r. ⌜ verdictAnswer r ≡ verdict (check (now (image .entry)) (now (clauses .entry)) (length (now (marks .entry)))) ⌝ }
+{
+    let atoms = task::atoms(image);
+    let initial = check_initial(image, clauses, atoms);
     if let Verdict::Refused(f) = initial {
         return Verdict::Refused(f);
     }
-    let mut fails = flag_room();
-    check_kept(image, clauses, n, marks, &mut fails[..])
+    let mut fails = clause::flags_room();
+    check_kept(image, clauses, atoms, marks, &mut fails[..])
+}
+
+// Whether a set of clauses is accepted: questions 1 to 9, 13, 10, 11.
+pub fn accept(image: &[u16], clauses: &[u16], marks: &mut [u8]) -> Verdict
+    ensures { λ r. ⌜ verdictAnswer r ≡ verdict (check (now (image .entry)) (now (clauses .entry)) (length (now (marks .entry)))) ⌝ }
+{
+    let input = check_input(image, clauses, marks.len());
+    if let Verdict::Refused(f) = input {
+        return Verdict::Refused(f);
+    }
+    check_set(image, clauses, marks)
 }

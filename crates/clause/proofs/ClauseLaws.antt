@@ -10,7 +10,7 @@ use lib.Dec.{eqb, ltb}
 use lib.ListN.{length, getD}
 use borrow.Author.Tests.{ltb-true}
 use Rattle.definitions.specs.Lists.{any, empty, ascending, compareWords, isSame}
-use Rattle.definitions.specs.Literal.{atom, fill, allBelow, literalList}
+use Rattle.definitions.specs.Literal.{mostAtoms, atom, fill, allBelow, literalList}
 use Rattle.definitions.specs.Clauses.{width, rowOf, clauseOf, clauseRight, rowLess, rowAt}
 use Rattle.definitions.specs.Groups.{hasClause}
 use Rattle.definitions.proofs.ListLaws.{decide, and-left, and-right, and-both, all-at, any-in, any-of}
@@ -46,7 +46,9 @@ module _ (N : ℕ) (row : List ℕ) (right : clauseRight N row ≡ true) where
   pub right-row : rowOf (clauseOf row) ≡ row
   unfolding clauseRight
   right-row =
-      sym (same-words row (rowOf (clauseOf row)) (and-right (not (empty (clauseOf row)) && literalList N (clauseOf row)) (isSame (compareWords row (rowOf (clauseOf row)))) right))
+      sym
+      (same-words row (rowOf (clauseOf row))
+      (and-right (not (empty (clauseOf row)) && literalList N (clauseOf row)) (isSame (compareWords row (rowOf (clauseOf row)))) right))
 
   pub right-list : literalList N (clauseOf row) ≡ true
   unfolding clauseRight
@@ -83,7 +85,7 @@ right-good N row wide right =
       most = (let h = clause-short row in omega arith);
     }
 
-module _ (N : ℕ) (f : List ℕ) (few : N ≤ 1024) where
+module _ (N : ℕ) (f : List ℕ) (few : N ≤ mostAtoms) where
   -- the clause of the row of a clause
   pub row-back : allBelow (2 * N) f ≡ true → clauseOf (rowOf f) ≡ f
   unfolding rowOf
@@ -112,7 +114,8 @@ module _ (N : ℕ) (w : List ℕ) (rows : RightRows N w) where
   in-up i (suc zero) h = rw (in-step w i 0, in-none w (suc i))
   in-up i (suc (suc k)) h =
       let here : rowLess (rowOf (clauseOf (rowAt w i))) (rowOf (clauseOf (rowAt w (suc i)))) ≡ true
-      = rw (right-row N (rowAt w i) (rows .right i (omega arith)), right-row N (rowAt w (suc i)) (rows .right (suc i) (omega arith))) (rows .ascending .less i (suc i) (omega arith) (omega arith)) in
+      = rw (right-row N (rowAt w i) (rows .right i (omega arith)), right-row N (rowAt w (suc i)) (rows .right (suc i) (omega arith)))
+      (rows .ascending .less i (suc i) (omega arith) (omega arith)) in
       rw (in-step w i (suc k), in-step w (suc i) k) (and-both here (rw (in-step w (suc i) k) at (in-up (suc i) (suc k) (omega arith))))
 
   -- the clauses are in row order
@@ -121,7 +124,7 @@ module _ (N : ℕ) (w : List ℕ) (rows : RightRows N w) where
   clauses-up = in-up 0 (rowCount w) (omega arith)
 
   -- whether a clause is there, as the search for its row tells
-  pub sought-clause : (f : List ℕ) (r : Found) → N ≤ 1024 → allBelow (2 * N) f ≡ true → Sought w (rowOf f) r → hasClause (clausesOf w) f ≡ isThere r
+  pub sought-clause : (f : List ℕ) (r : Found) → N ≤ mostAtoms → allBelow (2 * N) f ≡ true → Sought w (rowOf f) r → hasClause (clausesOf w) f ≡ isThere r
   unfolding hasClause
   sought-clause f (At i) few low s =
       let e : clauseOf (rowAt w i) ≡ f = ap clauseOf (s .same) ∙ row-back N f few low in
@@ -132,7 +135,9 @@ module _ (N : ℕ) (w : List ℕ) (rows : RightRows N w) where
       apart p (yes l) = row-irrefl (rowOf f) (rw (placed-row f p) at (s .before (p .row) l))
       apart p (no l) = row-irrefl (rowOf f) (rw (placed-row f p) at (s .behind (p .row) (omega arith) (p .inside)))
 
-      go : (any (λ g. isSame (compareWords f g)) (clausesOf w) ≡ true) ⊎ (any (λ g. isSame (compareWords f g)) (clausesOf w) ≡ false) → any (λ g. isSame (compareWords f g)) (clausesOf w) ≡ false
+      go :
+          (any (λ g. isSame (compareWords f g)) (clausesOf w) ≡ true) ⊎ (any (λ g. isSame (compareWords f g)) (clausesOf w) ≡ false)
+          → any (λ g. isSame (compareWords f g)) (clausesOf w) ≡ false
       go (inl h) =
           let x = any-of (λ g. isSame (compareWords f g)) (clausesOf w) h in
           let e : f ≡ x .it = same-words f (x .it) (x .passes) in

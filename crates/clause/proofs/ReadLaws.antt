@@ -56,7 +56,9 @@ module _ (N : ℕ) (w : List ℕ) where
       rw (h i (omega arith) (omega arith), rows-read (suc i) k (λ j a b. h j (let z = a in omega arith) (let z = b in omega arith)), in-step w i k)
 
 -- ---- all rows
-read-rows : (N : ℕ) (w : List ℕ) (C : List (List ℕ)) → readClauses N w ≡ finding C → (length w % width ≡ 0) × (length w ≤ width * mostRows) × (readRows N w 0 (rowCount w) ≡ finding C)
+read-rows :
+    (N : ℕ) (w : List ℕ) (C : List (List ℕ)) → readClauses N w ≡ finding C
+    → (length w % width ≡ 0) × (length w ≤ width * mostRows) × (readRows N w 0 (rowCount w) ≡ finding C)
 unfolding readClauses ask rowCount
 read-rows N w C e =
     let a = eqb (length w % width) 0 in

@@ -29,7 +29,7 @@ start-right N w at rows e h =
     let a = aligned-row w at e h in
     rw (a .0) at (rows .right (at / width) (a .1))
 
--- ---- behind a fill stands only fill
+-- ---- after a fill stands only fill
 fill-none : (m j : ℕ) → clauseOf (drop j (replicate m fill)) ≡ []
 fill-none zero zero = clause-none
 fill-none zero (suc j) = clause-none
@@ -40,7 +40,10 @@ filled : (m k : ℕ) (xs : List ℕ) → xs ≡ clauseOf xs ++ replicate m fill 
 filled m k [] e h q = absurd (omega arith)
 filled m k (x ∷ xs) e h q = go (ℕ-discrete x fill) k h q (λ k′ e′ h′ q′. filled m k′ xs e′ h′ q′)
   where
-    go : Dec (x ≡ fill) → (k : ℕ) → k < suc (length xs) → getD (x ∷ xs) k 0 ≡ fill → ((k′ : ℕ) → xs ≡ clauseOf xs ++ replicate m fill → k′ < length xs → getD xs k′ 0 ≡ fill → clauseOf (drop (suc k′) xs) ≡ []) → clauseOf (drop k xs) ≡ []
+    go :
+        Dec (x ≡ fill) → (k : ℕ) → k < suc (length xs) → getD (x ∷ xs) k 0 ≡ fill
+        → ((k′ : ℕ) → xs ≡ clauseOf xs ++ replicate m fill → k′ < length xs → getD xs k′ 0 ≡ fill → clauseOf (drop (suc k′) xs) ≡ [])
+        → clauseOf (drop k xs) ≡ []
     go (yes f) k h q rec =
         let all-fill : x ∷ xs ≡ replicate m fill = e ∙ ap (λ (l : List ℕ). l ++ replicate m fill) (clause-fill x xs f) in
         ap (λ (l : List ℕ). clauseOf (drop (suc k) l)) all-fill ∙ fill-none m (suc k)
@@ -72,7 +75,7 @@ module _ (w : List ℕ) (at k : ℕ) (h : k < width) (inside : at + width ≤ le
   unfolding restAt
   rest-next ne = clause-on (take width (drop at w)) k (getD w (at + k) 0) row-word row-length ne
 
-  -- the row is that of its clause: behind a fill stands only fill
+  -- the row is that of its clause: after a fill stands only fill
   pub rest-fill : rowOf (clauseOf (take width (drop at w))) ≡ take width (drop at w) → getD w (at + k) 0 ≡ fill → restAt w at k ≡ restAt w at (k + 1)
   unfolding restAt rowOf
   rest-fill same e =

@@ -99,7 +99,8 @@ shift-row v i =
 shift-in : (v : List ℕ) (i k : ℕ) → clausesIn v (suc i) k ≡ clausesIn (drop width v) i k
 shift-in v i zero = in-none v (suc i) ∙ sym (in-none (drop width v) i)
 shift-in v i (suc k) =
-    let q : (clauseOf (rowAt v (suc i)) ∷ clausesIn v (suc (suc i)) k) ≡ (clauseOf (rowAt (drop width v) i) ∷ clausesIn (drop width v) (suc i) k) = rw (shift-row v i, shift-in v (suc i) k) in
+    let q : (clauseOf (rowAt v (suc i)) ∷ clausesIn v (suc (suc i)) k) ≡ (clauseOf (rowAt (drop width v) i) ∷ clausesIn (drop width v) (suc i) k) =
+    rw (shift-row v i, shift-in v (suc i) k) in
     in-step v (suc i) k ∙ q ∙ sym (in-step (drop width v) i k)
 
 count-step : (v : List ℕ) → width ≤ length v → rowCount v ≡ suc (rowCount (drop width v))

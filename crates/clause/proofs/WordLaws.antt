@@ -9,6 +9,7 @@ use lib.Dec.{eqb}
 use lib.ListN.{length, getD, take, drop}
 use lib.Seq.{take-all, take-add, drop-drop}
 use borrow.Author.Tests.{eqb-true}
+use Rattle.definitions.specs.Literal.{mostAtoms}
 use Rattle.definitions.specs.Lists.{each}
 use Rattle.definitions.specs.Answer.{finding, verdict, ask, askAt, _>>=_}
 use Rattle.definitions.specs.Clauses.{width, mostRows, rowOf, clauseOf, clauseWords, clauseRight, rowAt, readClauses, readClause}
@@ -37,7 +38,15 @@ module _ (N : ℕ) (w : List ℕ) (rows : RightRows N w) where
   in-words i (suc k) h =
       let a : width * suc k ≡ width + width * k = omega (arith, mul-suc width k) in
       let b : width * suc i ≡ width * i + width = omega (arith, mul-suc width i) in
-      rw (in-step w i k, a, take-add width (width * k) (drop (width * i) w), drop-drop width (width * i) w, ← b, right-row N (rowAt w i) (rows .right i (omega arith)), in-words (suc i) k (omega arith))
+      rw (
+        in-step w i k,
+        a,
+        take-add width (width * k) (drop (width * i) w),
+        drop-drop width (width * i) w,
+        ← b,
+        right-row N (rowAt w i) (rows .right i (omega arith)),
+        in-words (suc i) k (omega arith),
+      )
 
   -- the words of the clauses of right rows
   pub words-back : clauseWords (clausesOf w) ≡ w
@@ -48,7 +57,9 @@ module _ (N : ℕ) (w : List ℕ) (rows : RightRows N w) where
       ∙ take-all (width * rowCount w) w (whole-length w (rows .ascending .whole))
 
 -- ---- from clauses to words and back: the words of a right set in row order are read, and give the set back
-module _ (N : ℕ) (C : List (List ℕ)) (few : N ≤ 1024) (good : (f : List ℕ) → List·Memᴰ f C → GoodClause N width f) (up-C : up C ≡ true) (rows : length C ≤ mostRows) where
+module _
+    (N : ℕ) (C : List (List ℕ)) (few : N ≤ mostAtoms) (good : (f : List ℕ) → List·Memᴰ f C → GoodClause N width f) (up-C : up C ≡ true)
+    (rows : length C ≤ mostRows) where
   words-set : readClauses N (clauseWords C) ≡ finding C
   words-set = read-back N width few (omega arith) C good up-C rows
 

@@ -24,19 +24,19 @@ clausesOf w = clausesIn w 0 (rowCount w)
 unfoldable pub clauseAt : List ℕ → ℕ → List ℕ
 clauseAt w at = clauseOf (take width (drop at w))
 
--- the clauses whose rows start at a word or behind it
+-- the clauses whose rows start at a word or after it
 unfoldable pub clausesFrom : List ℕ → ℕ → List (List ℕ)
 clausesFrom w at = clausesOf (drop at w)
 
 -- questions 8 and 9 are answered yes
-pub record ClausesRead (N : ℕ) (w : List ℕ) : Type 0 where
-  pub read : readClauses N w ≡ finding (clausesOf w)
+pub record ClausesRead (atoms : ℕ) (w : List ℕ) : Type 0 where
+  pub read : readClauses atoms w ≡ finding (clausesOf w)
 
 -- a clause alone: questions 8 and 9 are answered yes
-pub record ClauseRead (N : ℕ) (row : List ℕ) : Type 0 where
+pub record ClauseRead (atoms : ℕ) (row : List ℕ) : Type 0 where
   pub wide : length row ≡ width
-  pub right : clauseRight N row ≡ true
-  pub read : readClause N row ≡ finding (clauseOf row)
+  pub right : clauseRight atoms row ≡ true
+  pub read : readClause atoms row ≡ finding (clauseOf row)
 
 -- whole rows, strictly ascending
 pub record Ascending (w : List ℕ) : Type 0 where
@@ -44,9 +44,9 @@ pub record Ascending (w : List ℕ) : Type 0 where
   pub less : (i j : ℕ) → i < j → j < rowCount w → rowLess (rowAt w i) (rowAt w j) ≡ true
 
 -- strictly ascending rows, each of them right
-pub record RightRows (N : ℕ) (w : List ℕ) : Type 0 where
+pub record RightRows (atoms : ℕ) (w : List ℕ) : Type 0 where
   pub ascending : Ascending w
-  pub right : (i : ℕ) → i < rowCount w → clauseRight N (rowAt w i) ≡ true
+  pub right : (i : ℕ) → i < rowCount w → clauseRight atoms (rowAt w i) ≡ true
 
 -- k words come before the fill
 pub record Counted (row : List ℕ) (k : ℕ) : Type 0 where

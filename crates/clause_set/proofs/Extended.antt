@@ -9,7 +9,7 @@ use native.Mathlib.Omega.{arith}
 use lib.ListN.{length, getD, drop, drop-of-length-le}
 use borrow.Author.Tests.{lt-ltb}
 use Rattle.definitions.specs.Lists.{each, range, member}
-use Rattle.definitions.specs.Literal.{atom}
+use Rattle.definitions.specs.Literal.{mostAtoms, mostLiterals, atom}
 use Rattle.definitions.specs.Clauses.{width, rowOf, clauseOf}
 use Rattle.definitions.specs.Synthesis.{insertLiteral}
 use Rattle.definitions.proofs.Walks.{left-here}
@@ -18,7 +18,7 @@ use Rattle.definitions.proofs.SetRight.{good-insert}
 use Rattle.definitions.proofs.Accepts.{row-length}
 use Rattle.clause.proofs.ClauseLaws.{row-back, good-right, list-below}
 use Rattle.clause_set.specs.Put.{put, putAll, extended}
-use Rattle.clause_set.specs.Held.{mostAtoms, ClauseRow, Extensible}
+use Rattle.clause_set.specs.Held.{ClauseRow, Extensible}
 
 module _ (rows : ℕ) (f : List ℕ) (l : ℕ) (s : Option (List (List ℕ))) where
   pub extend-none : member (atom l) (map atom f) ≡ true → putAll rows (extended f l) s ≡ s
@@ -29,7 +29,7 @@ module _ (rows : ℕ) (f : List ℕ) (l : ℕ) (s : Option (List (List ℕ))) wh
   unfolding extended putAll
   extend-one h = rw h
 
-module _ (f : List ℕ) (l : ℕ) (e : Extensible f) (low : l < 2 * mostAtoms) (new : member (atom l) (map atom f) ≡ false) where
+module _ (f : List ℕ) (l : ℕ) (e : Extensible f) (low : l < mostLiterals) (new : member (atom l) (map atom f) ≡ false) where
   good : GoodClause mostAtoms width (insertLiteral l f)
   good = good-insert mostAtoms width l f (e .good) (lt-ltb (length f) width (e .short)) low new
 

@@ -6,6 +6,7 @@ use Prim.Native.Nat.{ℕ, zero, suc, _+_, _≤_, Ordering, Ordering·lt, Orderin
 use native.Mathlib.Omega.{arith}
 use lib.Dec.{eqb}
 use lib.ListN.{length}
+use Rattle.definitions.specs.Literal.{mostAtoms}
 use Rattle.definitions.specs.Lists.{all, compareWords}
 use Rattle.definitions.specs.Clauses.{width, rowOf, clauseOf}
 use Rattle.definitions.specs.Synthesis.{insertClause, insertAll}
@@ -19,13 +20,13 @@ abbrev pub Goods : ℕ → List (List ℕ) → Type 0
 Goods N C = (f : List ℕ) → List·Memᴰ f C → GoodClause N width f
 
 -- clauses with the same row are the same
-pub row-one : (N : ℕ) (f g : List ℕ) → N ≤ 1024 → GoodClause N width f → GoodClause N width g → compareWords (rowOf f) (rowOf g) ≡ Ordering·eq → f ≡ g
+pub row-one : (N : ℕ) (f g : List ℕ) → N ≤ mostAtoms → GoodClause N width f → GoodClause N width g → compareWords (rowOf f) (rowOf g) ≡ Ordering·eq → f ≡ g
 row-one N f g few a b e =
     sym (row-back N f few (list-below N f (a .list)))
     ∙ ap clauseOf (same-row (rowOf f) (rowOf g) e)
     ∙ row-back N g few (list-below N g (b .list))
 
-pub put-self : (N : ℕ) (f : List ℕ) (C : List (List ℕ)) → N ≤ 1024 → GoodClause N width f → Goods N C → List·Memᴰ f (insertClause f C)
+pub put-self : (N : ℕ) (f : List ℕ) (C : List (List ℕ)) → N ≤ mostAtoms → GoodClause N width f → Goods N C → List·Memᴰ f (insertClause f C)
 unfolding insertClause
 put-self N f [] few a b = List·Memᴰ·head refl
 put-self N f (g ∷ C) few a b = go (compareWords (rowOf f) (rowOf g)) refl (put-self N f C few a (λ h m. b h (List·Memᴰ·tail m)))
@@ -44,7 +45,9 @@ put-keeps f (g ∷ C) h m = go (compareWords (rowOf f) (rowOf g)) refl (List·Me
     later (inl e) rec = List·Memᴰ·head e
     later (inr k) rec = List·Memᴰ·tail (rec k)
 
-    go : (c : Ordering) → compareWords (rowOf f) (rowOf g) ≡ c → (h ≡ g) ⊎ List·Memᴰ h C → (List·Memᴰ h C → List·Memᴰ h (insertClause f C)) → List·Memᴰ h (insertClause f (g ∷ C))
+    go :
+        (c : Ordering) → compareWords (rowOf f) (rowOf g) ≡ c → (h ≡ g) ⊎ List·Memᴰ h C → (List·Memᴰ h C → List·Memᴰ h (insertClause f C))
+        → List·Memᴰ h (insertClause f (g ∷ C))
     go Ordering·lt e k rec = rw (e, insertClause) (List·Memᴰ·tail m)
     go Ordering·eq e k rec = rw (e, insertClause) m
     go Ordering·gt e k rec = rw (e, insertClause) (later k rec)
@@ -54,7 +57,9 @@ unfolding insertClause
 put-length f [] = omega arith
 put-length f (g ∷ C) = go (compareWords (rowOf f) (rowOf g)) refl (put-length f C)
   where
-    go : (c : Ordering) → compareWords (rowOf f) (rowOf g) ≡ c → length (insertClause f C) ≤ suc (length C) → length (insertClause f (g ∷ C)) ≤ suc (suc (length C))
+    go :
+        (c : Ordering) → compareWords (rowOf f) (rowOf g) ≡ c → length (insertClause f C) ≤ suc (length C)
+        → length (insertClause f (g ∷ C)) ≤ suc (suc (length C))
     go Ordering·lt e rec = rw (e, insertClause) (omega arith)
     go Ordering·eq e rec = rw (e, insertClause) (omega arith)
     go Ordering·gt e rec = rw (e, insertClause) (omega arith)

@@ -74,7 +74,9 @@ part-shorter m (l ∷ f) h = go (decide (eqb (m % 2) 1)) (λ j. part-shorter (m 
         pick (inl h) rec = rw (h, partOf) (omega arith)
         pick (inr h) rec = rw (h, partOf) (omega arith)
 
-    go : (eqb (m % 2) 1 ≡ true) ⊎ (eqb (m % 2) 1 ≡ false) → (m / 2 + 1 < masks (length f) → length (partOf (m / 2) f) < length f) → length (partOf (m / 2) f) ≤ length f → length (partOf m (l ∷ f)) < suc (length f)
+    go :
+        (eqb (m % 2) 1 ≡ true) ⊎ (eqb (m % 2) 1 ≡ false) → (m / 2 + 1 < masks (length f) → length (partOf (m / 2) f) < length f)
+        → length (partOf (m / 2) f) ≤ length f → length (partOf m (l ∷ f)) < suc (length f)
     go (inl e) rec most =
         let o = eqb-true (m % 2) 1 e in
         let r = rec (omega arith) in
@@ -184,7 +186,8 @@ blocked-of D f h = go (or-cases (hasClause D f) (partThere D f) h)
         }
 
 -- no non-empty part of the clause is there, if it is not blocked
-pub blocked-not : (D : List (List ℕ)) (f d : List ℕ) → ascending f ≡ true → ascending d ≡ true → 1 ≤ length d → blocked D f ≡ false → List·Memᴰ d D → Part d f → ⊥
+pub blocked-not :
+    (D : List (List ℕ)) (f d : List ℕ) → ascending f ≡ true → ascending d ≡ true → 1 ≤ length d → blocked D f ≡ false → List·Memᴰ d D → Part d f → ⊥
 unfolding blocked partThere
 blocked-not D f d fu du some h m p = go (mask-of f d fu du p)
   where
@@ -193,7 +196,9 @@ blocked-not D f d fu du some h m p = go (mask-of f d fu du p)
 
     no-part : (m : ℕ) → 1 ≤ m → m < 1 + (masks (length f) - 2) → List·Memᴰ (partOf m f) D → ⊥
     no-part m a b k =
-        never {A = ⊥} (or-right (hasClause D f) (any-in (λ m. hasClause D (partOf m f)) (range-in 1 (masks (length f) - 2) m a b) (there-clause D (partOf m f) k))) h
+        never {A = ⊥}
+        (or-right (hasClause D f) (any-in (λ m. hasClause D (partOf m f)) (range-in 1 (masks (length f) - 2) m a b) (there-clause D (partOf m f) k)))
+        h
 
     first : (w : Mask d f) → w .mask ≡ 0 → ⊥
     first w e =

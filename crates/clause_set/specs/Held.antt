@@ -1,18 +1,14 @@
--- A set of clauses in the first rows of a buffer. Literals are those of at most 1,024 atoms. Assumes nothing.
+-- A set of clauses in the first rows of a buffer. Assumes nothing.
 use mathlib.Core.Bool.{Bool, true}
 use mathlib.Core.List.{List}
 use mathlib.Core.Option.{Option, none, some}
 use mathlib.Core.Path.{_≡_}
 use Prim.Native.Nat.{ℕ, _*_, _≤_, _<_}
 use lib.ListN.{length, take}
-use Rattle.definitions.specs.Clauses.{width, mostRows, clauseRight}
-use Rattle.definitions.specs.Clauses.{GoodClause}
+use Rattle.definitions.specs.Literal.{mostAtoms}
+use Rattle.definitions.specs.Clauses.{width, mostRows, clauseRight, GoodClause}
 use Rattle.clause.specs.Rows.{clausesOf, RightRows}
 use Rattle.clause_set.specs.declared.Built as builts
-
--- atoms that a task can have
-abbrev pub mostAtoms : ℕ
-mostAtoms = 1024
 
 -- the clauses of the first k rows
 unfoldable pub held : ℕ → List ℕ → List (List ℕ)

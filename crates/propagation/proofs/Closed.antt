@@ -9,7 +9,7 @@ use native.Mathlib.Decide.{decLt}
 use lib.ListN.{length, length-append, getD, take, drop, replicate, length-replicate, getD-replicate, List·getD-append, List·getD-eq-default}
 use lib.Seq.{length-take-le, length-front, take-at, drop-at, getD-take}
 use Rattle.definitions.specs.Lists.{member}
-use Rattle.definitions.specs.Literal.{complement, allBelow}
+use Rattle.definitions.specs.Literal.{mostAtoms, complement, allBelow}
 use Rattle.definitions.specs.Closure.{has, bit, closure, contradictory}
 use Rattle.definitions.proofs.ListLaws.{decide, never, member-in, member-of}
 use Rattle.definitions.proofs.ClosureLeast.{closure-holds}
@@ -65,7 +65,7 @@ propagate-on w s₀ ls s s′ Consistent a p =
     }
 propagate-on w s₀ ls s s′ Contradictory a p = λ T c q z. p T c (a .least T q z)
 
--- ---- the marks of the literals, and what lies behind
+-- ---- the marks of the literals, and what comes after them
 module _ (N : ℕ) (ms s : List ℕ) (room : 2 * N ≤ length ms) (exact : length s ≡ 2 * N) where
   pub behind-front : Behind N ms (s ++ drop (2 * N) ms)
   behind-front =
@@ -125,7 +125,7 @@ module _ (N : ℕ) (ms S : List ℕ) (m : Marked N ms S) where
       go (no h) = omega (arith, List·getD-eq-default (take (2 * N) ms) 0 {n = i} (rw front-length (omega arith)))
 
 -- ---- what the inner functions ask
-even-of : (N : ℕ) (s : List ℕ) → N ≤ 1024 → length s ≡ 2 * N → Even s
+even-of : (N : ℕ) (s : List ℕ) → N ≤ mostAtoms → length s ≡ 2 * N → Even s
 even-of N s few e = record { even = omega arith; few = omega arith }
 
 module _ (N : ℕ) (w ls ms : List ℕ) (asked : Asked N w ls ms) where
@@ -142,7 +142,12 @@ module _ (N : ℕ) (w ls ms : List ℕ) (asked : Asked N w ls ms) where
       }
     where
       no-clash : Clash (take (2 * N) ms) → ⊥
-      no-clash c = never {A = ⊥} (clash-any N S (record { it = c .it; here = front-part N ms S m (c .it) (c .here); there = front-part N ms S m (complement (c .it)) (c .there) }) (rw (front-length N ms S m) at (in-below (take (2 * N) ms) (c .it) (c .here)))) consistent
+      no-clash c =
+          never {A = ⊥}
+          (clash-any N S
+          (record { it = c .it; here = front-part N ms S m (c .it) (c .here); there = front-part N ms S m (complement (c .it)) (c .there) })
+          (rw (front-length N ms S m) at (in-below (take (2 * N) ms) (c .it) (c .here))))
+          consistent
 
 -- cleared marks
 zero-none : (n l : ℕ) → In (replicate n 0) l → ⊥
@@ -170,7 +175,7 @@ module _ (N : ℕ) (t ms : List ℕ) (cleared : ms ≡ replicate (2 * N) 0 ++ t)
   pub cleared-length : length (take (2 * N) ms) ≡ 2 * N
   cleared-length = ap length cleared-front ∙ length-replicate (2 * N) 0
 
-  pub ready-cleared : (w : List ℕ) → N ≤ 1024 → ClausesRead N w → Ready w (take (2 * N) ms)
+  pub ready-cleared : (w : List ℕ) → N ≤ mostAtoms → ClausesRead N w → Ready w (take (2 * N) ms)
   ready-cleared w few rows =
       record {
         sound = record {
@@ -204,12 +209,17 @@ module _ (N : ℕ) (w L s₀ ls s t : List ℕ) (rows : ClausesRead N w) (exact 
       from = closure-lowest N (clausesOf w) L s (given s (k .above) (k .holds)) (k .closed)
 
       consistent : (contradictory N K ≡ true) ⊎ (contradictory N K ≡ false) → contradictory N K ≡ false
-      consistent (inl e) = let c = clash-of N K e in absurd (k .consistent (record { it = c .it; here = from (c .it) (c .here); there = from (complement (c .it)) (c .there) }))
+      consistent (inl e) =
+          let c = clash-of N K e in
+          absurd (k .consistent (record { it = c .it; here = from (c .it) (c .here); there = from (complement (c .it)) (c .there) }))
       consistent (inr e) = e
   closes-of Contradictory p = clash-contradictory N (clausesOf w) L (p (closure N (clausesOf w) L) under start listed)
 
 -- from cleared marks
-pub close-done : (N : ℕ) (w ls ms ms₁ s : List ℕ) (r : Closing) → Asked N w ls ms → ms₁ ≡ replicate (2 * N) 0 ++ drop (2 * N) ms → length s ≡ length (take (2 * N) ms₁) → Propagated w (take (2 * N) ms₁) ls s r → Behind N ms (s ++ drop (2 * N) ms₁) × Closes N (clausesOf w) ls (s ++ drop (2 * N) ms₁) r
+pub close-done :
+    (N : ℕ) (w ls ms ms₁ s : List ℕ) (r : Closing) → Asked N w ls ms → ms₁ ≡ replicate (2 * N) 0 ++ drop (2 * N) ms
+    → length s ≡ length (take (2 * N) ms₁) → Propagated w (take (2 * N) ms₁) ls s r
+    → Behind N ms (s ++ drop (2 * N) ms₁) × Closes N (clausesOf w) ls (s ++ drop (2 * N) ms₁) r
 close-done N w ls ms ms₁ s r asked cleared kept propagated =
     let exact : length s ≡ 2 * N = kept ∙ cleared-length N (drop (2 * N) ms) ms₁ cleared in
     let K = closure N (clausesOf w) ls in (
@@ -222,9 +232,13 @@ close-done N w ls ms ms₁ s r asked cleared kept propagated =
     )
 
 -- from marks that stand for a closure
-pub extend-done : (N : ℕ) (w ls more ms s : List ℕ) (r : Closing) → Asked N w more ms → length s ≡ length (take (2 * N) ms) → Marked N ms (closure N (clausesOf w) ls) → Propagated w (take (2 * N) ms) more s r → Closes N (clausesOf w) (ls ++ more) (s ++ drop (2 * N) ms) r
+pub extend-done :
+    (N : ℕ) (w ls more ms s : List ℕ) (r : Closing) → Asked N w more ms → length s ≡ length (take (2 * N) ms)
+    → Marked N ms (closure N (clausesOf w) ls) → Propagated w (take (2 * N) ms) more s r
+    → Closes N (clausesOf w) (ls ++ more) (s ++ drop (2 * N) ms) r
 extend-done N w ls more ms s r asked kept m propagated =
-    closes-of N w (ls ++ more) (take (2 * N) ms) more s (drop (2 * N) ms) (asked .rows) (kept ∙ length-take-le (2 * N) ms (asked .room)) start listed given r propagated
+    closes-of N w (ls ++ more) (take (2 * N) ms) more s (drop (2 * N) ms) (asked .rows) (kept ∙ length-take-le (2 * N) ms (asked .room)) start listed
+    given r propagated
   where
     C : List (List ℕ)
     C = clausesOf w
@@ -238,7 +252,9 @@ extend-done N w ls more ms s r asked kept m propagated =
         (front-part N ms K m l p)
 
     listed : Lists more (closure N C (ls ++ more))
-    listed l z = closure-holds N C (ls ++ more) l (below-at (2 * N) more (asked .below) l (member-of l more z)) (member-in (Memᴰ·append-right ls (member-of l more z)))
+    listed l z =
+        closure-holds N C (ls ++ more) l (below-at (2 * N) more (asked .below) l (member-of l more z))
+        (member-in (Memᴰ·append-right ls (member-of l more z)))
 
     given : (T : List ℕ) → Part (take (2 * N) ms) T → Lists more T → (l : ℕ) → l < 2 * N → member l (ls ++ more) ≡ true → In T l
     given T p q l h z =

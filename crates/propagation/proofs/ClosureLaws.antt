@@ -76,7 +76,8 @@ module _ (N : ℕ) (C : List (List ℕ)) where
   unfolding grow
   closure-bits ls l h =
       let K = closure N C ls in
-      let e : getD K l 0 ≡ bit (has K l || any (forces K l) C) = ap (λ (S : List ℕ). getD S l 0) (sym (closure-fixed N C ls)) ∙ table-at (λ l. bit (has K l || any (forces K l) C)) (2 * N) l h in
+      let e : getD K l 0 ≡ bit (has K l || any (forces K l) C) =
+      ap (λ (S : List ℕ). getD S l 0) (sym (closure-fixed N C ls)) ∙ table-at (λ l. bit (has K l || any (forces K l) C)) (2 * N) l h in
       rw e (bit-most (has K l || any (forces K l) C))
 
   -- closures with the same literals are equal
@@ -85,7 +86,9 @@ module _ (N : ℕ) (C : List (List ℕ)) where
       ext-getD 0 (closure N C a) (closure N C b) (closure-length a ∙ sym (closure-length b))
       (λ i h. same i (rw (closure-length a) at h) (decide (has (closure N C a) i)) (decide (has (closure N C b) i)))
     where
-      same : (i : ℕ) → i < 2 * N → (has (closure N C a) i ≡ true) ⊎ (has (closure N C a) i ≡ false) → (has (closure N C b) i ≡ true) ⊎ (has (closure N C b) i ≡ false) → getD (closure N C a) i 0 ≡ getD (closure N C b) i 0
+      same :
+          (i : ℕ) → i < 2 * N → (has (closure N C a) i ≡ true) ⊎ (has (closure N C a) i ≡ false)
+          → (has (closure N C b) i ≡ true) ⊎ (has (closure N C b) i ≡ false) → getD (closure N C a) i 0 ≡ getD (closure N C b) i 0
       same i h (inl x) y = byte-in (closure N C a) i x ∙ sym (byte-in (closure N C b) i (p i x))
       same i h (inr x) (inl y) = never (q i y) x
       same i h (inr x) (inr y) = omega (arith, closure-bits a i h, closure-bits b i h, byte-out (closure N C a) i x, byte-out (closure N C b) i y)
@@ -128,7 +131,9 @@ module _ (N : ℕ) (C : List (List ℕ)) where
         to : Part (closure N C (elements K ++ b)) (closure N C (a ++ b))
         to =
             closure-lowest (elements K ++ b) (closure N C (a ++ b))
-            (λ l k m. ⊎-elim (first l) (λ z. closure-holds N C (a ++ b) l k (member-in (Memᴰ·append-right a z))) (List·Memᴰ·append-cases (elements K) (member-of l (elements K ++ b) m)))
+            (λ l k m.
+            ⊎-elim (first l) (λ z. closure-holds N C (a ++ b) l k (member-in (Memᴰ·append-right a z)))
+            (List·Memᴰ·append-cases (elements K) (member-of l (elements K ++ b) m)))
             (closure-under (a ++ b))
 
         given : (l : ℕ) → l < 2 * N → List·Memᴰ l a ⊎ List·Memᴰ l b → In (closure N C (elements K ++ b)) l

@@ -74,7 +74,9 @@ pub record Copied (from to₀ to : List ℕ) (end i : ℕ) : Type 0 where
 pub copy-start : (from to : List ℕ) (end : ℕ) → Copied from to to end 0
 copy-start from to end = record { most = omega arith; same-length = refl; rest = refl; same = λ j h. absurd (omega arith) }
 
-pub copy-on : (from to₀ to : List ℕ) (end i : ℕ) → Copied from to₀ to end i → i < end → end ≤ length to₀ → Copied from to₀ (set to i (getD from i 0)) end (i + 1)
+pub copy-on :
+    (from to₀ to : List ℕ) (end i : ℕ) → Copied from to₀ to end i → i < end → end ≤ length to₀
+    → Copied from to₀ (set to i (getD from i 0)) end (i + 1)
 copy-on from to₀ to end i c h room =
     record {
       most = omega arith;
@@ -87,7 +89,9 @@ copy-on from to₀ to end i c h room =
     go j k (yes e) = rw e (getD-set-same to i (getD from i 0) 0 (let z = c .same-length in omega arith))
     go j k (no ne) = getD-set-other to i j (getD from i 0) 0 ne ∙ c .same j (omega arith)
 
-pub copy-end : (N : ℕ) (from to₀ to : List ℕ) (i : ℕ) → Copied from to₀ to (2 * N) i → 2 * N ≤ i → 2 * N ≤ length to₀ → Behind N to₀ to × ((S : List ℕ) → Marked N from S → Marked N to S)
+pub copy-end :
+    (N : ℕ) (from to₀ to : List ℕ) (i : ℕ) → Copied from to₀ to (2 * N) i → 2 * N ≤ i → 2 * N ≤ length to₀
+    → Behind N to₀ to × ((S : List ℕ) → Marked N from S → Marked N to S)
 copy-end N from to₀ to i c h room = (
   record { same-length = c .same-length; rest = c .rest },
   λ S m. record { room = (let z = c .same-length in omega arith); byte = λ l k. c .same l (omega arith) ∙ m .byte l k },

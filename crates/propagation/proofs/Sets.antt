@@ -13,7 +13,8 @@ use borrow.Author.Tests.{eqb-true, eqb-false, eq-eqb, ne-eqb}
 use Rattle.definitions.specs.Lists.{all, below, member}
 use Rattle.definitions.specs.Literal.{complement}
 use Rattle.definitions.specs.Closure.{has, forces, contradictory}
-use Rattle.definitions.proofs.ListLaws.{decide, never, and-left, and-right, and-both, or-cases, or-left, or-right, all-at, all-of, any-in, any-of, member-in, member-of}
+use Rattle.definitions.proofs.ListLaws.{decide, never, and-left, and-right, and-both, or-cases, or-left, or-right, all-at, all-of, any-in}
+use Rattle.definitions.proofs.ListLaws.{any-of, member-in, member-of}
 use Rattle.definitions.proofs.LiteralLaws.{Shape, is, isnt, shape}
 use Rattle.definitions.proofs.Walks.{below-in}
 use Rattle.propagation.specs.Walk.{In, Part, Clash, Bits, zeros, Even}
@@ -128,7 +129,8 @@ module _ (s : List ℕ) (l : ℕ) (f : List ℕ) where
   unfolding forces
   forces-others e m mm ne =
       ⊎-elim (λ q. absurd (ne (eqb-true m l q))) (λ q. q)
-      (or-cases (eqb m l) (has s (complement m)) (all-at (λ m. eqb m l || has s (complement m)) (and-right (member l f) (all (λ m. eqb m l || has s (complement m)) f) e) mm))
+      (or-cases (eqb m l) (has s (complement m))
+      (all-at (λ m. eqb m l || has s (complement m)) (and-right (member l f) (all (λ m. eqb m l || has s (complement m)) f) e) mm))
 
   pub forces-by : List·Memᴰ l f → ((m : ℕ) → List·Memᴰ m f → (m ≡ l → ⊥) → In s (complement m)) → forces s l f ≡ true
   unfolding forces

@@ -91,7 +91,9 @@ module _ (w s₀ s : List ℕ) (at : ℕ) (h : at + width ≤ length w) (answer 
   pass-row cl = record { reached = k .reached; aligned = aligned-next; ahead = ahead-next; progress = pass-progress answer cl (k .progress) }
 
   -- all of its literals have their complement in the set
-  pub clash-row : (N : ℕ) → clauseRight N (take width (drop at w)) ≡ true → ((l : ℕ) → List·Memᴰ l (clauseAt w at) → In s (complement l)) → Passed w s₀ s Contradictory
+  pub clash-row :
+      (N : ℕ) → clauseRight N (take width (drop at w)) ≡ true → ((l : ℕ) → List·Memᴰ l (clauseAt w at) → In s (complement l))
+      → Passed w s₀ s Contradictory
   unfolding clauseAt
   clash-row N right no-open T closed sub = go (clauseOf (take width (drop at w))) refl (right-some N (take width (drop at w)) right)
     where
@@ -102,7 +104,9 @@ module _ (w s₀ s : List ℕ) (at : ℕ) (h : at + width ≤ length w) (answer 
           let forced = forces-by s u (clauseOf (take width (drop at w))) m (λ x mx q. no-open x mx) in
           record {
             it = u;
-            here = closed (clauseOf (take width (drop at w))) this u (forces-more s T u (clauseOf (take width (drop at w))) (k .reached .least T closed sub) forced);
+            here =
+                closed (clauseOf (take width (drop at w))) this u
+                (forces-more s T u (clauseOf (take width (drop at w))) (k .reached .least T closed sub) forced);
             there = k .reached .least T closed sub (complement u) (no-open u m);
           }
 
@@ -112,7 +116,9 @@ module _ (w s₀ s : List ℕ) (at : ℕ) (h : at + width ≤ length w) (answer 
   fewer Contradictory t p z = absurd p
 
   -- it forces u, which is not marked
-  pub set-row : (u : ℕ) → u < length s → forces s u (clauseAt w at) ≡ true → has s u ≡ false → has s (complement u) ≡ false → Walk w s₀ (set s u 1) (at + width) Grown
+  pub set-row :
+      (u : ℕ) → u < length s → forces s u (clauseAt w at) ≡ true → has s u ≡ false → has s (complement u) ≡ false
+      → Walk w s₀ (set s u 1) (at + width) Grown
   set-row u b fo off off′ =
       let q = k .reached in
       record {

@@ -5,7 +5,7 @@ use mathlib.Core.List.{List, [], _∷_, List·Memᴰ}
 use Prim.Native.Nat.{ℕ, _+_, _-_, _*_, _%_, _≤_, _<_}
 use lib.ListN.{length, getD}
 use Rattle.definitions.specs.Lists.{member}
-use Rattle.definitions.specs.Literal.{fill, complement}
+use Rattle.definitions.specs.Literal.{mostLiterals, fill, complement}
 use Rattle.definitions.specs.Closure.{has, forces}
 use Rattle.clause.specs.Rows.{clausesOf, ClausesRead}
 use Rattle.propagation.specs.declared.Closing.{Closing}
@@ -51,7 +51,7 @@ zeros (b ∷ bs) = 1 - b + zeros bs
 -- bytes of an even number of literals
 pub record Even (s : List ℕ) : Type 0 where
   pub even : length s % 2 ≡ 0
-  pub few : length s ≤ 2048
+  pub few : length s ≤ mostLiterals
 
 -- a set that is not contradictory
 pub record Sound (s : List ℕ) : Type 0 where

@@ -44,7 +44,7 @@ enum Pass {
 
 // Whether literal `l` is marked.
 pub fn holds(marks: &[u8], l: usize) -> bool
-    ensures { λ r. ⌜ ((N : ℕ) (S : List ℕ) → Marked N (now (marks .entry)) S → l < 2 * N → r ≡ has S l) ⌝ }
+    ensures { λ r. ⌜ ((atoms : ℕ) (S : List ℕ) → Marked atoms (now (marks .entry)) S → l < 2 * atoms → r ≡ has S l) ⌝ }
 {
     if l < marks.len() {
         marks[l] == 1
@@ -55,7 +55,7 @@ pub fn holds(marks: &[u8], l: usize) -> bool
 
 // Whether all literals of a list are marked.
 pub fn holds_all(marks: &[u8], literals: &[u16]) -> bool
-    ensures { λ r. ⌜ ((N : ℕ) (S : List ℕ) → Marked N (now (marks .entry)) S → allBelow (2 * N) (now (literals .entry)) ≡ true → r ≡ allIn S (now (literals .entry))) ⌝ }
+    ensures { λ r. ⌜ ((atoms : ℕ) (S : List ℕ) → Marked atoms (now (marks .entry)) S → allBelow (2 * atoms) (now (literals .entry)) ≡ true → r ≡ allIn S (now (literals .entry))) ⌝ }
 {
     let mut i: usize = 0;
     while i < literals.len() {
@@ -67,12 +67,12 @@ pub fn holds_all(marks: &[u8], literals: &[u16]) -> bool
     true
 }
 
-// Copies the marks of n atoms.
-pub fn copy(from: &[u8], to: &mut [u8], n: usize)
-    requires { ⌜ (2 * n ≤ length (now from)) × (2 * n ≤ length (now to)) ⌝ }
-    ensures { λ _. ⌜ Behind n (now (to .entry)) (now (to .exit)) × ((S : List ℕ) → Marked n (now (from .entry)) S → Marked n (now (to .exit)) S) ⌝ }
+// Copies the marks of the literals of so many atoms.
+pub fn copy(from: &[u8], to: &mut [u8], atoms: usize)
+    requires { ⌜ (2 * atoms ≤ length (now from)) × (2 * atoms ≤ length (now to)) ⌝ }
+    ensures { λ _. ⌜ Behind atoms (now (to .entry)) (now (to .exit)) × ((S : List ℕ) → Marked atoms (now (from .entry)) S → Marked atoms (now (to .exit)) S) ⌝ }
 {
-    let end = 2 * n;
+    let end = 2 * atoms;
     let mut i: usize = 0;
     while i < end {
         to[i] = from[i];
@@ -86,7 +86,7 @@ fn is_false(marks: &[u8], l: u16) -> bool
     ensures { λ r. ⌜ r ≡ has (now (marks .entry)) (complement l) ⌝ }
 {
     let opposite = (Literal { code: l }).complement();
-    let i = literal::wide(opposite.code);
+    let i = opposite.index();
     marks[i] == 1
 }
 
@@ -199,12 +199,12 @@ fn propagate(clauses: &[u16], literals: &[u16], marks: &mut [u8]) -> Closing
     }
 }
 
-// Unmarks the literals of n atoms.
-fn clear(marks: &mut [u8], n: usize)
-    requires { ⌜ 2 * n ≤ length (now marks) ⌝ }
-    ensures { λ _. ⌜ now (marks .exit) ≡ replicate (2 * n) 0 ++ drop (2 * n) (now (marks .entry)) ⌝ }
+// Unmarks the literals of so many atoms.
+fn clear(marks: &mut [u8], atoms: usize)
+    requires { ⌜ 2 * atoms ≤ length (now marks) ⌝ }
+    ensures { λ _. ⌜ now (marks .exit) ≡ replicate (2 * atoms) 0 ++ drop (2 * atoms) (now (marks .entry)) ⌝ }
 {
-    let end = 2 * n;
+    let end = 2 * atoms;
     let mut i: usize = 0;
     while i < end {
         marks[i] = 0;
@@ -212,21 +212,21 @@ fn clear(marks: &mut [u8], n: usize)
     }
 }
 
-// The closure of the clauses and the literals, over n atoms.
-pub fn close(clauses: &[u16], literals: &[u16], marks: &mut [u8], n: usize) -> Closing
-    requires { ⌜ Asked n (now clauses) (now literals) (now marks) ⌝ }
-    ensures { λ r. ⌜ Behind n (now (marks .entry)) (now (marks .exit)) × Closes n (clausesOf (now (clauses .entry))) (now (literals .entry)) (now (marks .exit)) r ⌝ }
+// The closure of the clauses and the literals, over so many atoms.
+pub fn close(clauses: &[u16], literals: &[u16], marks: &mut [u8], atoms: usize) -> Closing
+    requires { ⌜ Asked atoms (now clauses) (now literals) (now marks) ⌝ }
+    ensures { λ r. ⌜ Behind atoms (now (marks .entry)) (now (marks .exit)) × Closes atoms (clausesOf (now (clauses .entry))) (now (literals .entry)) (now (marks .exit)) r ⌝ }
 {
-    clear(marks, n);
-    let end = 2 * n;
+    clear(marks, atoms);
+    let end = 2 * atoms;
     propagate(clauses, literals, &mut marks[..end])
 }
 
 // The closure with more literals: marks that stand for the closure of a list are taken on to that of both lists.
-pub fn extend(clauses: &[u16], literals: &[u16], marks: &mut [u8], n: usize) -> Closing
-    requires { ⌜ Asked n (now clauses) (now literals) (now marks) × ConsistentMarks n (now marks) ⌝ }
-    ensures { λ r. ⌜ Behind n (now (marks .entry)) (now (marks .exit)) × ((ls : List ℕ) → Marked n (now (marks .entry)) (closure n (clausesOf (now (clauses .entry))) ls) → Closes n (clausesOf (now (clauses .entry))) (ls ++ now (literals .entry)) (now (marks .exit)) r) ⌝ }
+pub fn extend(clauses: &[u16], literals: &[u16], marks: &mut [u8], atoms: usize) -> Closing
+    requires { ⌜ Asked atoms (now clauses) (now literals) (now marks) × ConsistentMarks atoms (now marks) ⌝ }
+    ensures { λ r. ⌜ Behind atoms (now (marks .entry)) (now (marks .exit)) × ((ls : List ℕ) → Marked atoms (now (marks .entry)) (closure atoms (clausesOf (now (clauses .entry))) ls) → Closes atoms (clausesOf (now (clauses .entry))) (ls ++ now (literals .entry)) (now (marks .exit)) r) ⌝ }
 {
-    let end = 2 * n;
+    let end = 2 * atoms;
     propagate(clauses, literals, &mut marks[..end])
 }

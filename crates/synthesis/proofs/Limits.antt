@@ -7,28 +7,29 @@ use lib.Dec.{leb}
 use borrow.Author.Tests.{le-leb, lt-leb}
 use Rattle.definitions.specs.Clauses.{width, mostRows}
 use Rattle.definitions.specs.Synthesis.{rowsIn}
+use Rattle.synthesis.specs.Asked.{limitsRight, buffersRight}
 
-module _ (most limit : ℕ) where
-  pub limits-none : most < 1 → false ≡ (leb 1 most && leb most width && leb 1 limit && leb limit 65535)
-  limits-none h = rw (lt-leb 1 most h)
+module _ (n limit : ℕ) where
+  pub limits-none : n < 1 → false ≡ limitsRight n limit
+  limits-none h = rw (lt-leb 1 n h)
 
-  module _ (some-literal : 1 ≤ most) where
-    pub limits-wide : width < most → false ≡ (leb 1 most && leb most width && leb 1 limit && leb limit 65535)
-    limits-wide h = rw (le-leb 1 most some-literal, lt-leb most width h)
+  module _ (some-literal : 1 ≤ n) where
+    pub limits-wide : width < n → false ≡ limitsRight n limit
+    limits-wide h = rw (le-leb 1 n some-literal, lt-leb n width h)
 
-    module _ (narrow : most ≤ width) where
-      pub limits-rounds : limit < 1 → false ≡ (leb 1 most && leb most width && leb 1 limit && leb limit 65535)
-      limits-rounds h = rw (le-leb 1 most some-literal, le-leb most width narrow, lt-leb 1 limit h)
+    module _ (narrow : n ≤ width) where
+      pub limits-rounds : limit < 1 → false ≡ limitsRight n limit
+      limits-rounds h = rw (le-leb 1 n some-literal, le-leb n width narrow, lt-leb 1 limit h)
 
-      pub limits-rest : 1 ≤ limit → leb limit 65535 ≡ (leb 1 most && leb most width && leb 1 limit && leb limit 65535)
-      limits-rest h = rw (le-leb 1 most some-literal, le-leb most width narrow, le-leb 1 limit h)
+      pub limits-rest : 1 ≤ limit → leb limit 65535 ≡ limitsRight n limit
+      limits-rest h = rw (le-leb 1 n some-literal, le-leb n width narrow, le-leb 1 limit h)
 
-module _ (a b c d : ℕ) where
-  pub buffers-marks : b < a → false ≡ (leb a b && leb c d)
-  buffers-marks h = rw (lt-leb a b h)
+module _ (atoms words work marks : ℕ) where
+  pub buffers-marks : marks < 2 * atoms → false ≡ buffersRight atoms words work marks
+  buffers-marks h = rw (lt-leb (2 * atoms) marks h)
 
-  pub buffers-work : a ≤ b → leb c d ≡ (leb a b && leb c d)
-  buffers-work h = rw (le-leb a b h)
+  pub buffers-work : 2 * atoms ≤ marks → leb words work ≡ buffersRight atoms words work marks
+  buffers-work h = rw (le-leb (2 * atoms) marks h)
 
 pub rows-few : (words : ℕ) → words / width < mostRows → words / width ≡ rowsIn words
 unfolding rowsIn

@@ -1,4 +1,4 @@
--- What a round comes to, and the rounds in turn. Assumes nothing.
+-- What a round comes to, and the rounds one after the other. Assumes nothing.
 use mathlib.Core.Bool.{Bool, true, false, cond, false≢true}
 use mathlib.Core.Option.{Option, none, some}
 use mathlib.Core.Path.{_≡_, refl, sym, _∙_, ap, subst}
@@ -13,6 +13,7 @@ use borrow.Author.Tests.{eqb-true, eqb-false, not-true, not-false}
 use lib.ListN.{length, take, drop, replicate}
 use Rattle.definitions.specs.Lists.{any, all}
 use Rattle.definitions.specs.Answer.{Answer, Outcome, finding, refused, refuse, outcome}
+use Rattle.definitions.specs.Literal.{mostAtoms}
 use Rattle.definitions.specs.Image.{Task, initialState}
 use Rattle.definitions.specs.Closure.{bit}
 use Rattle.definitions.specs.Clauses.{width, mostRows, clauseWords}
@@ -20,7 +21,7 @@ use Rattle.definitions.specs.Synthesis.{firstSet, tested, passes, nextOf, next,
 use Rattle.definitions.specs.Clauses.{GoodClause}
 use Rattle.definitions.proofs.SetRight.{good-sets, up-sets}
 use Rattle.answer.specs.Answer.{refusalAt}
-use Rattle.clause.specs.Rows.{rowCount, clausesOf}
+use Rattle.clause.specs.Rows.{rowCount, clausesOf, ClausesRead}
 use Rattle.clause.proofs.RowLaws.{clauses-length}
 use Rattle.clause.proofs.ReadLaws.{read-right}
 use Rattle.clause.proofs.WordLaws.{words-back, words-read, words-clauses}
@@ -32,12 +33,16 @@ use Rattle.clause_set.proofs.Insertion.{held-room, held-size, held-words}
 use Rattle.next_set.specs.Build.{failsBelow, fitted}
 use Rattle.next_set.specs.Post.{Round}
 use Rattle.next_set.proofs.Testing.{none-flagged}
-use Rattle.synthesis.specs.declared.Step as steps
-use Rattle.synthesis.specs.Rounds.{Stepped, Begun}
-use Rattle.synthesis.proofs.Units.{units-size, first-length}
+use Rattle.synthesis.specs.declared.End.{End}
+use Rattle.synthesis.specs.declared.End.the-variants.{Finished, OutOfRounds, OutOfRows}
+use Rattle.synthesis.specs.declared.Step.the-variants.{Ended}
+use Rattle.synthesis.specs.Rounds.{Advanced, Stepped, stepOf, ended, Begun}
+use Rattle.synthesis.proofs.Units.{units-size}
 
 -- ---- the test
-module _ (t : Task) (C : List (List ℕ)) (flags : List ℕ) (e : flags ≡ map (λ f. bit (failsBelow t C (length (t .operators)) f)) C) (b : Bool) (found : b ≡ any (λ x. eqb x 1) flags) where
+module _
+    (t : Task) (C : List (List ℕ)) (flags : List ℕ) (e : flags ≡ map (λ f. bit (failsBelow t C (length (t .operators)) f)) C) (b : Bool)
+    (found : b ≡ any (λ x. eqb x 1) flags) where
   pub test-passes : b ≡ false → all passes (tested t C) ≡ true
   test-passes h = not-false (all passes (tested t C)) (sym (found ∙ none-flagged t C flags e) ∙ h)
 
@@ -67,15 +72,14 @@ fits-some rows D E e = go (fits rows D) e
         none-some : _≡_ {A = Option (List (List ℕ))} none (some E) → ⊥
         none-some q = let z : _≡_ {A = ℕ} 0 1 = cc in omega arith
 
-module _ (rows : ℕ) (D : List (List ℕ)) (w : List ℕ) (r : Built) (built : Holds rows r w (fitted rows D)) where
-  pub next-full : r ≡ Full → fits rows D ≡ false
-  next-full e = fits-none rows D (subst (λ (z : Built). Holds rows z w (fitted rows D)) e built)
-
-  pub next-rows : (k : ℕ) → r ≡ Rows k → (fits rows D ≡ true) × Room rows k w × (held k w ≡ D)
-  next-rows k e =
-      let h = subst (λ (z : Built). Holds rows z w (fitted rows D)) e built in
-      let q = fits-some rows D (held k w) (h .1) in
-      (q .0, h .0, q .1)
+-- the step to the next set that was built
+pub step-built :
+    (t : Task) (n rows : ℕ) (last : Bool) (C : List (List ℕ)) (w : List ℕ) (b : Built) → Holds rows b w (fitted rows (next t n C))
+    → all passes (tested t C) ≡ false → last ≡ false → Stepped t n rows last C w (stepOf b)
+step-built t n rows last C w Full h fails more = (fails, more, fits-none rows (next t n C) h)
+step-built t n rows last C w (Rows k) h fails more =
+    let q = fits-some rows (next t n C) (held k w) (h .1) in
+    record { fails = fails; more = more; few = q .0; room = h .0; set = q .1 }
 
 -- ---- the rounds
 module _ (t : Task) (n rows r : ℕ) (C : List (List ℕ)) where
@@ -98,15 +102,13 @@ module _ (t : Task) (n rows r : ℕ) (C : List (List ℕ)) where
     rounds-next k k′ e h = rw (e, add-one, fails, rounds, h)
 
 -- ---- room for the flags
-pub few-rows : (w c : List ℕ) (n most rows : ℕ) (r : Round w c n most rows) (k : ℕ) (room : List ℕ) → k ≡ rowCount c → length room ≡ 10000 → k ≤ length room
-unfolding mostRows
-few-rows w c n most rows r k room e h =
+pub few-flags :
+    (w c : List ℕ) (atoms n rows : ℕ) → Round w c atoms n rows → (k : ℕ) → k ≡ rowCount c
+    → (room : List ℕ) → length room ≡ mostRows → k ≤ length room
+few-flags w c atoms n rows r k e room h =
     let a = r .size in
     let b = r .few in
     omega arith
-
-below-limit : (made limit : ℕ) → made ≤ limit → (made ≡ limit → ⊥) → made < limit
-below-limit made limit h ne = omega arith
 
 rows-of : (v : List ℕ) (k : ℕ) → length v ≡ width * k → rowCount v ≡ k
 unfolding rowCount width
@@ -116,58 +118,96 @@ rows-of v k h = omega arith
 good-wider : (N n : ℕ) (f : List ℕ) → n ≤ width → GoodClause N n f → GoodClause N width f
 good-wider N n f h g = record { list = g .list; some-literal = g .some-literal; most = (let a = g .most in omega arith) }
 
-pub record Standing (w : List ℕ) (n most limit rows : ℕ) (c : List ℕ) (count made : ℕ) (a : Answer Found) : Type 0 where
-  pub round : Round w (take (width * count) c) n most rows
+pub record Standing (w : List ℕ) (atoms n limit rows : ℕ) (c : List ℕ) (count made : ℕ) (a : Answer Found) : Type 0 where
+  pub round : Round w (take (width * count) c) atoms n rows
   pub inside : count ≤ rows
   pub room : width * rows ≤ length c
   pub some : 1 ≤ made
   pub allowed : made ≤ limit
-  pub left : a ≡ rounds (taskOf w) most rows made (limit - made) (clausesOf (take (width * count) c))
+  pub left : a ≡ rounds (taskOf w) n rows made (limit - made) (clausesOf (take (width * count) c))
 
-module _ (w : List ℕ) (n most rows : ℕ) (task : Reads w) (atoms : n ≡ taskOf w .atoms) (few : n ≤ 1024) (some-literal : 1 ≤ most) (narrow : most ≤ width) (few-rows : rows ≤ mostRows) (before count : ℕ) (v : List ℕ) (words : v ≡ clauseWords (setAt (taskOf w) most before)) (size : length (setAt (taskOf w) most before) ≡ count) (inside : count ≤ rows) where
+-- the set after `before` rounds, with `count` clauses, as words v
+record Made-set (w : List ℕ) (atoms n rows before count : ℕ) (v : List ℕ) : Type 0 where
+  task : Reads w
+  counted : atoms ≡ taskOf w .atoms
+  few : atoms ≤ mostAtoms
+  some-literal : 1 ≤ n
+  narrow : n ≤ width
+  few-rows : rows ≤ mostRows
+  words : v ≡ clauseWords (setAt (taskOf w) n before)
+  size : length (setAt (taskOf w) n before) ≡ count
+  inside : count ≤ rows
+
+module _ (w : List ℕ) (atoms n rows before count : ℕ) (v : List ℕ) (m : Made-set w atoms n rows before count v) where
   abbrev S : List (List ℕ)
-  S = setAt (taskOf w) most before
+  S = setAt (taskOf w) n before
 
-  good : (f : List ℕ) → List·Memᴰ f S → GoodClause n width f
-  good f m = rw atoms (good-wider (taskOf w .atoms) most f narrow (good-sets (taskOf w) most before some-literal f m))
+  good : (f : List ℕ) → List·Memᴰ f S → GoodClause atoms width f
+  good f i = rw (m .counted) (good-wider (taskOf w .atoms) n f (m .narrow) (good-sets (taskOf w) n before (m .some-literal) f i))
 
-  pub set-back : clausesOf v ≡ S
-  set-back = ap clausesOf words ∙ words-clauses n S few good (up-sets (taskOf w) most before) (omega arith)
+  few-set : length S ≤ mostRows
+  few-set = omega (arith, m .size, m .inside, m .few-rows)
 
-  pub set-round : Round w v n most rows
+  set-back : clausesOf v ≡ S
+  set-back = ap clausesOf (m .words) ∙ words-clauses atoms S (m .few) good (up-sets (taskOf w) n before) few-set
+
+  set-read : ClausesRead atoms v
+  set-read = rw (m .words) (words-read atoms S (m .few) good (up-sets (taskOf w) n before) few-set)
+
+  set-size : rowCount v ≤ rows
+  set-size =
+      let a = clauses-length v in
+      let b = ap length set-back in
+      omega (arith, m .size, m .inside)
+
+  set-round : Round w v atoms n rows
   set-round =
       record {
-        read = record { task = task; counted = atoms; few = few; clauses = rw words (words-read n S few good (up-sets (taskOf w) most before) (omega arith)) };
+        read = record { task = m .task; counted = m .counted; few = m .few; clauses = set-read };
         before = before;
         set = set-back;
-        some-literal = some-literal;
-        narrow = narrow;
-        size = (let a = clauses-length v in let b = ap length set-back in omega arith);
-        few = few-rows;
+        some-literal = m .some-literal;
+        narrow = m .narrow;
+        size = set-size;
+        few = m .few-rows;
       }
 
 pub first-size : (t : Task) → length (firstSet t) ≡ t .atoms
 unfolding firstSet
 first-size t = units-size (initialState t) (t .atoms)
 
--- the words of the first set
-pub first-words : (w : List ℕ) (n : ℕ) → Reads w → n ≡ taskOf w .atoms → n ≤ 1024 → length (clauseWords (firstSet (taskOf w))) ≡ width * n
-first-words w n task atoms few = first-length (taskOf w) ∙ ap (λ (k : ℕ). width * k) (sym atoms)
-
-pub standing-start : (w c v : List ℕ) (n most limit rows marks : ℕ) → Begun w c v n most limit rows marks → Standing w n most limit rows c n 1 (rounds (taskOf w) most rows 1 (limit - 1) (firstSet (taskOf w)))
+pub standing-start :
+    (w c v : List ℕ) (atoms n limit rows marks : ℕ) → Begun w c v atoms n limit rows marks
+    → Standing w atoms n limit rows c atoms 1 (rounds (taskOf w) n rows 1 (limit - 1) (firstSet (taskOf w)))
 unfolding setAt
-standing-start w c v n most limit rows marks b =
-    let size = first-size (taskOf w) ∙ sym (b .atoms) in
+standing-start w c v atoms n limit rows marks b =
     record {
-      round = set-round w n most rows (b .task) (b .atoms) (b .few) (b .some-literal) (b .narrow) (b .few-rows) 0 n (take (width * n) c) (b .words) size (b .size);
+      round = set-round w atoms n rows 0 atoms first made;
       inside = b .size;
       room = b .room;
       some = omega arith;
       allowed = b .some-round;
-      left = ap (rounds (taskOf w) most rows 1 (limit - 1)) (sym (set-back w n most rows (b .task) (b .atoms) (b .few) (b .some-literal) (b .narrow) (b .few-rows) 0 n (take (width * n) c) (b .words) size (b .size)));
+      left = ap (rounds (taskOf w) n rows 1 (limit - 1)) (sym (set-back w atoms n rows 0 atoms first made));
     }
+  where
+    first : List ℕ
+    first = take (width * atoms) c
 
-module _ (w : List ℕ) (n most limit rows : ℕ) (c : List ℕ) (count made : ℕ) (a : Answer Found) (s : Standing w n most limit rows c count made a) where
+    made : Made-set w atoms n rows 0 atoms first
+    made =
+        record {
+          task = b .task;
+          counted = b .counted;
+          few = b .few;
+          some-literal = b .some-literal;
+          narrow = b .narrow;
+          few-rows = b .few-rows;
+          words = b .words;
+          size = first-size (taskOf w) ∙ sym (b .counted);
+          inside = b .size;
+        }
+
+module _ (w : List ℕ) (atoms n limit rows : ℕ) (c : List ℕ) (count made : ℕ) (a : Answer Found) (s : Standing w atoms n limit rows c count made a) where
   abbrev t : Task
   t = taskOf w
 
@@ -180,61 +220,104 @@ module _ (w : List ℕ) (n most limit rows : ℕ) (c : List ℕ) (count made : �
       let r = s .room in
       omega arith
 
-  pub standing-below : eqb made limit ≡ false → made < limit
-  standing-below e = below-limit made limit (s .allowed) (eqb-false made limit e)
+  below-limit : made ≤ limit → (made ≡ limit → ⊥) → made < limit
+  below-limit h ne = omega arith
 
-  -- a round that has a next set
-  pub standing-next : (k : ℕ) (v c′ : List ℕ) → Stepped t most rows (eqb made limit) C v (steps.the-variants.Next k) → c′ ≡ take 0 c ++ take (width * k) v ++ drop (0 + length (take (width * k) v)) c → length c′ ≡ length c → Standing w n most limit rows c′ k (made + 1) a
-  unfolding setAt
-  standing-next k v c′ h e same =
-      let r = s .round in
-      let room = h .3 in
-      let words : take (width * k) v ≡ clauseWords (setAt t most (suc (r .before))) = sym (held-words rows k v room) ∙ ap clauseWords (h .4 ∙ ap (next t most) (r .set)) in
-      let front : take (width * k) c′ ≡ take (width * k) v = ap (take (width * k)) e ∙ take-at (take (width * k) v) (drop (0 + length (take (width * k) v)) c) (width * k) (length-take-le (width * k) v (held-room rows k v room)) in
-      let size : length (setAt t most (suc (r .before))) ≡ k = ap length (sym (h .4 ∙ ap (next t most) (r .set))) ∙ held-size rows k v room in
-      let q = r .read in
-      let below = standing-below (h .1) in
-      record {
-        round = set-round w n most rows (q .task) (q .atoms) (q .few) (r .some-literal) (r .narrow) (r .few) (suc (r .before)) k (take (width * k) c′) (front ∙ words) size (room .inside);
-        inside = room .inside;
-        room = (let z = s .room in omega arith);
-        some = omega arith;
-        allowed = omega arith;
-        left =
-            s .left
-            ∙ rounds-next t most rows made C (h .0) (limit - made) (limit - (made + 1)) (omega arith) (h .2)
-            ∙ ap (rounds t most rows (made + 1) (limit - (made + 1))) (ap (next t most) (r .set) ∙ sym (set-back w n most rows (q .task) (q .atoms) (q .few) (r .some-literal) (r .narrow) (r .few) (suc (r .before)) k (take (width * k) c′) (front ∙ words) size (room .inside)));
-      }
+  pub standing-below : eqb made limit ≡ false → made < limit
+  standing-below e = below-limit (s .allowed) (eqb-false made limit e)
+
+  -- a round that has a next set, of k rows, in the work buffer v
+  module _ (k : ℕ) (v c′ : List ℕ) (h : Advanced t n rows (eqb made limit) C v k) where
+    pub next-words : width * k ≤ length v
+    next-words = held-room rows k v (h .room)
+
+    pub next-room : width * k ≤ length c
+    next-room =
+        let i = mul-le-mul-left width (h .room .inside) in
+        let r = s .room in
+        omega arith
+
+    abbrev later : ℕ
+    later = suc (s .round .before)
+
+    next-set : held k v ≡ setAt t n later
+    unfolding setAt
+    next-set = h .set ∙ ap (next t n) (s .round .set)
+
+    module _ (e : c′ ≡ take (width * k) v ++ drop (width * k) c) (same : length c′ ≡ length c) where
+      front : take (width * k) c′ ≡ take (width * k) v
+      front = ap (take (width * k)) e ∙ take-at (take (width * k) v) (drop (width * k) c) (width * k) (length-take-le (width * k) v next-words)
+
+      made-next : Made-set w atoms n rows later k (take (width * k) c′)
+      made-next =
+          let r = s .round in
+          record {
+            task = r .read .task;
+            counted = r .read .counted;
+            few = r .read .few;
+            some-literal = r .some-literal;
+            narrow = r .narrow;
+            few-rows = r .few;
+            words = front ∙ sym (held-words rows k v (h .room)) ∙ ap clauseWords next-set;
+            size = ap length (sym next-set) ∙ held-size rows k v (h .room);
+            inside = h .room .inside;
+          }
+
+      pub standing-next : Standing w atoms n limit rows c′ k (made + 1) a
+      standing-next =
+          let below = standing-below (h .more) in
+          record {
+            round = set-round w atoms n rows later k (take (width * k) c′) made-next;
+            inside = h .room .inside;
+            room = (let z = s .room in omega arith);
+            some = omega arith;
+            allowed = omega arith;
+            left =
+                s .left
+                ∙ rounds-next t n rows made C (h .fails) (limit - made) (limit - (made + 1)) (omega arith) (h .few)
+                ∙ ap (rounds t n rows (made + 1) (limit - (made + 1)))
+                (sym (h .set) ∙ next-set ∙ sym (set-back w atoms n rows later k (take (width * k) c′) made-next));
+          }
 
   -- no clause fails
-  pub standing-found : (c₀ x : List ℕ) → length c ≡ length c₀ → all passes (tested t C) ≡ true → x ≡ take (width * count) c ++ replicate (length c - width * count) 0 → outcome (finding (record { rows = count; rounds = made })) x ≡ outcome (madeOf a) (bufferAfter c₀ a)
+  standing-found :
+      (c₀ : List ℕ) → length c ≡ length c₀ → all passes (tested t C) ≡ true
+      → ended c count made Finished ≡ outcome (madeOf a) (bufferAfter c₀ a)
   unfolding madeOf bufferAfter outcome
-  standing-found c₀ x same h e =
-      let f = s .left ∙ rounds-finished t most rows made C (limit - made) h in
-      let back : clauseWords C ≡ take (width * count) c = words-back n (take (width * count) c) (read-right n (take (width * count) c) (s .round .read .clauses)) in
-      let long : length (take (width * count) c) ≡ width * count = length-take-le (width * count) c standing-words in
-      let size : length C ≡ count = clauses-length (take (width * count) c) ∙ rows-of (take (width * count) c) count long in
-      rw (f, e, back, long, size, ← same)
+  standing-found c₀ same h =
+      let f = s .left ∙ rounds-finished t n rows made C (limit - made) h in
+      let first = take (width * count) c in
+      let back : clauseWords C ≡ first = words-back atoms first (read-right atoms first (s .round .read .clauses)) in
+      let long : length first ≡ width * count = length-take-le (width * count) c standing-words in
+      let size : length C ≡ count = clauses-length first ∙ rows-of first count long in
+      rw (f, back, long, size, ← same)
 
-  -- a clause fails, and no round is left
-  pub standing-over : (c₀ : List ℕ) (y : Outcome Made) → length c ≡ length c₀ → (all passes (tested t C) ≡ false) × (eqb made limit ≡ true) → y ≡ outcome (refused (refusalAt 15 0 0)) (replicate (length c) 0) → y ≡ outcome (madeOf a) (bufferAfter c₀ a)
+  -- where the rounds end
+  pub standing-end :
+      (c₀ : List ℕ) → length c ≡ length c₀ → (v : List ℕ) (e : End) → Stepped t n rows (eqb made limit) C v (Ended e)
+      → ended c count made e ≡ outcome (madeOf a) (bufferAfter c₀ a)
   unfolding madeOf bufferAfter outcome
-  standing-over c₀ y same h e =
+  standing-end c₀ same v Finished h = standing-found c₀ same h
+  standing-end c₀ same v OutOfRounds h =
       let m = eqb-true made limit (h .1) in
-      let f = s .left ∙ rounds-over t most rows made C (h .0) (limit - made) (omega arith) in
-      e ∙ rw (f, same)
-
-  -- the next set does not fit
-  pub standing-full : (c₀ : List ℕ) (y : Outcome Made) → length c ≡ length c₀ → (all passes (tested t C) ≡ false) × (eqb made limit ≡ false) × (fits rows (next t most C) ≡ false) → y ≡ outcome (refused (refusalAt 14 0 0)) (replicate (length c) 0) → y ≡ outcome (madeOf a) (bufferAfter c₀ a)
-  unfolding madeOf bufferAfter outcome
-  standing-full c₀ y same h e =
+      let f = s .left ∙ rounds-over t n rows made C (h .0) (limit - made) (omega arith) in
+      rw (f, same)
+  standing-end c₀ same v OutOfRows h =
       let below = standing-below (h .1) in
-      let f = s .left ∙ rounds-full t most rows made C (h .0) (limit - made) (limit - (made + 1)) (omega arith) (h .2) in
-      e ∙ rw (f, same)
+      let f = s .left ∙ rounds-full t n rows made C (h .0) (limit - made) (limit - (made + 1)) (omega arith) (h .2) in
+      rw (f, same)
 
 -- ---- zeros
-pub cleared : {A : Type 0} (x a : Answer A) (y old : List ℕ) → x ≡ a → y ≡ take 0 old ++ replicate (length old - 0) 0 → outcome x y ≡ outcome a (replicate (length old) 0)
+pub cleared :
+    {A : Type 0} (x a : Answer A) (y old : List ℕ) → x ≡ a → y ≡ take 0 old ++ replicate (length old - 0) 0
+    → outcome x y ≡ outcome a (replicate (length old) 0)
 unfolding outcome
 cleared x a y old e q =
     let z : length old - 0 ≡ length old = omega arith in
     rw (e, q, z)
+
+-- the answer of a finding
+pub end-found :
+    (c x : List ℕ) (count made : ℕ) (e : End) → e ≡ Finished → x ≡ take (width * count) c ++ replicate (length c - width * count) 0
+    → outcome (finding (record { rows = count; rounds = made })) x ≡ ended c count made e
+end-found c x count made e h q = rw (h, q)

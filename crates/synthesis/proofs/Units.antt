@@ -27,17 +27,17 @@ some-width = omega arith
 
 -- ---- the literal of an atom that is true in a state
 module _ (s : List ℕ) where
-  state-low : (n a : ℕ) → isState n s ≡ true → a < length s → getD s a 0 < 2
+  state-low : (atoms a : ℕ) → isState atoms s ≡ true → a < length s → getD s a 0 < 2
   unfolding isState
-  state-low n a h k = low-at 2 s a (and-right (eqb (length s) n) (allBelow 2 s) h) k
+  state-low atoms a h k = low-at 2 s a (and-right (eqb (length s) atoms) (allBelow 2 s) h) k
 
-  pub unit-word : (n a : ℕ) → isState n s ≡ true → a < length s → literalOf a (eqb (getD s a 0) 1) ≡ 2 * a + (1 - getD s a 0)
-  unit-word n a h k = go (decide (eqb (getD s a 0) 1))
+  pub unit-word : (atoms a : ℕ) → isState atoms s ≡ true → a < length s → literalOf a (eqb (getD s a 0) 1) ≡ 2 * a + (1 - getD s a 0)
+  unit-word atoms a h k = go (decide (eqb (getD s a 0) 1))
     where
       go : (eqb (getD s a 0) 1 ≡ true) ⊎ (eqb (getD s a 0) 1 ≡ false) → literalOf a (eqb (getD s a 0) 1) ≡ 2 * a + (1 - getD s a 0)
       go (inl e) = let q = eqb-true (getD s a 0) 1 e in rw e (omega arith)
       go (inr e) =
-          let low = state-low n a h k in
+          let low = state-low atoms a h k in
           let q = eqb-false (getD s a 0) 1 e in
           rw e (omega arith)
 
@@ -68,41 +68,47 @@ module _ (s : List ℕ) where
       ∙ sym (append-assoc (rowOf (unit a)) (clauseWords (unitsFrom s (suc a) k)) (rowOf (unit (a + suc k))))
 
   -- ---- rows of fill, of which the first are written
-  pub units-start : (n : ℕ) (w : List ℕ) → w ≡ replicate (width * n) fill → w ≡ clauseWords (unitsFrom s 0 0) ++ replicate (width * (n - 0)) fill
+  pub units-start : (atoms : ℕ) (w : List ℕ) → w ≡ replicate (width * atoms) fill → w ≡ clauseWords (unitsFrom s 0 0) ++ replicate (width * (atoms - 0)) fill
   unfolding unitsFrom clauseWords each range
-  units-start n w e = let q : n - 0 ≡ n = omega arith in rw q e
+  units-start atoms w e = let q : atoms - 0 ≡ atoms = omega arith in rw q e
 
-  module _ (n a : ℕ) (w : List ℕ) (inv : w ≡ clauseWords (unitsFrom s 0 a) ++ replicate (width * (n - a)) fill) where
-    pub units-room : a < n → width * a < length w
+  module _ (atoms a : ℕ) (w : List ℕ) (inv : w ≡ clauseWords (unitsFrom s 0 a) ++ replicate (width * (atoms - a)) fill) where
+    pub units-room : a < atoms → width * a < length w
     units-room h =
         let l = units-length 0 a in
-        let k : n - a ≡ suc (n - suc a) = omega arith in
-        let m = mul-suc width (n - suc a) in
+        let k : atoms - a ≡ suc (atoms - suc a) = omega arith in
+        let m = mul-suc width (atoms - suc a) in
         let p = some-width in
         rw (inv, length-append, length-replicate, k) (omega arith)
 
-    pub units-turn : (l : ℕ) → a < n → l ≡ 2 * a + (1 - getD s a 0) → set w (width * a) l ≡ clauseWords (unitsFrom s 0 (a + 1)) ++ replicate (width * (n - (a + 1))) fill
-    units-turn l h e =
-        let k : width * (n - a) ≡ suc (width - 1 + width * (n - suc a)) = (let q : n - a ≡ suc (n - suc a) = omega arith in let p = some-width in rw q (omega (arith, mul-suc width (n - suc a)))) in
+    pub units-row :
+        (l : ℕ) → a < atoms → l ≡ 2 * a + (1 - getD s a 0)
+        → set w (width * a) l ≡ clauseWords (unitsFrom s 0 (a + 1)) ++ replicate (width * (atoms - (a + 1))) fill
+    units-row l h e =
+        let k : width * (atoms - a) ≡ suc (width - 1 + width * (atoms - suc a)) =
+        (let q : atoms - a ≡ suc (atoms - suc a) = omega arith in let p = some-width in rw q (omega (arith, mul-suc width (atoms - suc a)))) in
         let z : 0 + a ≡ a = omega arith in
-        let rest : List ℕ = replicate (width - 1 + width * (n - suc a)) fill in
-        let both : rest ≡ replicate (width - 1) fill ++ replicate (width * (n - suc a)) fill = sym (replicate-append-replicate (width - 1) (width * (n - suc a)) fill) in
+        let rest : List ℕ = replicate (width - 1 + width * (atoms - suc a)) fill in
+        let both : rest ≡ replicate (width - 1) fill ++ replicate (width * (atoms - suc a)) fill =
+        sym (replicate-append-replicate (width - 1) (width * (atoms - suc a)) fill) in
         let stored : set w (width * a) l ≡ clauseWords (unitsFrom s 0 a) ++ l ∷ rest
         = rw (inv, k) (set-at (clauseWords (unitsFrom s 0 a)) fill rest l (width * a) (units-length 0 a)) in
         let row : clauseWords (unitsFrom s 0 (suc a)) ≡ clauseWords (unitsFrom s 0 a) ++ (l ∷ replicate (width - 1) fill)
         = words-last 0 a ∙ rw (z, unit-row (2 * a + (1 - getD s a 0)), ← e) in
-        stored ∙ rw (add-one, row, both) (sym (append-assoc (clauseWords (unitsFrom s 0 a)) (l ∷ replicate (width - 1) fill) (replicate (width * (n - suc a)) fill)))
+        stored
+        ∙ rw (add-one, row, both)
+        (sym (append-assoc (clauseWords (unitsFrom s 0 a)) (l ∷ replicate (width - 1) fill) (replicate (width * (atoms - suc a)) fill)))
 
-    pub units-end : n ≤ a → a ≤ n → w ≡ clauseWords (unitsFrom s 0 n)
+    pub units-end : atoms ≤ a → a ≤ atoms → w ≡ clauseWords (unitsFrom s 0 atoms)
     units-end h k =
-        let e : a ≡ n = omega arith in
-        let z : n - n ≡ 0 = omega arith in
-        inv ∙ rw (e, z, mul-zero width) (append-nil (clauseWords (unitsFrom s 0 n)))
+        let e : a ≡ atoms = omega arith in
+        let z : atoms - atoms ≡ 0 = omega arith in
+        inv ∙ rw (e, z, mul-zero width) (append-nil (clauseWords (unitsFrom s 0 atoms)))
 
 -- ---- the first set
-pub units-size : (s : List ℕ) (n : ℕ) → length (map (λ a. (2 * a + (1 - getD s a 0)) ∷ []) (below n)) ≡ n
+pub units-size : (s : List ℕ) (atoms : ℕ) → length (map (λ a. (2 * a + (1 - getD s a 0)) ∷ []) (below atoms)) ≡ atoms
 unfolding below range
-units-size s n = go 0 n
+units-size s atoms = go 0 atoms
   where
     go : (i k : ℕ) → length (map (λ a. (2 * a + (1 - getD s a 0)) ∷ []) (range i k)) ≡ k
     go i zero = refl
@@ -127,15 +133,16 @@ pub initial-state : (t : Task) → isState (t .atoms) (initialState t) ≡ true
 unfolding isState initialState allBelow
 initial-state t =
     and-both (eq-eqb (length (map (stateOf (t .initial)) (below (t .atoms)))) (t .atoms) (table-length (stateOf (t .initial)) (t .atoms)))
-    (all-of (λ x. ltb x 2) (map (stateOf (t .initial)) (below (t .atoms))) (λ x m. let o = map-of (stateOf (t .initial)) (below (t .atoms)) m in rw (o .same) (bit-low (o .it))))
+    (all-of (λ x. ltb x 2) (map (stateOf (t .initial)) (below (t .atoms)))
+    (λ x m. let o = map-of (stateOf (t .initial)) (below (t .atoms)) m in rw (o .same) (bit-low (o .it))))
   where
     bit-low : (a : ℕ) → ltb (stateOf (t .initial) a) 2 ≡ true
     bit-low a = lt-ltb (stateOf (t .initial) a) 2 (state-bit (t .initial) a)
 
 -- the words before the units are written are fill
-pub filled : (w w′ : List ℕ) (n k : ℕ) → length w ≡ width * n → k ≡ n → w′ ≡ take 0 w ++ replicate (length w - 0) fill → w′ ≡ replicate (width * k) fill
-filled w w′ n k h e q =
-    let z : length w - 0 ≡ width * k = (let a : width * n ≡ width * k = ap (λ (m : ℕ). width * m) (sym e) in omega arith) in
+pub filled : (w w′ : List ℕ) (atoms k : ℕ) → length w ≡ width * atoms → k ≡ atoms → w′ ≡ take 0 w ++ replicate (length w - 0) fill → w′ ≡ replicate (width * k) fill
+filled w w′ atoms k h e q =
+    let z : length w - 0 ≡ width * k = (let a : width * atoms ≡ width * k = ap (λ (m : ℕ). width * m) (sym e) in omega arith) in
     q ∙ rw z
 
 initial-length : (t : Task) → length (initialState t) ≡ t .atoms

@@ -2,9 +2,9 @@
 ghost use mathlib.Core.Path.{_≡_};
 ghost use mathlib.Core.Bool.{true};
 ghost use mathlib.Core.List.{_++_};
-ghost use Prim.Native.Nat.{_-_, _*_, _≤_, _<_};
-ghost use lib.ListN.{length, getD, drop, replicate};
-ghost use Rattle.definitions.specs.Literal.{fill, isState};
+ghost use Prim.Native.Nat.{_*_, _≤_};
+ghost use lib.ListN.{length, drop, replicate};
+ghost use Rattle.definitions.specs.Literal.{mostAtoms, fill, isState};
 ghost use Rattle.definitions.specs.Clauses.{width, clauseWords};
 ghost use Rattle.definitions.specs.Synthesis.{firstSet};
 ghost use Rattle.task.specs.Reads.{taskOf, Reads};
@@ -12,16 +12,9 @@ ghost use Rattle.synthesis.specs.Rounds.{unitsFrom};
 use clause::WIDTH;
 use literal::Literal;
 
-// Room for a state.
-fn state_room() -> [u8; 1024]
-    ensures { λ r. ⌜ length r ≡ 1024 ⌝ }
-{
-    [0u8; 1024]
-}
-
 // Writes the one-literal clauses true in a state into rows of fill.
 fn write_units(state: &[u8], words: &mut [u16])
-    requires { ⌜ (length (now state) ≤ 1024) × (isState (length (now state)) (now state) ≡ true) × (now words ≡ replicate (width * length (now state)) fill) ⌝ }
+    requires { ⌜ (length (now state) ≤ mostAtoms) × (isState (length (now state)) (now state) ≡ true) × (now words ≡ replicate (width * length (now state)) fill) ⌝ }
     ensures { λ _. ⌜ now (words .exit) ≡ clauseWords (unitsFrom (now (state .entry)) 0 (length (now (state .entry)))) ⌝ }
 {
     let mut a: usize = 0;
@@ -33,21 +26,22 @@ fn write_units(state: &[u8], words: &mut [u16])
 }
 
 // Writes the rows of the first set into the words of as many rows as there are atoms.
-fn write_rows(image: &[u16], words: &mut [u16], n: usize)
-    requires { ⌜ Reads (now image) × (n ≡ taskOf (now image) .atoms) × (n ≤ 1024) × (length (now words) ≡ width * n) ⌝ }
+fn write_rows(image: &[u16], words: &mut [u16])
+    requires { ⌜ Reads (now image) × (length (now words) ≡ width * taskOf (now image) .atoms) ⌝ }
     ensures { λ _. ⌜ now (words .exit) ≡ clauseWords (firstSet (taskOf (now (image .entry)))) ⌝ }
 {
-    let mut state = state_room();
-    state::write_initial(image, &mut state[..n]);
+    let atoms = task::atoms(image);
+    let mut state = literal::room::state();
+    state::write_initial(image, &mut state[..atoms]);
     clause_set::words::fill(words, 0, Literal::FILL);
-    write_units(&state[..n], words);
+    write_units(&state[..atoms], words);
 }
 
 // Writes the first set into the first rows of a buffer.
-pub fn write_first(image: &[u16], clauses: &mut [u16], n: usize)
-    requires { ⌜ Reads (now image) × (n ≡ taskOf (now image) .atoms) × (n ≤ 1024) × (width * n ≤ length (now clauses)) ⌝ }
-    ensures { λ _. ⌜ now (clauses .exit) ≡ clauseWords (firstSet (taskOf (now (image .entry)))) ++ drop (width * n) (now (clauses .entry)) ⌝ }
+pub fn write_first(image: &[u16], clauses: &mut [u16])
+    requires { ⌜ Reads (now image) × (width * taskOf (now image) .atoms ≤ length (now clauses)) ⌝ }
+    ensures { λ _. ⌜ now (clauses .exit) ≡ clauseWords (firstSet (taskOf (now (image .entry)))) ++ drop (width * taskOf (now (image .entry)) .atoms) (now (clauses .entry)) ⌝ }
 {
-    let end = WIDTH * n;
-    write_rows(image, &mut clauses[..end], n);
+    let end = WIDTH * task::atoms(image);
+    write_rows(image, &mut clauses[..end]);
 }

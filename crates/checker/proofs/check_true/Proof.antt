@@ -1,13 +1,14 @@
 -- `checker::check_true`: the first clause that is false is the first of those that are left.
 use denote.Ref.{now}
-use Prim.Native.Nat.{_≤_, _<_, _-_}
+use Prim.Native.Nat.{ℕ, _≤_, _<_, _-_}
 use mathlib.Core.Path.{_≡_, refl, sym, _∙_}
-use mathlib.Core.List.{[]}
+use mathlib.Core.List.{List, []}
 use native.Mathlib.Omega.{arith}
-use lib.ListN.{drop}
+use lib.ListN.{getD, drop}
 use borrow.Author.Tests.{not-true, not-false}
 use Rattle.definitions.specs.Lists.{firstFail}
 use Rattle.definitions.specs.Literal.{holdsIn}
+use Rattle.definitions.specs.Clauses.{clauseOf}
 use Rattle.clause.specs.Rows.{rowCount, clausesOf}
 use Rattle.clause.proofs.RowLaws.{clauses-length}
 use Rattle.judge.proofs.Rows.{clause-read}
@@ -17,10 +18,29 @@ use Rattle.checker.proofs.check_true.Statement.{statement}
 use Rattle.checker.proofs.check_true.Tie as tie
 
 abbrev Inv-loop : tie.InvT-loop
-Inv-loop clauses state count i₀ i = (i ≤ count) × (count ≡ rowCount clauses) × (firstFail (holdsIn state) 0 (clausesOf clauses) ≡ firstFail (holdsIn state) i (drop i (clausesOf clauses)))
+Inv-loop clauses state count i₀ i =
+    (i ≤ count) × (count ≡ rowCount clauses)
+    × (firstFail (holdsIn state) 0 (clausesOf clauses) ≡ firstFail (holdsIn state) i (drop i (clausesOf clauses)))
 
 abbrev μ-loop : tie.MeasureT-loop
 μ-loop clauses state count i₀ i = count - i
+
+-- at the loop's head: the clause words
+abbrev head : Type 0
+head = tie.At-loop Inv-loop μ-loop
+
+abbrev counted : head → tie.After-rows Inv-loop μ-loop
+counted h = h .before
+
+abbrev words : head → List ℕ
+words h = now (counted h .before .before .before .args .clauses)
+
+-- in the loop: the clause
+inside : (c : tie.In-loop Inv-loop μ-loop) → c .before .loop .i < rowCount (words (c .before))
+inside c = omega (arith, c .before .loop .inv .1, c .loop-test .taken)
+
+abbrev within : tie.After-row Inv-loop μ-loop → tie.In-loop Inv-loop μ-loop
+within c = c .before
 
 rows-requires : tie.Need-rows-requires Inv-loop μ-loop
 rows-requires c κs = search needs
@@ -39,14 +59,15 @@ refuse-at-requires c κs = search needs
 
 returns : tie.Need-returns Inv-loop μ-loop
 returns c =
-    let t = c .before .before .before .before in
-    let i = t .before .loop .inv in
-    let w = now (c .before .before .before .before .before .before .before .before .before .args .clauses) in
-    let h : t .before .loop .i < rowCount w = omega (arith, i .1) in
+    let o = c .before .before in
+    let t = within (o .before) in
+    let w = words (t .before) in
+    let this = clause-read w _ _ _ (inside t) (o .before .row .ensures) refl in
     c .refuse-at .ensures
     ∙ false-at _ _
-    (i .2
-    ∙ first-left (holdsIn _) (clausesOf w) _ [] _ (clause-read w _ _ _ h (c .before .before .before .row .ensures) refl) (omega (arith, clauses-length w)) (sym (c .before .before .holds .ensures) ∙ not-true _ (c .before .if1 .taken)))
+    (t .before .loop .inv .2
+    ∙ first-left (holdsIn _) (clausesOf w) _ [] _ this (omega (arith, clauses-length w, inside t))
+    (sym (o .holds .ensures) ∙ not-true _ (c .before .if1 .taken)))
 
 add-i : tie.Need-add-i Inv-loop μ-loop
 add-i c = search needs
@@ -56,21 +77,24 @@ loop-less c = search needs
 
 loop-again : tie.Need-loop-again Inv-loop μ-loop
 loop-again c =
-    let t = c .before .before .before in
+    let o = c .before in
+    let t = within (o .before) in
+    let w = words (t .before) in
     let i = t .before .loop .inv in
-    let w = now (c .before .before .before .before .before .before .before .before .args .clauses) in
-    let h : t .before .loop .i < rowCount w = omega (arith, i .1) in (
+    let this = clause-read w _ _ _ (inside t) (o .before .row .ensures) refl in (
       omega arith,
       i .1,
       i .2
-          ∙ first-on (holdsIn _) (clausesOf w) _ [] _ (clause-read w _ _ _ h (c .before .before .row .ensures) refl) (omega (arith, clauses-length w)) (sym (c .before .holds .ensures) ∙ not-false _ (c .if1 .left)),
+          ∙ first-on (holdsIn _) (clausesOf w) _ [] _ this (omega (arith, clauses-length w, inside t))
+          (sym (o .holds .ensures) ∙ not-false _ (c .if1 .left)),
     )
 
 returns-2 : tie.Need-returns-2 Inv-loop μ-loop
 returns-2 c =
-    let i = c .before .loop .inv in
-    let w = now (c .before .before .before .before .before .args .clauses) in
-    false-none _ (i .2 ∙ first-end (holdsIn _) (clausesOf w) (c .before .loop .i) (omega (arith, i .1, clauses-length w)))
+    let h = c .before in
+    let w = words h in
+    let i = h .loop .inv in
+    false-none _ (i .2 ∙ first-end (holdsIn _) (clausesOf w) (h .loop .i) (omega (arith, i .1, clauses-length w, c .loop-test .left)))
 
 pub check-true-spec : {M : Type 1} → statement M
 check-true-spec =

@@ -43,7 +43,7 @@ same-length c = c .before .loop .inv .1
 returns : tie.Need-returns Inv-loop μ-loop
 returns c =
     let l = c .before .loop in
-    let e : l .i ≡ 2 * c .before .before .args .n = omega arith in
+    let e : l .i ≡ 2 * c .before .before .args .atoms = omega arith in
     l .inv .2 ∙ rw e
 
 pub clear-spec : {M : Type 1} → statement M

@@ -1,4 +1,4 @@
--- `propagation::copy`: the marks up to i are copied, those behind the end stay.
+-- `propagation::copy`: the marks up to i are copied, those after the end stay.
 use Prim.Native.Nat.{_-_}
 use native.Mathlib.Omega.{arith}
 use Rattle.propagation.proofs.Marks.{Copied, copy-start, copy-on, copy-end}

@@ -14,24 +14,39 @@ mul-end c = search needs
 slice-relend-prefix-propagate : tie.Need-slice-relend-prefix-propagate
 slice-relend-prefix-propagate c = search needs
 
+-- the places of the function
+abbrev at-start : tie.After-shared-slice-known → tie.Start
+at-start c = c .before
+
+abbrev after-shared-slice-known : tie.After-propagate-arg → tie.After-shared-slice-known
+after-shared-slice-known c = c .before .before .before
+
+abbrev after-propagate-arg : tie.After-slice-known2 → tie.After-propagate-arg
+after-propagate-arg c = c .before .before .before
+
+abbrev at-start-from-slice-known2 : tie.After-slice-known2 → tie.Start
+at-start-from-slice-known2 c = at-start (after-shared-slice-known ((after-propagate-arg c)))
+
 slice-aggregate-propagate : tie.Need-slice-aggregate-propagate
-slice-aggregate-propagate c = sym (length-take-le _ _ (c .before .before .before .before .pre .0 .room))
+slice-aggregate-propagate c = sym (length-take-le _ _ (at-start (after-shared-slice-known c) .pre .0 .room))
 
 propagate-requires : tie.Need-propagate-requires
 propagate-requires c κs =
-    let s = c .before .before .before .before in
+    let s = at-start (after-shared-slice-known c) in
     let p = s .pre in
-    let m = now (s .args .marks) in
-    (ready-front (s .args .n) _ _ m (p .0) (p .1 .set) (p .1 .marked) (p .1 .consistent), front-below (s .args .n) _ _ m (p .0) (take (2 * s .args .n) m) (length-take-le (2 * s .args .n) m (p .0 .room)))
+    let m = now (s .args .marks) in (
+      ready-front (s .args .atoms) _ _ m (p .0) (p .1 .set) (p .1 .marked) (p .1 .consistent),
+      front-below (s .args .atoms) _ _ m (p .0) (take (2 * s .args .atoms) m) (length-take-le (2 * s .args .atoms) m (p .0 .room)),
+    )
 
 same-length : tie.Need-same-length
 same-length c = search needs
 
 returns : tie.Need-returns
 returns c =
-    let s = c .before .before .before .before .before .before .before in
+    let s = at-start-from-slice-known2 c in
     let r = c .before .before .propagate in
-    let n = s .args .n in
+    let n = s .args .atoms in
     let m = now (s .args .marks) in
     let k = r .kept .1 .1 .0 in (
       behind-front n m (r .last .1 .1 .0) (s .pre .0 .room) (k ∙ length-take-le (2 * n) m (s .pre .0 .room)),

@@ -18,7 +18,9 @@ use Rattle.propagation.proofs.holds_all.Statement.{statement}
 use Rattle.propagation.proofs.holds_all.Tie as tie
 
 abbrev Inv-loop : tie.InvT-loop
-Inv-loop marks literals i₀ i = (i ≤ length literals) × ((N : ℕ) (S : List ℕ) → Marked N marks S → allBelow (2 * N) literals ≡ true → allIn S literals ≡ all (has S) (drop i literals))
+Inv-loop marks literals i₀ i =
+    (i ≤ length literals) ×
+    ((N : ℕ) (S : List ℕ) → Marked N marks S → allBelow (2 * N) literals ≡ true → allIn S literals ≡ all (has S) (drop i literals))
 
 abbrev μ-loop : tie.MeasureT-loop
 μ-loop marks literals i₀ i = length literals - i
@@ -39,10 +41,24 @@ wide-requires c κs = search needs
 holds-requires : tie.Need-holds-requires Inv-loop μ-loop
 holds-requires c κs = search needs
 
+-- the places of the function
+abbrev in-loop : tie.After-wide Inv-loop μ-loop → tie.In-loop Inv-loop μ-loop
+in-loop c = c .before .before
+
+abbrev after-wide-of-else1 : tie.Else1 Inv-loop μ-loop → tie.After-wide Inv-loop μ-loop
+after-wide-of-else1 c = c .before .before
+
+abbrev after-wide-of-then1 : tie.Then1 Inv-loop μ-loop → tie.After-wide Inv-loop μ-loop
+after-wide-of-then1 c = c .before .before
+
 returns : tie.Need-returns Inv-loop μ-loop
 returns c = λ N S m b.
-    let t = c .before .before .before .before in
-    sym (t .before .loop .inv .1 N S m b ∙ all-off _ _ 0 _ (c .before .before .wide .ensures .0) (t .loop-test .taken) (has S) (sym (c .before .holds .ensures N S m (place-below _ _ _ _ b (c .before .before .wide .ensures .0) (t .loop-test .taken))) ∙ not-true _ (c .if1 .taken)))
+    let t = in-loop (after-wide-of-then1 c) in
+    sym
+    (t .before .loop .inv .1 N S m b
+    ∙ all-off _ _ 0 _ (c .before .before .wide .ensures .0) (t .loop-test .taken) (has S)
+    (sym (c .before .holds .ensures N S m (place-below _ _ _ _ b (c .before .before .wide .ensures .0) (t .loop-test .taken)))
+    ∙ not-true _ (c .if1 .taken)))
 
 add-i : tie.Need-add-i Inv-loop μ-loop
 add-i c = search needs
@@ -54,8 +70,11 @@ loop-again : tie.Need-loop-again Inv-loop μ-loop
 loop-again c = (
   omega arith,
   λ N S m b.
-      let t = c .before .before .before .before in
-      t .before .loop .inv .1 N S m b ∙ all-on _ _ 0 _ (c .before .before .wide .ensures .0) (t .loop-test .taken) (has S) (sym (c .before .holds .ensures N S m (place-below _ _ _ _ b (c .before .before .wide .ensures .0) (t .loop-test .taken))) ∙ not-false _ (c .if1 .left)),
+      let t = in-loop (after-wide-of-else1 c) in
+      t .before .loop .inv .1 N S m b
+      ∙ all-on _ _ 0 _ (c .before .before .wide .ensures .0) (t .loop-test .taken) (has S)
+      (sym (c .before .holds .ensures N S m (place-below _ _ _ _ b (c .before .before .wide .ensures .0) (t .loop-test .taken)))
+      ∙ not-false _ (c .if1 .left)),
 )
 
 returns-2 : tie.Need-returns-2 Inv-loop μ-loop

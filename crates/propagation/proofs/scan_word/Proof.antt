@@ -17,10 +17,20 @@ is-false-requires c κs = (c .before .before .before .pre .0, c .before .before 
 returns-3 : tie.Need-returns-3
 returns-3 c = λ _ _. sym (c .before .is-false .ensures) ∙ c .if3 .taken
 
+-- the places of the function
+abbrev else1 : tie.After-is-false → tie.Else1
+else1 c = c .before .before
+
+abbrev after-is-false-of-else4 : tie.Else4 → tie.After-is-false
+after-is-false-of-else4 c = c .before .before
+
+abbrev after-is-false-of-then4 : tie.Then4 → tie.After-is-false
+after-is-false-of-then4 c = c .before .before
+
 returns-4 : tie.Need-returns-4
 unfolding fill
 returns-4 c = (
-  c .before .before .before .before .if1 .left,
+  else1 (after-is-false-of-then4 c) .if1 .left,
   sym (c .before .before .is-false .ensures) ∙ c .before .if3 .left,
   c .if4 .taken,
   c .before .before .before .if2 .left,
@@ -28,7 +38,7 @@ returns-4 c = (
 
 returns-5 : tie.Need-returns-5
 unfolding fill
-returns-5 c = (c .before .before .before .before .if1 .left, sym (c .before .before .is-false .ensures) ∙ c .before .if3 .left, c .if4 .left)
+returns-5 c = (else1 (after-is-false-of-else4 c) .if1 .left, sym (c .before .before .is-false .ensures) ∙ c .before .if3 .left, c .if4 .left)
 
 pub scan-word-spec : {M : Type 1} → statement M
 scan-word-spec = tie.close (tie.spec returns returns-2 is-false-requires returns-3 returns-4 returns-5)

@@ -29,19 +29,38 @@ mul-l c = search needs
 shared-slice-read-l : tie.Need-shared-slice-read-l Inv-loop μ-loop
 shared-slice-read-l c = search needs
 
+-- the places of the function
+abbrev at-start : tie.At-loop Inv-loop μ-loop → tie.Start Inv-loop μ-loop
+at-start c = c .before .before .before
+
+abbrev at-loop : tie.In-loop Inv-loop μ-loop → tie.At-loop Inv-loop μ-loop
+at-loop c = c .before
+
+abbrev in-loop : tie.After-is-false-arg Inv-loop μ-loop → tie.In-loop Inv-loop μ-loop
+in-loop c = c .before .before
+
+abbrev after-is-false-arg-of-then1 : tie.Then1 Inv-loop μ-loop → tie.After-is-false-arg Inv-loop μ-loop
+after-is-false-arg-of-then1 c = c .before .before
+
+abbrev at-loop-from-then1 : tie.Then1 Inv-loop μ-loop → tie.At-loop Inv-loop μ-loop
+at-loop-from-then1 c = at-loop (in-loop ((after-is-false-arg-of-then1 c)))
+
+abbrev after-is-false-arg-of-wide : tie.After-wide Inv-loop μ-loop → tie.After-is-false-arg Inv-loop μ-loop
+after-is-false-arg-of-wide c = c .before .before .before
+
 is-false-requires : tie.Need-is-false-requires Inv-loop μ-loop
 is-false-requires c κs =
     let t = c .before .before in
-    let p = t .before .before .before .before .pre in
+    let p = at-start (at-loop t) .pre in
     let e = t .before .loop .inv .same-length in
     (even-on _ _ e (p .0 .even), omega (arith, e, place-below _ _ _ _ (p .1) refl (t .loop-test .taken)))
 
 same-length : tie.Need-same-length Inv-loop μ-loop
-same-length c = c .before .before .before .before .before .loop .inv .same-length
+same-length c = at-loop-from-then1 c .loop .inv .same-length
 
 returns : tie.Need-returns Inv-loop μ-loop
 returns c =
-    let t = c .before .before .before .before in
+    let t = in-loop (after-is-false-arg-of-then1 c) in
     seed-clash _ _ _ _ _ (t .before .loop .inv) refl (t .loop-test .taken) (sym (c .before .is-false .ensures) ∙ c .if1 .taken)
 
 wide-requires : tie.Need-wide-requires Inv-loop μ-loop
@@ -49,8 +68,8 @@ wide-requires c κs = search needs
 
 slice-write-marks : tie.Need-slice-write-marks Inv-loop μ-loop
 slice-write-marks c =
-    let t = c .before .before .before .before .before in
-    omega (arith, t .before .loop .inv .same-length, place-below _ _ _ _ (t .before .before .before .before .pre .1) (c .wide .ensures .0) (t .loop-test .taken))
+    let t = in-loop (after-is-false-arg-of-wide c) in
+    omega (arith, t .before .loop .inv .same-length, place-below _ _ _ _ (at-start (at-loop t) .pre .1) (c .wide .ensures .0) (t .loop-test .taken))
 
 add-i : tie.Need-add-i Inv-loop μ-loop
 add-i c = search needs
@@ -60,10 +79,10 @@ loop-less c = search needs
 
 loop-again : tie.Need-loop-again Inv-loop μ-loop
 loop-again c =
-    let t = c .before .before .before .before .before in
+    let t = in-loop (after-is-false-arg-of-wide c) in
     let l = t .before .loop in
     seed-on _ _ _ _ _ (l .inv) (c .wide .ensures .0) (t .loop-test .taken)
-    (omega (arith, l .inv .same-length, place-below _ _ _ _ (t .before .before .before .before .pre .1) (c .wide .ensures .0) (t .loop-test .taken)))
+    (omega (arith, l .inv .same-length, place-below _ _ _ _ (at-start (at-loop t) .pre .1) (c .wide .ensures .0) (t .loop-test .taken)))
     (ap (λ (x : ℕ). has (l .marks) (complement x)) (c .wide .ensures .0) ∙ sym (c .before .before .is-false .ensures) ∙ c .before .if1 .left)
 
 same-length-2 : tie.Need-same-length-2 Inv-loop μ-loop

@@ -41,11 +41,17 @@ abbrev μ-walk : tie.MeasureT-walk
 abbrev outer : Type 0
 outer = tie.In-walk Inv-loop μ-loop Inv-walk μ-walk
 
+abbrev head : outer → tie.At-walk Inv-loop μ-loop Inv-walk μ-walk
+head w = w .before
+
+abbrev start : outer → tie.Start Inv-loop μ-loop Inv-walk μ-walk
+start w = head w .before .before .before
+
 abbrev words : outer → List ℕ
-words w = now (w .before .before .before .before .args .clauses)
+words w = now (start w .args .clauses)
 
 abbrev set-first : outer → List ℕ
-set-first w = now (w .before .before .before .before .args .marks)
+set-first w = now (start w .args .marks)
 
 abbrev set-now : outer → List ℕ
 set-now w = w .before .walk .marks
@@ -57,7 +63,7 @@ abbrev so-far : outer → Pass
 so-far w = w .before .walk .pass
 
 ready : (w : outer) → Ready (words w) (set-first w)
-ready w = w .before .before .before .before .pre
+ready w = start w .pre
 
 atoms : outer → ℕ
 atoms w = ready w .atoms
@@ -82,42 +88,76 @@ row-right w = start-right (atoms w) (words w) (place w) (rows w) (state w .align
 abbrev inner : Type 0
 inner = tie.In-loop Inv-loop μ-loop Inv-walk μ-walk
 
+abbrev row-of : inner → outer
+row-of c = c .before .before
+
 abbrev word : inner → ℕ
-word c = getD (words (c .before .before)) (place (c .before .before) + c .before .loop .k) 0
+word c = getD (words (row-of c)) (place (row-of c) + c .before .loop .k) 0
 
 in-width : (c : inner) → c .before .loop .k < width
 unfolding width
 in-width c = c .loop-test .taken
 
-in-range : (c : inner) → place (c .before .before) + c .before .loop .k < length (words (c .before .before))
-in-range c = omega (arith, inside (c .before .before), in-width c)
+in-range : (c : inner) → place (row-of c) + c .before .loop .k < length (words (row-of c))
+in-range c = omega (arith, inside (row-of c), in-width c)
 
-word-below : (c : inner) → (word c ≡ fill → ⊥) → word c < length (set-now (c .before .before))
+word-below : (c : inner) → (word c ≡ fill → ⊥) → word c < length (set-now (row-of c))
 unfolding atoms
 word-below c ne =
-    let w = c .before .before in
-    let m = word-in (words w) (set-now w) (place w) (c .before .loop .k) (c .before .loop .first) (c .before .loop .inv .1) (in-width c) ne in
-    omega (arith, clause-below (atoms w) (words w) (rows w) (clauseAt (words w) (place w)) (this (words w) (set-first w) (set-now w) (place w) (inside w) (so-far w) (state w)) (word c) m, ready w .exact, length-now w)
+    let w = row-of c in
+    let l = c .before .loop in
+    let m = word-in (words w) (set-now w) (place w) (l .k) (l .first) (l .inv .1) (in-width c) ne in
+    let clause = this (words w) (set-first w) (set-now w) (place w) (inside w) (so-far w) (state w) in
+    omega (arith, clause-below (atoms w) (words w) (rows w) (clauseAt (words w) (place w)) clause (word c) m, ready w .exact, length-now w)
 
--- behind the inner loop: the scan of the whole row
-scanned : (c : tie.After-loop Inv-loop μ-loop Inv-walk μ-walk) → Scanning (words (c .before .before)) (set-now (c .before .before)) (place (c .before .before)) (c .before .loop .k) (c .before .loop .first)
+-- after the inner loop: the scan of the whole row
+abbrev after-row : Type 0
+after-row = tie.After-loop Inv-loop μ-loop Inv-walk μ-walk
+
+abbrev row : after-row → outer
+row c = c .before .before
+
+scanned : (c : after-row) → let l = c .before .loop in Scanning (words (row c)) (set-now (row c)) (place (row c)) (l .k) (l .first)
 scanned c = c .before .loop .inv .1
 
-all-words : (c : tie.After-loop Inv-loop μ-loop Inv-walk μ-walk) → width ≤ c .before .loop .k
+all-words : (c : after-row) → width ≤ c .before .loop .k
 unfolding width
 all-words c = c .loop-test .left
 
 -- the open literal that was found, and its mark
-some-found : (c : tie.After-wide Inv-loop μ-loop Inv-walk μ-walk) → c .before .before .before .loop .first ≡ fill → ⊥
+abbrev opened : Type 0
+opened = tie.After-wide Inv-loop μ-loop Inv-walk μ-walk
+
+abbrev scan-of : opened → after-row
+scan-of c = c .before .before
+
+some-found : (c : opened) → scan-of c .before .loop .first ≡ fill → ⊥
 unfolding fill
 some-found c = c .before .if1 .left
 
-mark-inside : (c : tie.After-wide Inv-loop μ-loop Inv-walk μ-walk) → c .wide .result < length (set-now (c .before .before .before .before))
-mark-inside c = rw (c .wide .ensures .0) (scanned (c .before .before) .found (some-found c) .2)
+mark-inside : (c : opened) → c .wide .result < length (set-now (row (scan-of c)))
+mark-inside c = omega (arith, c .wide .ensures .0, scanned (scan-of c) .found (some-found c) .2)
 
 -- what the word adds to the scan
-added : (c : tie.After-scan-word Inv-loop μ-loop Inv-walk μ-walk) (v : Scan) → c .scan-word .result ≡ v → Scanned (set-now (c .before .before .before .before .before)) (word (c .before .before .before)) (c .before .before .before .before .loop .first) v
-added c v e = subst (λ (x : Scan). Scanned (set-now (c .before .before .before .before .before)) (word (c .before .before .before)) (c .before .before .before .before .loop .first) x) e (c .scan-word .ensures)
+abbrev looked : Type 0
+looked = tie.After-scan-word Inv-loop μ-loop Inv-walk μ-walk
+
+abbrev at : looked → inner
+at c = c .before .before .before
+
+abbrev Adds : looked → Scan → Type 0
+Adds c v = Scanned (set-now (row-of (at c))) (word (at c)) (at c .before .loop .first) v
+
+added : (c : looked) (v : Scan) → c .scan-word .result ≡ v → Adds c v
+added c v e = subst (λ (x : Scan). Adds c x) e (c .scan-word .ensures)
+
+-- where there is a second open literal
+abbrev looked-by : tie.After-enum-told3 Inv-loop μ-loop Inv-walk μ-walk → looked
+looked-by c = c .before .before
+
+-- where the mark of the only one was looked at
+abbrev open-of : tie.After-slice-known2 Inv-loop μ-loop Inv-walk μ-walk → opened
+open-of c = c .before
 
 walk-holds : tie.Need-walk-holds Inv-loop μ-loop Inv-walk μ-walk
 walk-holds c = walk-start _ _ (c .before .before .pre .sound)
@@ -140,7 +180,10 @@ shared-slice-read-word : tie.Need-shared-slice-read-word Inv-loop μ-loop Inv-wa
 shared-slice-read-word c = in-range (c .before)
 
 scan-word-requires : tie.Need-scan-word-requires Inv-loop μ-loop Inv-walk μ-walk
-scan-word-requires c κs = (even-on _ _ (length-now (c .before .before .before .before)) (ready (c .before .before .before .before) .sound .even), word-below (c .before .before))
+scan-word-requires c κs =
+    let i = c .before .before in
+    let w = row-of i in
+    (even-on _ _ (length-now w) (ready w .sound .even), word-below i)
 
 enum-told : tie.Need-enum-told Inv-loop μ-loop Inv-walk μ-walk
 enum-told c = c .match .keys1
@@ -153,15 +196,17 @@ enum-told-3 c = c .match .keys3
 
 walk-less : tie.Need-walk-less Inv-loop μ-loop Inv-walk μ-walk
 unfolding width
-walk-less c = omega (arith, inside (c .before .before .before .before .before .before .before))
+walk-less c = omega (arith, inside (row-of (at (looked-by c))))
 
 walk-again : tie.Need-walk-again Inv-loop μ-loop Inv-walk μ-walk
 unfolding width
 walk-again c =
-    let w = c .before .before .before .before .before .before .before in
-    let l = c .before .before .before .before .before .before .loop in
-    pass-row (words w) (set-first w) (set-now w) (place w) (inside w) (so-far w) (state w)
-    (scan-second (words w) (set-now w) (place w) (l .k) (l .first) (l .inv .1) (in-width (c .before .before .before .before .before)) (added (c .before .before) scan.Second (c .enum-told3 .given .1)))
+    let o = looked-by c in
+    let i = at o in
+    let w = row-of i in
+    let l = i .before .loop in
+    let two = scan-second (words w) (set-now w) (place w) (l .k) (l .first) (l .inv .1) (in-width i) (added o scan.Second (c .enum-told3 .given .1)) in
+    pass-row (words w) (set-first w) (set-now w) (place w) (inside w) (so-far w) (state w) two
 
 add-k : tie.Need-add-k Inv-loop μ-loop Inv-walk μ-walk
 unfolding width
@@ -174,13 +219,20 @@ loop-less c = search needs
 loop-again : tie.Need-loop-again Inv-loop μ-loop Inv-walk μ-walk
 unfolding width
 loop-again c =
-    let i = c .before .before .before .before in
-    let w = i .before .before in
-    let l = i .before .loop in (
+    let o = c .before in
+    let i = at o in
+    let w = row-of i in
+    let l = i .before .loop in
+    let Scans : ℕ → Type 0 = λ x. Scanning (words w) (set-now w) (place w) (l .k + 1) x in (
       omega (arith, in-width i),
       ⊎-elim
-          (λ a. subst (λ (x : ℕ). Scanning (words w) (set-now w) (place w) (l .k + 1) x) (sym (a .2)) (scan-same (words w) (set-now w) (place w) (l .k) (l .first) (l .inv .1) (in-width i) (added (c .before) scan.Same (a .1 .given .1))))
-          (λ a. subst (λ (x : ℕ). Scanning (words w) (set-now w) (place w) (l .k + 1) x) (sym (a .2)) (scan-first (words w) (set-now w) (place w) (l .k) (l .first) (l .inv .1) (in-width i) (word-below i (added (c .before) scan.First (a .1 .given .1) .0)) (added (c .before) scan.First (a .1 .given .1))))
+          (λ a.
+          let same = added o scan.Same (a .1 .given .1) in
+          subst Scans (sym (a .2)) (scan-same (words w) (set-now w) (place w) (l .k) (l .first) (l .inv .1) (in-width i) same))
+          (λ a.
+          let first = added o scan.First (a .1 .given .1) in
+          let below = word-below i (first .0) in
+          subst Scans (sym (a .2)) (scan-first (words w) (set-now w) (place w) (l .k) (l .first) (l .inv .1) (in-width i) below first))
           (c .match .came),
     )
 
@@ -188,43 +240,44 @@ wide-requires : tie.Need-wide-requires Inv-loop μ-loop Inv-walk μ-walk
 wide-requires c κs = search needs
 
 slice-read-if2 : tie.Need-slice-read-if2 Inv-loop μ-loop Inv-walk μ-walk
-slice-read-if2 c = mark-inside (c .before)
+slice-read-if2 c = mark-inside (open-of c)
 
 slice-write-marks : tie.Need-slice-write-marks Inv-loop μ-loop Inv-walk μ-walk
-slice-write-marks c = mark-inside (c .before .before)
+slice-write-marks c = mark-inside (open-of (c .before))
 
 walk-less-2 : tie.Need-walk-less-2 Inv-loop μ-loop Inv-walk μ-walk
 unfolding width
-walk-less-2 c = omega (arith, inside (c .before .before .before .before .before .before))
+walk-less-2 c = omega (arith, inside (row (scan-of (open-of (c .before)))))
 
 walk-again-2 : tie.Need-walk-again-2 Inv-loop μ-loop Inv-walk μ-walk
 unfolding width
 walk-again-2 c =
-    let a = c .before .before .before .before in
-    let w = a .before .before in
+    let o = open-of (c .before) in
+    let a = scan-of o in
+    let w = row a in
     let l = a .before .loop in
-    let e = c .before .before .wide .ensures .0 in
-    let some = some-found (c .before .before) in
+    let e = o .wide .ensures .0 in
+    let some = some-found o in
+    let f = scanned a .found some in
+    let one = scan-one (words w) (set-now w) (place w) (l .k) (l .first) (scanned a) (all-words a) some in
+    let out = out-byte (set-now w) (l .first) (λ q. c .if2 .taken (ap (λ (x : ℕ). getD (set-now w) x 0) e ∙ q)) in
     subst (λ (x : ℕ). Walk (words w) (set-first w) (set (set-now w) x 1) (place w + width) Grown) (sym e)
-    (set-row (words w) (set-first w) (set-now w) (place w) (inside w) (so-far w) (state w) (l .first) (scanned a .found some .2)
-    (scan-one (words w) (set-now w) (place w) (l .k) (l .first) (scanned a) (all-words a) some)
-    (out-byte (set-now w) (l .first) (λ q. c .if2 .taken (ap (λ (x : ℕ). getD (set-now w) x 0) e ∙ q)))
-    (scanned a .found some .1))
+    (set-row (words w) (set-first w) (set-now w) (place w) (inside w) (so-far w) (state w) (l .first) (f .2) one out (f .1))
 
 walk-less-3 : tie.Need-walk-less-3 Inv-loop μ-loop Inv-walk μ-walk
 unfolding width
-walk-less-3 c = omega (arith, inside (c .before .before .before .before .before .before))
+walk-less-3 c = omega (arith, inside (row (scan-of (open-of (c .before)))))
 
 walk-again-3 : tie.Need-walk-again-3 Inv-loop μ-loop Inv-walk μ-walk
 unfolding width
 walk-again-3 c =
-    let a = c .before .before .before .before in
-    let w = a .before .before in
+    let o = open-of (c .before) in
+    let a = scan-of o in
+    let w = row a in
     let l = a .before .loop in
-    let e = c .before .before .wide .ensures .0 in
-    pass-row (words w) (set-first w) (set-now w) (place w) (inside w) (so-far w) (state w)
-    (scan-only (words w) (set-now w) (place w) (l .k) (l .first) (scanned a) (all-words a) (some-found (c .before .before))
-    (in-byte (set-now w) (l .first) (ap (λ (x : ℕ). getD (set-now w) x 0) (sym e) ∙ c .if2 .left)))
+    let there = in-byte (set-now w) (l .first) (ap (λ (x : ℕ). getD (set-now w) x 0) (sym (o .wide .ensures .0)) ∙ c .if2 .left) in
+    let only = scan-only (words w) (set-now w) (place w) (l .k) (l .first) (scanned a) (all-words a) (some-found o) there in
+    pass-row (words w) (set-first w) (set-now w) (place w) (inside w) (so-far w) (state w) only
 
 same-length : tie.Need-same-length Inv-loop μ-loop Inv-walk μ-walk
 same-length c = c .before .walk .inv .reached .same-length
@@ -233,13 +286,13 @@ returns : tie.Need-returns Inv-loop μ-loop Inv-walk μ-walk
 returns c = walk-end _ _ _ _ _ (c .walk-test .left) (c .before .walk .inv)
 
 same-length-2 : tie.Need-same-length-2 Inv-loop μ-loop Inv-walk μ-walk
-same-length-2 c = length-now (c .before .before .before)
+same-length-2 c = length-now (row (c .before))
 
 returns-2 : tie.Need-returns-2 Inv-loop μ-loop Inv-walk μ-walk
 unfolding fill
 returns-2 c =
     let a = c .before in
-    let w = a .before .before in
+    let w = row a in
     let l = a .before .loop in
     clash-row (words w) (set-first w) (set-now w) (place w) (inside w) (so-far w) (state w) (atoms w) (row-right w)
     (scan-none (words w) (set-now w) (place w) (l .k) (l .first) (scanned a) (all-words a) (c .if1 .taken))

@@ -1,163 +1,232 @@
--- `synthesis::run`: a set of the synthesis stands in the first `count` rows, and the rounds from round `made` on give the answer. Assumes nothing.
+-- `synthesis::run`: the set of each round stands in the clause buffer. Assumes nothing.
 use denote.Ref.{now}
-use Prim.Native.Nat.{ℕ, _+_, _-_, _*_, _≤_}
-use mathlib.Core.Path.{_≡_, refl, sym, _∙_, ap, subst}
+use Prim.Native.Nat.{ℕ, _+_, _-_, _*_, _≤_, _<_}
+use mathlib.Core.List.{List}
+use mathlib.Core.Path.{_≡_, refl, _∙_, ap, subst}
 use native.Mathlib.Omega.{arith}
-use native.Mathlib.Nat.{mul-le-mul-left}
 use lib.Dec.{eqb}
-use lib.ListN.{length, take, length-take}
-use lib.Seq.{length-take-le}
+use lib.ListN.{length, take}
+use Rattle.definitions.specs.Answer.{Answer}
+use Rattle.definitions.specs.Image.{Task}
 use Rattle.definitions.specs.Clauses.{width}
-use Rattle.definitions.specs.Synthesis.{firstSet, rounds}
+use Rattle.definitions.specs.Synthesis.{Found, firstSet, rounds}
 use Rattle.clause.specs.Rows.{clausesOf}
 use Rattle.task.specs.Reads.{taskOf}
-use Rattle.clause_set.proofs.Insertion.{held-room}
 use Rattle.synthesis.specs.declared.Step.{Step}
-use Rattle.synthesis.specs.declared.Step.the-variants.{Finished, OutOfRounds, OutOfRows, Next}
-use Rattle.synthesis.specs.Rounds.{Stepped}
-use Rattle.synthesis.proofs.Rounds.{Standing, standing-start, standing-words, standing-below, standing-next, standing-found, standing-over, standing-full}
+use Rattle.synthesis.specs.declared.Step.the-variants.{Ended, Next}
+use Rattle.synthesis.specs.Rounds.{Advanced, Stepped}
+use Rattle.synthesis.proofs.Rounds.{Standing, standing-start, standing-words, standing-below, next-words, next-room, standing-next, standing-end}
 use borrow.Author.Needs.{needs}
 use Rattle.synthesis.proofs.run.Statement.{statement}
 use Rattle.synthesis.proofs.run.Tie as tie
 
+-- what the rounds come to
+abbrev outcome-of : List ℕ → ℕ → ℕ → ℕ → Answer Found
+outcome-of image n limit rows = rounds (taskOf image) n rows 1 (limit - 1) (firstSet (taskOf image))
+
+pub record Invariant (image : List ℕ) (atoms n limit rows clauses₀ work₀ marks₀ : ℕ) (clauses : List ℕ) (work marks count made : ℕ) : Type 0 where
+  pub clauses-kept : length clauses ≡ clauses₀
+  pub work-kept : work ≡ work₀
+  pub marks-kept : marks ≡ marks₀
+  pub set : Standing image atoms n limit rows clauses count made (outcome-of image n limit rows)
+
 abbrev Inv-loop : tie.InvT-loop
-Inv-loop image n most limit rows clauses₀ work₀ marks₀ count₀ made₀ clauses work marks count made =
-    (length clauses ≡ length clauses₀) × (length work ≡ length work₀) × (length marks ≡ length marks₀) × Standing image n most limit rows clauses count made (rounds (taskOf image) most rows 1 (limit - 1) (firstSet (taskOf image)))
+Inv-loop image atoms n limit rows clauses₀ work₀ marks₀ count₀ made₀ clauses work marks count made =
+    Invariant image atoms n limit rows (length clauses₀) (length work₀) (length marks₀) clauses (length work) (length marks) count made
 
 abbrev μ-loop : tie.MeasureT-loop
-μ-loop image n most limit rows clauses₀ work₀ marks₀ count₀ made₀ clauses work marks count made = limit - made
+μ-loop image atoms n limit rows clauses₀ work₀ marks₀ count₀ made₀ clauses work marks count made = limit - made
 
--- what the round came to
-stepped : (c : tie.After-round Inv-loop μ-loop) (r : Step) → c .round .result ≡ r → Stepped (taskOf (now (c .before .before .before .before .before .before .before .before .before .args .image))) (c .before .before .before .before .before .before .before .before .before .args .most) (c .before .before .before .before .before .before .before .before .before .args .rows) (eqb (c .before .before .before .before .loop .made) (c .before .before .before .before .before .before .before .before .before .args .limit)) (clausesOf (take (width * c .before .before .before .before .loop .count) (c .before .before .before .before .loop .clauses))) (c .round .last .1 .1 .1 .1 .1 .1 .1 .0) r
-unfolding width
-stepped c r e =
-    subst (λ (z : Step). Stepped (taskOf (now (c .before .before .before .before .before .before .before .before .before .args .image))) (c .before .before .before .before .before .before .before .before .before .args .most) (c .before .before .before .before .before .before .before .before .before .args .rows) (eqb (c .before .before .before .before .loop .made) (c .before .before .before .before .before .before .before .before .before .args .limit)) (clausesOf (take (width * c .before .before .before .before .loop .count) (c .before .before .before .before .loop .clauses))) (c .round .last .1 .1 .1 .1 .1 .1 .1 .0) z) e (c .round .ensures)
+-- at the loop's head: the start, the image, the clause buffer, the numbers of rows and of rounds
+abbrev head : Type 0
+head = tie.At-loop Inv-loop μ-loop
+
+abbrev known : head → tie.After-slice-known Inv-loop μ-loop
+known h = h .before .before .before
+
+abbrev start : head → tie.Start Inv-loop μ-loop
+start h = known h .before .before
+
+abbrev image : head → List ℕ
+image h = now (start h .args .image)
+
+abbrev buffer : head → List ℕ
+buffer h = h .loop .clauses
+
+abbrev count : head → ℕ
+count h = h .loop .count
+
+abbrev made : head → ℕ
+made h = h .loop .made
+
+standing :
+    (h : head) → let a = start h .args in
+    Standing (image h) (a .atoms) (a .n) (a .limit) (a .rows) (buffer h) (count h) (made h) (outcome-of (image h) (a .n) (a .limit) (a .rows))
+standing h = h .loop .inv .set
+
+-- after a round: the head, the work buffer, what the round came to
+abbrev after-round : Type 0
+after-round = tie.After-round Inv-loop μ-loop
+
+abbrev lent : after-round → tie.After-round-arg Inv-loop μ-loop
+lent d = d .before .before .before
+
+abbrev head-of : after-round → head
+head-of d = lent d .before
+
+abbrev work : after-round → List ℕ
+work d = d .round .last .1 .1 .1 .1 .1 .1 .1 .1 .0
+
+abbrev Comes : after-round → Step → Type 0
+Comes d r =
+    let h = head-of d in
+    let a = start h .args in
+    Stepped (taskOf (image h)) (a .n) (a .rows) (eqb (made h) (a .limit)) (clausesOf (take (width * count h) (buffer h))) (work d) r
+
+comes : (d : after-round) (r : Step) → d .round .result ≡ r → Comes d r
+comes d r e = subst (λ (z : Step). Comes d z) e (d .round .ensures)
+
+-- where its step is looked at
+abbrev back-marks : tie.After-slice-known5 Inv-loop μ-loop → tie.After-slice-known4 Inv-loop μ-loop
+back-marks c = c .before .before
+
+abbrev round-of : tie.After-slice-known5 Inv-loop μ-loop → after-round
+round-of c = back-marks c .before .before
+
+-- where the rounds end
+abbrev last-round : tie.After-step Inv-loop μ-loop → after-round
+last-round c = round-of (c .before .before)
+
+-- where the clause buffer is given back after the last round
+abbrev ended-at : tie.After-slice-known6 Inv-loop μ-loop → tie.After-step Inv-loop μ-loop
+ended-at c =
+    let f = c .before .before in
+    f .before .before .before
+
+abbrev ended-by : tie.After-slice-known6 Inv-loop μ-loop → after-round
+ended-by c = last-round (ended-at c)
+
+-- where there is a next set
+abbrev next : Type 0
+next = tie.After-step2 Inv-loop μ-loop
+
+abbrev before-next : next → after-round
+before-next c = round-of (c .before .before)
+
+abbrev next-count : next → ℕ
+next-count c = c .step2 .given .0 .0
+
+advanced : (c : next) → Comes (before-next c) (Next (next-count c))
+advanced c = comes (before-next c) (Next (next-count c)) (c .step2 .given .1)
+
+more : (c : next) → let h = head-of (before-next c) in made h < start h .args .limit
+more c =
+    let h = head-of (before-next c) in
+    let a = start h .args in
+    standing-below (image h) (a .atoms) (a .n) (a .limit) (a .rows) (buffer h) (count h) (made h) _ (standing h) (advanced c .more)
+
+-- where it is copied
+abbrev copied : tie.After-slice-known7 Inv-loop μ-loop → tie.After-take-rows Inv-loop μ-loop
+copied c = c .before .before
+
+abbrev next-at : tie.After-slice-known7 Inv-loop μ-loop → next
+next-at c =
+    let t = copied c .before .before in
+    t .before .before
 
 loop-holds : tie.Need-loop-holds Inv-loop μ-loop
-loop-holds c = (refl, refl, refl, standing-start _ _ _ _ _ _ _ _ (c .before .before .before .before .pre))
-
-mul-end : tie.Need-mul-end Inv-loop μ-loop
-unfolding width
-mul-end c = omega (arith, standing-words _ _ _ _ _ _ _ _ _ (c .loop .inv .3))
-
-slice-reshare-prefix-round : tie.Need-slice-reshare-prefix-round Inv-loop μ-loop
-unfolding width
-slice-reshare-prefix-round c = standing-words _ _ _ _ _ _ _ _ _ (c .loop .inv .3)
-
-slice-aggregate-round : tie.Need-slice-aggregate-round Inv-loop μ-loop
-unfolding width
-slice-aggregate-round c = sym (length-take-le (width * c .before .loop .count) (c .before .loop .clauses) (standing-words _ _ _ _ _ _ _ _ _ (c .before .loop .inv .3)))
+loop-holds c =
+    let k = c .before .before .before in
+    let s = k .before in
+    record {
+      clauses-kept = refl;
+      work-kept = refl;
+      marks-kept = refl;
+      set = standing-start _ _ _ _ _ _ _ _ (s .pre);
+    }
 
 round-requires : tie.Need-round-requires Inv-loop μ-loop
-unfolding width
-round-requires c κs = (c .before .before .before .loop .inv .3 .round, omega (arith, c .before .before .before .before .before .before .before .before .pre .marked, c .before .before .before .loop .inv .2), omega (arith, c .before .before .before .before .before .before .before .before .pre .room, c .before .before .before .before .before .before .before .before .pre .work, c .before .before .before .loop .inv .1))
-
-enum-told : tie.Need-enum-told Inv-loop μ-loop
-enum-told c = c .match .keys1
-
-fill-requires : tie.Need-fill-requires Inv-loop μ-loop
-unfolding width
-fill-requires c κs = standing-words _ _ _ _ _ _ _ _ _ (c .before .before .before .before .before .before .before .before .before .before .before .loop .inv .3)
-
-same-length : tie.Need-same-length Inv-loop μ-loop
-same-length c = c .before .before .fill .kept .0 ∙ c .before .before .before .before .before .before .before .before .before .before .before .before .before .before .loop .inv .0
-
-same-length-2 : tie.Need-same-length-2 Inv-loop μ-loop
-same-length-2 c = c .before .before .before .before .before .before .before .before .before .before .round .kept .1 .1 .1 .1 .1 .1 .1 .0 ∙ c .before .before .before .before .before .before .before .before .before .before .before .before .before .before .loop .inv .1
-
-same-length-3 : tie.Need-same-length-3 Inv-loop μ-loop
-same-length-3 c = c .before .before .before .before .before .before .before .before .before .before .round .kept .1 .1 .1 .1 .1 .1 .0 ∙ c .before .before .before .before .before .before .before .before .before .before .before .before .before .before .loop .inv .2
-
-returns : tie.Need-returns Inv-loop μ-loop
-unfolding width
-returns c =
-    let l = c .before .before .before .before .before .before .before .before .before .before .before .before .before .before .loop in
-    standing-found _ _ _ _ _ (l .clauses) (l .count) (l .made) _ (l .inv .3) _ (c .before .before .fill .last .0) (l .inv .0) (stepped (c .before .before .before .before .before .before .before .before .before .before) Finished (c .before .before .before .before .enum-told .given .1)) (c .before .before .fill .ensures)
-
-enum-told-2 : tie.Need-enum-told-2 Inv-loop μ-loop
-enum-told-2 c = c .match .keys2
-
-clear-requires : tie.Need-clear-requires Inv-loop μ-loop
-clear-requires c κs = search needs
-
-same-length-4 : tie.Need-same-length-4 Inv-loop μ-loop
-same-length-4 c = c .before .before .clear .kept .0 ∙ c .before .before .before .before .before .before .before .before .before .before .before .before .before .before .loop .inv .0
-
-same-length-5 : tie.Need-same-length-5 Inv-loop μ-loop
-same-length-5 c = c .before .before .before .before .before .before .before .before .before .before .round .kept .1 .1 .1 .1 .1 .1 .1 .0 ∙ c .before .before .before .before .before .before .before .before .before .before .before .before .before .before .loop .inv .1
-
-same-length-6 : tie.Need-same-length-6 Inv-loop μ-loop
-same-length-6 c = c .before .before .before .before .before .before .before .before .before .before .round .kept .1 .1 .1 .1 .1 .1 .0 ∙ c .before .before .before .before .before .before .before .before .before .before .before .before .before .before .loop .inv .2
-
-returns-2 : tie.Need-returns-2 Inv-loop μ-loop
-returns-2 c =
-    let l = c .before .before .before .before .before .before .before .before .before .before .before .before .before .before .loop in
-    standing-over _ _ _ _ _ (l .clauses) (l .count) (l .made) _ (l .inv .3) _ _ (l .inv .0) (stepped (c .before .before .before .before .before .before .before .before .before .before) OutOfRounds (c .before .before .before .before .enum-told2 .given .1)) (c .before .before .clear .ensures)
-
-enum-told-3 : tie.Need-enum-told-3 Inv-loop μ-loop
-enum-told-3 c = c .match .keys3
-
-clear-requires-2 : tie.Need-clear-requires-2 Inv-loop μ-loop
-clear-requires-2 c κs = search needs
-
-same-length-7 : tie.Need-same-length-7 Inv-loop μ-loop
-same-length-7 c = c .before .before .clear2 .kept .0 ∙ c .before .before .before .before .before .before .before .before .before .before .before .before .before .before .loop .inv .0
-
-same-length-8 : tie.Need-same-length-8 Inv-loop μ-loop
-same-length-8 c = c .before .before .before .before .before .before .before .before .before .before .round .kept .1 .1 .1 .1 .1 .1 .1 .0 ∙ c .before .before .before .before .before .before .before .before .before .before .before .before .before .before .loop .inv .1
-
-same-length-9 : tie.Need-same-length-9 Inv-loop μ-loop
-same-length-9 c = c .before .before .before .before .before .before .before .before .before .before .round .kept .1 .1 .1 .1 .1 .1 .0 ∙ c .before .before .before .before .before .before .before .before .before .before .before .before .before .before .loop .inv .2
-
-returns-3 : tie.Need-returns-3 Inv-loop μ-loop
-returns-3 c =
-    let l = c .before .before .before .before .before .before .before .before .before .before .before .before .before .before .loop in
-    standing-full _ _ _ _ _ (l .clauses) (l .count) (l .made) _ (l .inv .3) _ _ (l .inv .0) (stepped (c .before .before .before .before .before .before .before .before .before .before) OutOfRows (c .before .before .before .before .enum-told3 .given .1)) (c .before .before .clear2 .ensures)
+round-requires c κs =
+    let h = c .before .before .before in
+    let p = start h .pre in
+    let i = h .loop .inv in (
+      standing-words _ _ _ _ _ _ _ _ _ (i .set),
+      record {
+        round = i .set .round;
+        marked = omega (arith, p .marked, i .marks-kept);
+        room = omega (arith, p .room, p .work, i .work-kept);
+      },
+    )
 
 enum-known-step : tie.Need-enum-known-step Inv-loop μ-loop
-enum-known-step c = c .match .keys4
+enum-known-step c = c .match .keys1
 
-mul-words : tie.Need-mul-words Inv-loop μ-loop
-unfolding width
-mul-words c =
-    let h = stepped (c .before .before .before .before .before .before .before) (Next (c .before .step .given .0 .0)) (c .before .step .given .1) in
-    omega (arith, held-room _ _ (c .before .before .before .before .before .before .before .round .last .1 .1 .1 .1 .1 .1 .1 .0) (h .3))
+finish-requires : tie.Need-finish-requires Inv-loop μ-loop
+finish-requires c κs =
+    let h = head-of (last-round (c .before .before)) in
+    standing-words _ _ _ _ _ _ _ _ _ (standing h)
 
-slice-reshare-prefix-copy-to : tie.Need-slice-reshare-prefix-copy-to Inv-loop μ-loop
-unfolding width
-slice-reshare-prefix-copy-to c =
-    let h = stepped (c .before .before .before .before .before .before .before) (Next (c .before .step .given .0 .0)) (c .before .step .given .1) in
-    held-room _ _ (c .before .before .before .before .before .before .before .round .last .1 .1 .1 .1 .1 .1 .1 .0) (h .3)
+same-length : tie.Need-same-length Inv-loop μ-loop
+same-length c =
+    let d = ended-by c in
+    c .before .before .finish .kept .0 ∙ head-of d .loop .inv .clauses-kept
 
-slice-aggregate-copy-to : tie.Need-slice-aggregate-copy-to Inv-loop μ-loop
-unfolding width
-slice-aggregate-copy-to c =
-    let h = stepped (c .before .before .before .before .before .before .before .before) (Next (c .before .before .step .given .0 .0)) (c .before .before .step .given .1) in
-    sym (length-take-le (width * c .before .before .step .given .0 .0) (c .before .before .before .before .before .before .before .before .round .last .1 .1 .1 .1 .1 .1 .1 .0) (held-room _ _ (c .before .before .before .before .before .before .before .before .round .last .1 .1 .1 .1 .1 .1 .1 .0) (h .3)))
+same-length-2 : tie.Need-same-length-2 Inv-loop μ-loop
+same-length-2 c =
+    let d = ended-by c in
+    d .round .kept .1 .1 .1 .1 .1 .1 .1 .1 .0 ∙ head-of d .loop .inv .work-kept
 
-copy-to-requires : tie.Need-copy-to-requires Inv-loop μ-loop
-unfolding width
-copy-to-requires c κs =
-    let h = stepped (c .before .before .before .before .before .before .before .before .before) (Next (c .before .before .before .step .given .0 .0)) (c .before .before .before .step .given .1) in
-    let a = length-take-le (width * c .before .before .before .step .given .0 .0) (c .before .before .before .before .before .before .before .before .before .round .last .1 .1 .1 .1 .1 .1 .1 .0) (held-room _ _ (c .before .before .before .before .before .before .before .before .before .round .last .1 .1 .1 .1 .1 .1 .1 .0) (h .3)) in
-    omega (arith, a, mul-le-mul-left width (h .3 .inside), c .before .before .before .before .before .before .before .before .before .before .before .before .before .loop .inv .3 .room)
+same-length-3 : tie.Need-same-length-3 Inv-loop μ-loop
+same-length-3 c =
+    let d = ended-by c in
+    d .round .kept .1 .1 .1 .1 .1 .1 .1 .0 ∙ head-of d .loop .inv .marks-kept
+
+returns : tie.Need-returns Inv-loop μ-loop
+returns c =
+    let e = ended-at c in
+    let d = ended-by c in
+    let h = head-of d in
+    let a = start h .args in
+    let how = e .step .given .0 .0 in
+    c .before .before .finish .ensures
+    ∙ standing-end (image h) (a .atoms) (a .n) (a .limit) (a .rows) (buffer h) (count h) (made h) _ (standing h) (now (a .clauses))
+    (h .loop .inv .clauses-kept) (work d) how (comes d (Ended how) (e .step .given .1))
+
+enum-known-step-2 : tie.Need-enum-known-step-2 Inv-loop μ-loop
+enum-known-step-2 c = c .match .keys2
+
+take-rows-requires : tie.Need-take-rows-requires Inv-loop μ-loop
+take-rows-requires c κs =
+    let e = c .before .before .before in
+    let d = before-next e in
+    let h = head-of d in
+    let a = start h .args in (
+      next-words (image h) (a .atoms) (a .n) (a .limit) (a .rows) (buffer h) (count h) (made h) _ (standing h) (next-count e) (work d) (buffer h) (advanced e),
+      next-room (image h) (a .atoms) (a .n) (a .limit) (a .rows) (buffer h) (count h) (made h) _ (standing h) (next-count e) (work d) (buffer h) (advanced e),
+    )
 
 add-made : tie.Need-add-made Inv-loop μ-loop
-add-made c =
-    let h = stepped (c .before .before .before .before .before .before .before .before .before .before .before .before) (Next (c .before .before .before .before .before .before .step .given .0 .0)) (c .before .before .before .before .before .before .step .given .1) in
-    omega (arith, standing-below _ _ _ _ _ _ _ _ _ (c .before .before .before .before .before .before .before .before .before .before .before .before .before .before .before .before .loop .inv .3) (h .1))
+add-made c = omega (arith, more (next-at c))
 
 loop-less : tie.Need-loop-less Inv-loop μ-loop
-loop-less c =
-    let h = stepped (c .before .before .before .before .before .before .before .before .before .before .before .before) (Next (c .before .before .before .before .before .before .step .given .0 .0)) (c .before .before .before .before .before .before .step .given .1) in
-    omega (arith, standing-below _ _ _ _ _ _ _ _ _ (c .before .before .before .before .before .before .before .before .before .before .before .before .before .before .before .before .loop .inv .3) (h .1))
+loop-less c = omega (arith, more (next-at c))
 
 loop-again : tie.Need-loop-again Inv-loop μ-loop
-unfolding width
 loop-again c =
-    let l = c .before .before .before .before .before .before .before .before .before .before .before .before .before .before .before .before .loop in
-    let h = stepped (c .before .before .before .before .before .before .before .before .before .before .before .before) (Next (c .before .before .before .before .before .before .step .given .0 .0)) (c .before .before .before .before .before .before .step .given .1) in
-    (c .before .before .copy-to .kept .1 .0 ∙ l .inv .0, c .before .before .before .before .before .before .before .before .before .before .before .before .round .kept .1 .1 .1 .1 .1 .1 .1 .0 ∙ l .inv .1, c .before .before .before .before .before .before .before .before .before .before .before .before .round .kept .1 .1 .1 .1 .1 .1 .0 ∙ l .inv .2, standing-next _ _ _ _ _ (l .clauses) (l .count) (l .made) _ (l .inv .3) (c .before .before .before .before .before .before .step .given .0 .0) (c .before .before .before .before .before .before .before .before .before .before .before .before .round .last .1 .1 .1 .1 .1 .1 .1 .0) (c .before .before .copy-to .last .1 .0) h (c .before .before .copy-to .ensures) (c .before .before .copy-to .kept .1 .0))
+    let e = next-at c in
+    let d = before-next e in
+    let h = head-of d in
+    let a = start h .args in
+    let i = h .loop .inv in
+    let t = copied c .take-rows in
+    record {
+      clauses-kept = t .kept .1 .1 .0 ∙ i .clauses-kept;
+      work-kept = d .round .kept .1 .1 .1 .1 .1 .1 .1 .1 .0 ∙ i .work-kept;
+      marks-kept = d .round .kept .1 .1 .1 .1 .1 .1 .1 .0 ∙ i .marks-kept;
+      set =
+          standing-next (image h) (a .atoms) (a .n) (a .limit) (a .rows) (buffer h) (count h) (made h) _ (standing h) (next-count e) (work d)
+          (t .last .1 .1 .0) (advanced e) (t .ensures) (t .kept .1 .1 .0);
+    }
 
 pub run-spec : {M : Type 1} → statement M
 run-spec =
@@ -166,33 +235,15 @@ run-spec =
     Inv-loop
     μ-loop
     loop-holds
-    mul-end
-    slice-reshare-prefix-round
-    slice-aggregate-round
     round-requires
-    enum-told
-    fill-requires
+    enum-known-step
+    finish-requires
     same-length
     same-length-2
     same-length-3
     returns
-    enum-told-2
-    clear-requires
-    same-length-4
-    same-length-5
-    same-length-6
-    returns-2
-    enum-told-3
-    clear-requires-2
-    same-length-7
-    same-length-8
-    same-length-9
-    returns-3
-    enum-known-step
-    mul-words
-    slice-reshare-prefix-copy-to
-    slice-aggregate-copy-to
-    copy-to-requires
+    enum-known-step-2
+    take-rows-requires
     add-made
     loop-less
     loop-again)

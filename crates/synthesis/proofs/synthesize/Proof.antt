@@ -1,31 +1,66 @@
--- `synthesis::synthesize`: the questions in turn, the first set, the rounds. Assumes nothing.
+-- `synthesis::synthesize`: the questions before the first set, then the rest. Assumes nothing.
 use denote.Ref.{now}
-use Prim.Native.Nat.{ℕ, _*_, _≤_}
-use mathlib.Core.Path.{_≡_, refl, sym, _∙_, ap}
-use native.Mathlib.Omega.{arith}
+use Prim.Native.Nat.{ℕ}
+use mathlib.Core.List.{List}
+use mathlib.Core.Path.{_≡_, refl, _∙_}
 use lib.ListN.{length}
-use borrow.Author.Tests.{not-true, not-false}
-use Rattle.answer.specs.Answer.{verdictAnswer, placed}
-use Rattle.task.specs.Reads.{Reads}
-use Rattle.task.proofs.Questions.{reads}
-use Rattle.synthesis.proofs.Calls.{call-read, call-limits, call-buffers, call-rows, call-run, call-room, call-begun}
+use Rattle.answer.specs.declared.Verdict.{Verdict}
+use Rattle.answer.specs.declared.Verdict.the-variants.{Fine, Refused}
+use Rattle.synthesis.specs.Asked.{Checked}
+use Rattle.synthesis.proofs.Calls.{checked-by, call-by}
 use borrow.Author.Needs.{needs}
 use Rattle.synthesis.proofs.synthesize.Statement.{statement}
 use Rattle.synthesis.proofs.synthesize.Tie as tie
 
-read-requires : tie.Need-read-requires
-read-requires c κs = search needs
+-- after the first questions: the start, the numbers asked, the lengths of the buffers
+abbrev asked : Type 0
+asked = tie.After-check
 
-enum-known-read : tie.Need-enum-known-read
-enum-known-read c = search needs
+abbrev words-of : asked → tie.After-wide
+words-of d = d .before .before
 
-returns : tie.Need-returns
-returns c =
-    let a = c .before .before .before .before .before .before .before .before .args in
-    call-read (now (a .image)) (a .n) (a .limit) (now (a .clauses)) (length (now (a .work))) (length (now (a .marks))) (placed (c .before .read2 .given .0 .0)) (ap verdictAnswer (sym (c .before .read2 .given .1)) ∙ c .before .before .before .read .ensures)
+abbrev known : asked → tie.After-slice-known2
+known d = words-of d .before .before
 
-enum-told : tie.Need-enum-told
-enum-told c = search needs
+abbrev start : asked → tie.Start
+start d = known d .before .before .before
+
+abbrev literals : asked → ℕ
+literals d = words-of d .wide .result
+
+abbrev most : asked → ℕ
+most d = d .before .wide2 .result
+
+same-n : (d : asked) → literals d ≡ start d .args .n
+same-n d = words-of d .wide .ensures .0
+
+same-limit : (d : asked) → most d ≡ start d .args .limit
+same-limit d = d .before .wide2 .ensures .0
+
+-- what the answer to them says, of other names for the two numbers
+answered :
+    (d : asked) (n limit : ℕ) → literals d ≡ n → most d ≡ limit → (r : Verdict) → d .check .result ≡ r
+    → let a = start d .args in Checked (now (a .image)) n limit (length (now (a .clauses))) (length (now (a .work))) (length (now (a .marks))) r
+answered d n limit e f r g = checked-by _ (literals d) n (most d) limit _ _ _ (d .check .result) r e f g (d .check .ensures)
+
+-- where the first set is asked for
+abbrev lent : tie.After-start-arg3 → tie.After-start-arg
+lent c = c .before .before
+
+abbrev fine : tie.After-start-arg3 → tie.After-enum-told
+fine c = lent c .before
+
+abbrev asked-of : tie.After-start-arg3 → asked
+asked-of c = fine c .before .before
+
+abbrev back-work : tie.After-slice-known6 → tie.After-slice-known5
+back-work c = c .before .before
+
+abbrev back-clauses : tie.After-slice-known6 → tie.After-slice-known4
+back-clauses c = back-work c .before .before
+
+abbrev started : tie.After-slice-known6 → tie.After-start
+started c = back-clauses c .before .before
 
 wide-requires : tie.Need-wide-requires
 wide-requires c κs = search needs
@@ -33,26 +68,26 @@ wide-requires c κs = search needs
 wide-requires-2 : tie.Need-wide-requires-2
 wide-requires-2 c κs = search needs
 
-are-limits-requires : tie.Need-are-limits-requires
-are-limits-requires c κs = search needs
+check-requires : tie.Need-check-requires
+check-requires c κs = search needs
 
-refuse-requires : tie.Need-refuse-requires
-refuse-requires c κs = search needs
+enum-known-checked : tie.Need-enum-known-checked
+enum-known-checked c = search needs
 
-returns-2 : tie.Need-returns-2
-returns-2 c =
-    let a = c .before .before .before .before .before .before .before .before .before .before .before .before .args in
-    let r = reads (now (a .image)) (ap verdictAnswer (sym (c .before .before .before .before .before .enum-told .given .1)) ∙ c .before .before .before .before .before .before .before .read .ensures) in
-    call-limits (now (a .image)) (a .n) (a .limit) (now (a .clauses)) (length (now (a .work))) (length (now (a .marks))) r (c .before .before .before .before .wide .result) (c .before .before .before .wide2 .result) (c .before .before .before .before .wide .ensures .0) (c .before .before .before .wide2 .ensures .0) (sym (c .before .before .are-limits .ensures) ∙ not-true (c .before .before .are-limits .result) (c .before .if1 .taken)) _ (c .refuse .ensures)
+returns : tie.Need-returns
+returns c =
+    let r = c .before in
+    let d = r .before .before in
+    let a = start d .args in
+    answered d (a .n) (a .limit) (same-n d) (same-limit d) (Refused (r .checked .given .0 .0)) (r .checked .given .1) (now (a .clauses)) refl
 
-atoms-requires : tie.Need-atoms-requires
-atoms-requires c κs = reads (now (c .before .before .before .before .before .before .before .before .before .before .before .args .image)) (ap verdictAnswer (sym (c .before .before .before .before .enum-told .given .1)) ∙ c .before .before .before .before .before .before .read .ensures)
+enum-told : tie.Need-enum-told
+enum-told c = search needs
 
-are-buffers-requires : tie.Need-are-buffers-requires
-are-buffers-requires c κs = c .before .before .before .atoms .ensures .1
-
-refuse-requires-2 : tie.Need-refuse-requires-2
-refuse-requires-2 c κs = search needs
+start-requires : tie.Need-start-requires
+start-requires c κs =
+    let d = asked-of c in
+    answered d (literals d) (most d) refl refl Fine (fine c .enum-told .given .1)
 
 same-length : tie.Need-same-length
 same-length c = search needs
@@ -63,89 +98,24 @@ same-length-2 c = search needs
 same-length-3 : tie.Need-same-length-3
 same-length-3 c = search needs
 
-returns-3 : tie.Need-returns-3
-returns-3 c =
-    let a = c .before .before .before .before .before .before .before .before .before .before .before .before .before .before .before .before .before .before .args in
-    let r = reads (now (a .image)) (ap verdictAnswer (sym (c .before .before .before .before .before .before .before .before .before .before .before .enum-told .given .1)) ∙ c .before .before .before .before .before .before .before .before .before .before .before .before .before .read .ensures) in
-    call-buffers (now (a .image)) (a .n) (a .limit) (now (a .clauses)) (length (now (a .work))) (length (now (a .marks))) r (c .before .before .before .before .before .before .before .before .before .before .wide .result) (c .before .before .before .before .before .before .before .before .before .wide2 .result) (c .before .before .before .before .before .before .before .before .before .before .wide .ensures .0) (c .before .before .before .before .before .before .before .before .before .wide2 .ensures .0) (sym (c .before .before .before .before .before .before .before .before .are-limits .ensures) ∙ not-false (c .before .before .before .before .before .before .before .before .are-limits .result) (c .before .before .before .before .before .before .before .if1 .left)) (c .before .before .before .before .before .before .atoms .result) (c .before .before .before .before .before .before .atoms .ensures .0) (sym (c .before .before .are-buffers .ensures) ∙ not-true (c .before .before .are-buffers .result) (c .before .if2 .taken)) _ (c .refuse2 .ensures)
-
-rows-in-requires : tie.Need-rows-in-requires
-rows-in-requires c κs = search needs
-
-clear-requires : tie.Need-clear-requires
-clear-requires c κs = search needs
-
-same-length-4 : tie.Need-same-length-4
-same-length-4 c = search needs
-
-same-length-5 : tie.Need-same-length-5
-same-length-5 c = search needs
-
-same-length-6 : tie.Need-same-length-6
-same-length-6 c = search needs
-
-returns-4 : tie.Need-returns-4
-returns-4 c =
-    let a = c .before .before .before .before .before .before .before .before .before .before .before .before .before .before .before .before .before .before .before .before .before .before .before .args in
-    let r = reads (now (a .image)) (ap verdictAnswer (sym (c .before .before .before .before .before .before .before .before .before .before .before .before .before .before .before .before .enum-told .given .1)) ∙ c .before .before .before .before .before .before .before .before .before .before .before .before .before .before .before .before .before .before .read .ensures) in
-    call-rows (now (a .image)) (a .n) (a .limit) (now (a .clauses)) (length (now (a .work))) (length (now (a .marks))) r (c .before .before .before .before .before .before .before .before .before .before .before .before .before .before .before .wide .result) (c .before .before .before .before .before .before .before .before .before .before .before .before .before .before .wide2 .result) (c .before .before .before .before .before .before .before .before .before .before .before .before .before .before .before .wide .ensures .0) (c .before .before .before .before .before .before .before .before .before .before .before .before .before .before .wide2 .ensures .0) (sym (c .before .before .before .before .before .before .before .before .before .before .before .before .before .are-limits .ensures) ∙ not-false (c .before .before .before .before .before .before .before .before .before .before .before .before .before .are-limits .result) (c .before .before .before .before .before .before .before .before .before .before .before .before .if1 .left)) (c .before .before .before .before .before .before .before .before .before .before .before .atoms .result) (c .before .before .before .before .before .before .before .before .before .before .before .atoms .ensures .0) (sym (c .before .before .before .before .before .before .before .are-buffers .ensures) ∙ not-false (c .before .before .before .before .before .before .before .are-buffers .result) (c .before .before .before .before .before .before .if2 .left)) (c .before .before .before .before .before .rows-in .result) (c .before .before .before .before .before .rows-in .ensures) (c .before .before .before .before .if3 .taken) _ (c .before .before .clear .ensures)
-
-write-first-requires : tie.Need-write-first-requires
-write-first-requires c κs =
-    let a = c .before .before .before .before .before .before .before .before .before .before .before .before .before .before .before .before .before .before .before .before .args in
-    let r = reads (now (a .image)) (ap verdictAnswer (sym (c .before .before .before .before .before .before .before .before .before .before .before .before .before .enum-told .given .1)) ∙ c .before .before .before .before .before .before .before .before .before .before .before .before .before .before .before .read .ensures) in
-    (r, c .before .before .before .before .before .before .before .before .atoms .ensures .0, c .before .before .before .before .before .before .before .before .atoms .ensures .1, call-room (now (a .image)) (a .n) (a .limit) (now (a .clauses)) (length (now (a .work))) (length (now (a .marks))) r (c .before .before .before .before .before .before .before .before .before .before .before .before .wide .result) (c .before .before .before .before .before .before .before .before .before .before .before .wide2 .result) (c .before .before .before .before .before .before .before .before .before .before .before .before .wide .ensures .0) (c .before .before .before .before .before .before .before .before .before .before .before .wide2 .ensures .0) (sym (c .before .before .before .before .before .before .before .before .before .before .are-limits .ensures) ∙ not-false (c .before .before .before .before .before .before .before .before .before .before .are-limits .result) (c .before .before .before .before .before .before .before .before .before .if1 .left)) (c .before .before .before .before .before .before .before .before .atoms .result) (c .before .before .before .before .before .before .before .before .atoms .ensures .0) (sym (c .before .before .before .before .are-buffers .ensures) ∙ not-false (c .before .before .before .before .are-buffers .result) (c .before .before .before .if2 .left)) (c .before .before .rows-in .result) (c .before .before .rows-in .ensures) (c .before .if3 .left))
-
-run-requires : tie.Need-run-requires
-run-requires c κs =
-    let a = c .before .before .before .before .before .before .before .before .before .before .before .before .before .before .before .before .before .before .before .before .before .before .before .before .before .before .args in
-    let r = reads (now (a .image)) (ap verdictAnswer (sym (c .before .before .before .before .before .before .before .before .before .before .before .before .before .before .before .before .before .before .before .enum-told .given .1)) ∙ c .before .before .before .before .before .before .before .before .before .before .before .before .before .before .before .before .before .before .before .before .before .read .ensures) in
-    call-begun (now (a .image)) (a .n) (a .limit) (now (a .clauses)) (length (now (a .work))) (length (now (a .marks))) r (c .before .before .before .before .before .before .before .before .before .before .before .before .before .before .before .before .before .before .wide .result) (c .before .before .before .before .before .before .before .before .before .before .before .before .before .before .before .before .before .wide2 .result) (c .before .before .before .before .before .before .before .before .before .before .before .before .before .before .before .before .before .before .wide .ensures .0) (c .before .before .before .before .before .before .before .before .before .before .before .before .before .before .before .before .before .wide2 .ensures .0) (sym (c .before .before .before .before .before .before .before .before .before .before .before .before .before .before .before .before .are-limits .ensures) ∙ not-false (c .before .before .before .before .before .before .before .before .before .before .before .before .before .before .before .before .are-limits .result) (c .before .before .before .before .before .before .before .before .before .before .before .before .before .before .before .if1 .left)) (c .before .before .before .before .before .before .before .before .before .before .before .before .before .before .atoms .result) (c .before .before .before .before .before .before .before .before .before .before .before .before .before .before .atoms .ensures .0) (sym (c .before .before .before .before .before .before .before .before .before .before .are-buffers .ensures) ∙ not-false (c .before .before .before .before .before .before .before .before .before .before .are-buffers .result) (c .before .before .before .before .before .before .before .before .before .if2 .left)) (c .before .before .before .before .before .before .before .before .rows-in .result) (c .before .before .before .before .before .before .before .before .rows-in .ensures) (c .before .before .before .before .before .before .before .if3 .left) (c .before .before .before .before .before .before .before .before .before .before .before .before .before .before .atoms .ensures .1) _ (c .before .before .before .before .before .write-first .last .1 .0) refl (c .before .before .before .before .before .write-first .kept .1 .0) (c .before .before .before .before .before .write-first .ensures)
-
-same-length-7 : tie.Need-same-length-7
-same-length-7 c = search needs
-
-same-length-8 : tie.Need-same-length-8
-same-length-8 c = search needs
-
-same-length-9 : tie.Need-same-length-9
-same-length-9 c = search needs
-
-returns-5 : tie.Need-returns-5
-returns-5 c =
-    let a = c .before .before .before .before .before .before .before .before .before .before .before .before .before .before .before .before .before .before .before .before .before .before .before .before .before .before .before .before .before .before .before .before .before .args in
-    let r = reads (now (a .image)) (ap verdictAnswer (sym (c .before .before .before .before .before .before .before .before .before .before .before .before .before .before .before .before .before .before .before .before .before .before .before .before .before .before .enum-told .given .1)) ∙ c .before .before .before .before .before .before .before .before .before .before .before .before .before .before .before .before .before .before .before .before .before .before .before .before .before .before .before .before .read .ensures) in
-    call-run (now (a .image)) (a .n) (a .limit) (now (a .clauses)) (length (now (a .work))) (length (now (a .marks))) r (c .before .before .before .before .before .before .before .before .before .before .before .before .before .before .before .before .before .before .before .before .before .before .before .before .before .wide .result) (c .before .before .before .before .before .before .before .before .before .before .before .before .before .before .before .before .before .before .before .before .before .before .before .before .wide2 .result) (c .before .before .before .before .before .before .before .before .before .before .before .before .before .before .before .before .before .before .before .before .before .before .before .before .before .wide .ensures .0) (c .before .before .before .before .before .before .before .before .before .before .before .before .before .before .before .before .before .before .before .before .before .before .before .before .wide2 .ensures .0) (sym (c .before .before .before .before .before .before .before .before .before .before .before .before .before .before .before .before .before .before .before .before .before .before .before .are-limits .ensures) ∙ not-false (c .before .before .before .before .before .before .before .before .before .before .before .before .before .before .before .before .before .before .before .before .before .before .before .are-limits .result) (c .before .before .before .before .before .before .before .before .before .before .before .before .before .before .before .before .before .before .before .before .before .before .if1 .left)) (c .before .before .before .before .before .before .before .before .before .before .before .before .before .before .before .before .before .before .before .before .before .atoms .result) (c .before .before .before .before .before .before .before .before .before .before .before .before .before .before .before .before .before .before .before .before .before .atoms .ensures .0) (sym (c .before .before .before .before .before .before .before .before .before .before .before .before .before .before .before .before .before .are-buffers .ensures) ∙ not-false (c .before .before .before .before .before .before .before .before .before .before .before .before .before .before .before .before .before .are-buffers .result) (c .before .before .before .before .before .before .before .before .before .before .before .before .before .before .before .before .if2 .left)) (c .before .before .before .before .before .before .before .before .before .before .before .before .before .before .before .rows-in .result) (c .before .before .before .before .before .before .before .before .before .before .before .before .before .before .before .rows-in .ensures) (c .before .before .before .before .before .before .before .before .before .before .before .before .before .before .if3 .left) (c .before .before .before .before .before .before .before .before .before .before .before .before .write-first .last .1 .0) (c .before .before .before .before .before .before .before .before .before .before .before .before .write-first .kept .1 .0) _ (c .before .before .before .before .before .before .run .ensures)
+returns-2 : tie.Need-returns-2
+returns-2 c =
+    let s = started c in
+    let d = asked-of (s .before) in
+    s .start .ensures ∙ call-by _ (literals d) _ (most d) _ _ _ _ (same-n d) (same-limit d)
 
 pub synthesize-spec : {M : Type 1} → statement M
 synthesize-spec =
     tie.close
     (tie.spec
-    read-requires
-    enum-known-read
-    returns
-    enum-told
     wide-requires
     wide-requires-2
-    are-limits-requires
-    refuse-requires
-    returns-2
-    atoms-requires
-    are-buffers-requires
-    refuse-requires-2
+    check-requires
+    enum-known-checked
+    returns
+    enum-told
+    start-requires
     same-length
     same-length-2
     same-length-3
-    returns-3
-    rows-in-requires
-    clear-requires
-    same-length-4
-    same-length-5
-    same-length-6
-    returns-4
-    write-first-requires
-    run-requires
-    same-length-7
-    same-length-8
-    same-length-9
-    returns-5)
+    returns-2)

@@ -10,7 +10,8 @@ use Rattle.clause_set.proofs.words.fill.Statement.{statement}
 use Rattle.clause_set.proofs.words.fill.Tie as tie
 
 abbrev Inv-loop : tie.InvT-loop
-Inv-loop words₀ at word i₀ words i = (at ≤ i) × (i ≤ length words₀) × (length words ≡ length words₀) × (words ≡ take at words₀ ++ replicate (i - at) word ++ drop i words₀)
+Inv-loop words₀ at word i₀ words i =
+    (at ≤ i) × (i ≤ length words₀) × (length words ≡ length words₀) × (words ≡ take at words₀ ++ replicate (i - at) word ++ drop i words₀)
 
 abbrev μ-loop : tie.MeasureT-loop
 μ-loop words₀ at word i₀ words i = length words₀ - i

@@ -50,8 +50,14 @@ loop-again c =
     let a = c .before .before .before .args in
     let i = l .i - 1 in
     let e : l .i ≡ suc i = omega arith in
-    let h : l .words ≡ moved (a .words .now) width (a .end) (suc i) = l .inv .3 ∙ ap (moved (a .words .now) width (a .end)) e in
-    (search needs, search needs, simp length-set (l .inv .2), rw h (rw (move-read (a .words .now) width (a .end) (c .before .before .before .pre .1) i (omega arith)) (move-turn (a .words .now) width (a .end) (c .before .before .before .pre .1) i (omega arith))))
+    let h : l .words ≡ moved (a .words .now) width (a .end) (suc i) = l .inv .3 ∙ ap (moved (a .words .now) width (a .end)) e in (
+      search needs,
+      search needs,
+      simp length-set (l .inv .2),
+      rw h
+          (rw (move-read (a .words .now) width (a .end) (c .before .before .before .pre .1) i (omega arith))
+          (move-turn (a .words .now) width (a .end) (c .before .before .before .pre .1) i (omega arith))),
+    )
 
 same-length : tie.Need-same-length Inv-loop μ-loop
 same-length c = search needs
