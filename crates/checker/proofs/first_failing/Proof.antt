@@ -65,12 +65,13 @@ unfolding width
 judge-requires c κs =
     let d = found-by c in
     let p = start d .pre in
-    let r = p .read in (
-      given-operator _ _ _ _ _ (r .task) (r .counted) (r .few) (p .operator-of) (r .clauses) (d .operator-block .ensures),
-      prefix-judged (clauses d) (low d) (inside d) _ (r .clauses),
-      p .marked,
-      sym (prefix-count (clauses d) (low d) (inside d)),
-    )
+    let r = p .read in
+    record {
+      given = given-operator _ _ _ _ _ (r .task) (r .counted) (r .few) (p .operator-of) (r .clauses) (d .operator-block .ensures);
+      judged = prefix-judged (clauses d) (low d) (inside d) _ (r .clauses);
+      room = p .marked;
+      flagged = sym (prefix-count (clauses d) (low d) (inside d));
+    }
 
 first-flag-requires : tie.Need-first-flag-requires
 first-flag-requires c κs = search needs
