@@ -133,7 +133,7 @@ module _ (N : ℕ) (w : List ℕ) (rows : RightRows N w) where
     where
       apart : (p : Placed w f) → Dec (p .row < i) → ⊥
       apart p (yes l) = row-irrefl (rowOf f) (rw (placed-row f p) at (s .before (p .row) l))
-      apart p (no l) = row-irrefl (rowOf f) (rw (placed-row f p) at (s .behind (p .row) (omega arith) (p .inside)))
+      apart p (no l) = row-irrefl (rowOf f) (rw (placed-row f p) at (s .later (p .row) (omega arith) (p .inside)))
 
       go :
           (any (λ g. isSame (compareWords f g)) (clausesOf w) ≡ true) ⊎ (any (λ g. isSame (compareWords f g)) (clausesOf w) ≡ false)

@@ -20,10 +20,10 @@ module _ (atoms : ℕ) (ws ls ms : List ℕ) where
   closure-consistent c = consistent-by atoms ms (closure atoms (clausesOf ws) ls) (c .marked) (c .consistent)
 
   -- by propagation's answer
-  pub closure-told :
+  pub closure-says :
       (contradictory atoms (closure atoms (clausesOf ws) ls) ≡ false) × Marked atoms ms (closure atoms (clausesOf ws) ls)
       → ConsistentClosure atoms ws ls ms
-  closure-told k = record { consistent = k .0; marked = k .1 }
+  closure-says k = record { consistent = k .0; marked = k .1 }
 
   -- the same marks
   pub closure-copied :

@@ -6,5 +6,5 @@ pub mod Guaranteed
 pub mod Firing
 pub mod Violations
 pub mod Flagged
-pub mod Turns
+pub mod RowWalk
 pub mod Keeping

@@ -1,4 +1,4 @@
--- Turns of the loop that copies the rows without a flag. Assumes nothing.
+-- Steps of the loop that copies the rows without a flag. Assumes nothing.
 use mathlib.Core.Bool.{Bool, true, false, cond}
 use mathlib.Core.Path.{_≡_, refl, sym, _∙_, ap}
 use mathlib.Core.List.{List, [], _∷_, _++_, append-assoc, append-nil}

@@ -25,7 +25,7 @@ use Rattle.clause_set.specs.Put.{putAll}
 use Rattle.next_set.specs.Build.{failsBelow, someFails, addedBy}
 use Rattle.next_set.specs.Post.{FlagsAdded, FailuresNoted}
 use Rattle.next_set.proofs.Flags.{flags-length, flag-yes, flag-no, has-not}
-use Rattle.next_set.proofs.Testing.{fails-start, fails-turn}
+use Rattle.next_set.proofs.Testing.{fails-start, fails-on}
 use Rattle.next_set.proofs.Adding.{none-added}
 
 -- ---- the flags of one operator, clause after clause
@@ -172,7 +172,7 @@ module _ (t : Task) (C : List (List ℕ)) where
     unfolding someFails
     tested-next b a same =
         record {
-          flags = fails-turn t C atoms j failing failing′ counted (b .flags) (a .flags);
+          flags = fails-on t C atoms j failing failing′ counted (b .flags) (a .flags);
           done = λ i k h low high room. here i k low high (rw same at room) (below-suc i j h);
           left =
               λ i k h low high room. a .noted (width * i + k) (rw same at room)

@@ -87,11 +87,11 @@ module _ (t : Task) (C : List (List ℕ)) where
       go [] = refl
       go (f ∷ D) = ap (λ (l : List ℕ). 0 ∷ l) (go D)
 
-  pub fails-turn :
+  pub fails-on :
       (atoms j : ℕ) (s s′ : List ℕ) → atoms ≡ t .atoms → s ≡ map (λ f. bit (failsBelow t C j f)) C
       → s′ ≡ flagMore (λ f. not (kept atoms C (operatorAt t j) f)) C s → s′ ≡ map (λ f. bit (failsBelow t C (j + 1) f)) C
   unfolding failsBelow
-  fails-turn atoms j s s′ counted inv h =
+  fails-on atoms j s s′ counted inv h =
       h
       ∙ ap (λ (m : ℕ). flagMore (λ f. not (kept m C (operatorAt t j) f)) C s) counted
       ∙ ap (flagMore (λ f. not (kept (t .atoms) C (operatorAt t j) f)) C) inv

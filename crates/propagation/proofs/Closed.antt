@@ -19,7 +19,7 @@ use Rattle.clause.proofs.ClauseLaws.{clause-below, below-at}
 use Rattle.propagation.specs.declared.Closing.{Closing}
 use Rattle.propagation.specs.declared.Closing.the-variants.{Consistent, Contradictory}
 use Rattle.propagation.specs.declared.Pass.the-variants as pass
-use Rattle.propagation.specs.Marks.{Marked, Behind, Asked, Closes}
+use Rattle.propagation.specs.Marks.{Marked, RestKept, Asked, Closes}
 use Rattle.propagation.specs.Walk.{In, Part, Lists, ClosedUnder, Clash, Bits, Even, Ready, Reached, Passed, Saturated, Added, Seeded, Propagated}
 use Rattle.propagation.proofs.Sets.{byte-in, byte-out, in-below, even-on, clash-of, clash-any}
 use Rattle.propagation.proofs.ClosureLaws.{closure-lowest, closure-under, closure-mono, clash-contradictory}
@@ -67,8 +67,8 @@ propagate-on w s₀ ls s s′ Contradictory a p = λ T c q z. p T c (a .least T 
 
 -- ---- the marks of the literals, and what comes after them
 module _ (N : ℕ) (ms s : List ℕ) (room : 2 * N ≤ length ms) (exact : length s ≡ 2 * N) where
-  pub behind-front : Behind N ms (s ++ drop (2 * N) ms)
-  behind-front =
+  pub rest-front : RestKept N ms (s ++ drop (2 * N) ms)
+  rest-front =
       record {
         same-length = length-front ms s (2 * N) (exact ∙ sym (length-take-le (2 * N) ms room));
         rest = drop-at s (drop (2 * N) ms) (2 * N) exact;
@@ -219,11 +219,11 @@ module _ (N : ℕ) (w L s₀ ls s t : List ℕ) (rows : ClausesRead N w) (exact 
 pub close-done :
     (N : ℕ) (w ls ms ms₁ s : List ℕ) (r : Closing) → Asked N w ls ms → ms₁ ≡ replicate (2 * N) 0 ++ drop (2 * N) ms
     → length s ≡ length (take (2 * N) ms₁) → Propagated w (take (2 * N) ms₁) ls s r
-    → Behind N ms (s ++ drop (2 * N) ms₁) × Closes N (clausesOf w) ls (s ++ drop (2 * N) ms₁) r
+    → RestKept N ms (s ++ drop (2 * N) ms₁) × Closes N (clausesOf w) ls (s ++ drop (2 * N) ms₁) r
 close-done N w ls ms ms₁ s r asked cleared kept propagated =
     let exact : length s ≡ 2 * N = kept ∙ cleared-length N (drop (2 * N) ms) ms₁ cleared in
     let K = closure N (clausesOf w) ls in (
-      rw (cleared-rest N (drop (2 * N) ms) ms₁ cleared) (behind-front N ms s (asked .room) exact),
+      rw (cleared-rest N (drop (2 * N) ms) ms₁ cleared) (rest-front N ms s (asked .room) exact),
       closes-of N w ls (take (2 * N) ms₁) ls s (drop (2 * N) ms₁) (asked .rows) exact
           (λ l p. absurd (cleared-none N (drop (2 * N) ms) ms₁ cleared l p))
           (λ l m. closure-holds N (clausesOf w) ls l (below-at (2 * N) ls (asked .below) l (member-of l ls m)) m)

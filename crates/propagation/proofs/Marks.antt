@@ -14,19 +14,19 @@ use Rattle.definitions.proofs.ListLaws.{and-left, and-right, and-both}
 use Rattle.writing.specs.Writing.{Wrote}
 use Rattle.writing.proofs.Writes.{wrote-size, wrote-front}
 use Rattle.clause.proofs.ClauseLaws.{low-at}
-use Rattle.propagation.specs.Marks.{Marked, Behind, ConsistentMarks, Closes}
+use Rattle.propagation.specs.Marks.{Marked, RestKept, ConsistentMarks, Closes}
 use Rattle.propagation.specs.declared.Closing.{Closing}
 use Rattle.propagation.specs.declared.Closing.the-variants.{Consistent, Contradictory}
 
 -- ---- for callers
-pub behind-self : (N : ℕ) (ms : List ℕ) → Behind N ms ms
-behind-self N ms = record { same-length = refl; rest = refl }
+pub rest-self : (N : ℕ) (ms : List ℕ) → RestKept N ms ms
+rest-self N ms = record { same-length = refl; rest = refl }
 
-pub behind-on : (N : ℕ) (a b c : List ℕ) → Behind N a b → Behind N b c → Behind N a c
-behind-on N a b c p q = record { same-length = q .same-length ∙ p .same-length; rest = q .rest ∙ p .rest }
+pub rest-on : (N : ℕ) (a b c : List ℕ) → RestKept N a b → RestKept N b c → RestKept N a c
+rest-on N a b c p q = record { same-length = q .same-length ∙ p .same-length; rest = q .rest ∙ p .rest }
 
-pub behind-length : (N : ℕ) (a b : List ℕ) → Behind N a b → length b ≡ length a
-behind-length N a b p = p .same-length
+pub rest-length : (N : ℕ) (a b : List ℕ) → RestKept N a b → length b ≡ length a
+rest-length N a b p = p .same-length
 
 pub marked-room : (N : ℕ) (ms S : List ℕ) → Marked N ms S → 2 * N ≤ length ms
 marked-room N ms S m = m .room
@@ -35,12 +35,12 @@ pub consistent-by : (N : ℕ) (ms S : List ℕ) → Marked N ms S → contradict
 consistent-by N ms S m e = record { set = S; marked = m; consistent = e }
 
 -- what an answer says
-module _ (N : ℕ) (C : List (List ℕ)) (ls ms : List ℕ) (r : Closing) (told : Closes N C ls ms r) where
-  pub told-consistent : r ≡ Consistent → (contradictory N (closure N C ls) ≡ false) × Marked N ms (closure N C ls)
-  told-consistent e = subst (λ (x : Closing). Closes N C ls ms x) e told
+module _ (N : ℕ) (C : List (List ℕ)) (ls ms : List ℕ) (r : Closing) (said : Closes N C ls ms r) where
+  pub says-consistent : r ≡ Consistent → (contradictory N (closure N C ls) ≡ false) × Marked N ms (closure N C ls)
+  says-consistent e = subst (λ (x : Closing). Closes N C ls ms x) e said
 
-  pub told-contradictory : r ≡ Contradictory → contradictory N (closure N C ls) ≡ true
-  told-contradictory e = subst (λ (x : Closing). Closes N C ls ms x) e told
+  pub says-contradictory : r ≡ Contradictory → contradictory N (closure N C ls) ≡ true
+  says-contradictory e = subst (λ (x : Closing). Closes N C ls ms x) e said
 
 pub below-both : (n : ℕ) (a b : List ℕ) → allBelow n a ≡ true → allBelow n b ≡ true → allBelow n (a ++ b) ≡ true
 unfolding allBelow all
@@ -80,7 +80,7 @@ module _ (N : ℕ) (from to new : List ℕ) (end : ℕ) (inside : 2 * N ≤ leng
       ∙ List·getD-append (take (2 * N) from) (drop (2 * N) to) 0 l (omega (arith, front-length))
       ∙ getD-take (2 * N) from l 0 h
 
-  pub copied-marks : Behind N to new × ((S : List ℕ) → Marked N from S → Marked N new S)
+  pub copied-marks : RestKept N to new × ((S : List ℕ) → Marked N from S → Marked N new S)
   copied-marks =
       let size = wrote-size wrote in (
         record { same-length = size; rest = ap (drop (2 * N)) copied ∙ drop-at (take (2 * N) from) (drop (2 * N) to) (2 * N) front-length },

@@ -16,7 +16,7 @@ pub record Marked (atoms : ℕ) (ms S : List ℕ) : Type 0 where
   pub byte : (l : ℕ) → l < 2 * atoms → getD ms l 0 ≡ bit (has S l)
 
 -- what comes after the marks of so many atoms is the same
-pub record Behind (atoms : ℕ) (ms ms′ : List ℕ) : Type 0 where
+pub record RestKept (atoms : ℕ) (ms ms′ : List ℕ) : Type 0 where
   pub same-length : length ms′ ≡ length ms
   pub rest : drop (2 * atoms) ms′ ≡ drop (2 * atoms) ms
 

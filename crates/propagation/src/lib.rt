@@ -11,7 +11,7 @@ ghost use Rattle.definitions.specs.Literal.{fill, complement, allBelow};
 ghost use Rattle.definitions.specs.Closure.{has, closure};
 ghost use Rattle.definitions.specs.Kept.{allIn};
 ghost use Rattle.clause.specs.Rows.{clausesOf};
-ghost use Rattle.propagation.specs.Marks.{Marked, Behind, ConsistentMarks, Asked, Closes};
+ghost use Rattle.propagation.specs.Marks.{Marked, RestKept, ConsistentMarks, Asked, Closes};
 ghost use Rattle.propagation.specs.Walk.{Even, Sound, Ready, Scanned, Passed, Saturated, Seeded, Propagated};
 
 // What propagation answers.
@@ -70,7 +70,7 @@ pub fn holds_all(marks: &[u8], literals: &[u16]) -> bool
 // Copies the marks of the literals of so many atoms.
 pub fn copy(from: &[u8], to: &mut [u8], atoms: usize)
     requires { ⌜ (2 * atoms ≤ length (now from)) × (2 * atoms ≤ length (now to)) ⌝ }
-    ensures { λ _. ⌜ Behind atoms (now (to .entry)) (now (to .exit)) × ((S : List ℕ) → Marked atoms (now (from .entry)) S → Marked atoms (now (to .exit)) S) ⌝ }
+    ensures { λ _. ⌜ RestKept atoms (now (to .entry)) (now (to .exit)) × ((S : List ℕ) → Marked atoms (now (from .entry)) S → Marked atoms (now (to .exit)) S) ⌝ }
 {
     let end = 2 * atoms;
     writing::bytes(&from[..end], to, 0);
@@ -211,7 +211,7 @@ fn clear(marks: &mut [u8], atoms: usize)
 // The closure of the clauses and the literals, over so many atoms.
 pub fn close(clauses: &[u16], literals: &[u16], marks: &mut [u8], atoms: usize) -> Closing
     requires { ⌜ Asked atoms (now clauses) (now literals) (now marks) ⌝ }
-    ensures { λ r. ⌜ Behind atoms (now (marks .entry)) (now (marks .exit)) × Closes atoms (clausesOf (now (clauses .entry))) (now (literals .entry)) (now (marks .exit)) r ⌝ }
+    ensures { λ r. ⌜ RestKept atoms (now (marks .entry)) (now (marks .exit)) × Closes atoms (clausesOf (now (clauses .entry))) (now (literals .entry)) (now (marks .exit)) r ⌝ }
 {
     clear(marks, atoms);
     let end = 2 * atoms;
@@ -221,7 +221,7 @@ pub fn close(clauses: &[u16], literals: &[u16], marks: &mut [u8], atoms: usize) 
 // The closure with more literals: marks that stand for the closure of a list are taken on to that of both lists.
 pub fn extend(clauses: &[u16], literals: &[u16], marks: &mut [u8], atoms: usize) -> Closing
     requires { ⌜ Asked atoms (now clauses) (now literals) (now marks) × ConsistentMarks atoms (now marks) ⌝ }
-    ensures { λ r. ⌜ Behind atoms (now (marks .entry)) (now (marks .exit)) × ((ls : List ℕ) → Marked atoms (now (marks .entry)) (closure atoms (clausesOf (now (clauses .entry))) ls) → Closes atoms (clausesOf (now (clauses .entry))) (ls ++ now (literals .entry)) (now (marks .exit)) r) ⌝ }
+    ensures { λ r. ⌜ RestKept atoms (now (marks .entry)) (now (marks .exit)) × ((ls : List ℕ) → Marked atoms (now (marks .entry)) (closure atoms (clausesOf (now (clauses .entry))) ls) → Closes atoms (clausesOf (now (clauses .entry))) (ls ++ now (literals .entry)) (now (marks .exit)) r) ⌝ }
 {
     let end = 2 * atoms;
     propagate(clauses, literals, &mut marks[..end])

@@ -4,7 +4,7 @@ use Prim.Native.Nat.{_*_}
 use lib.ListN.{take}
 use lib.Seq.{length-take-le}
 use denote.Ref.{now}
-use Rattle.propagation.proofs.Closed.{behind-front, ready-front, front-below, extend-done}
+use Rattle.propagation.proofs.Closed.{rest-front, ready-front, front-below, extend-done}
 use borrow.Author.Needs.{needs}
 use Rattle.propagation.proofs.extend.Statement.{statement}
 use Rattle.propagation.proofs.extend.Tie as tie
@@ -46,7 +46,7 @@ returns c =
     let atoms = s .args .atoms in
     let m = now (s .args .marks) in
     let k = r .kept .1 .1 .0 in (
-      behind-front atoms m (r .last .1 .1 .0) (s .pre .0 .room) (k ∙ length-take-le (2 * atoms) m (s .pre .0 .room)),
+      rest-front atoms m (r .last .1 .1 .0) (s .pre .0 .room) (k ∙ length-take-le (2 * atoms) m (s .pre .0 .room)),
       λ ls h.
           extend-done atoms (now (s .args .clauses)) ls (now (s .args .literals)) m (r .last .1 .1 .0) (r .result) (s .pre .0) k h (r .ensures),
     )

@@ -4,7 +4,7 @@ use mathlib.Core.Path.{_≡_, sym, _∙_, ap}
 use mathlib.Core.List.{List, _++_}
 use native.Mathlib.Omega.{arith}
 use lib.ListN.{length, set, take, drop, replicate, length-set}
-use Rattle.clause_set.proofs.Buffers.{fill-start, fill-turn, fill-end}
+use Rattle.clause_set.proofs.Buffers.{fill-start, fill-on, fill-end}
 use borrow.Author.Needs.{needs}
 use Rattle.clause_set.proofs.words.fill.Statement.{statement}
 use Rattle.clause_set.proofs.words.fill.Tie as tie
@@ -35,7 +35,7 @@ loop-again : tie.Need-loop-again Inv-loop μ-loop
 loop-again c =
     let l = c .before .loop in
     let a = c .before .before .args in
-    (search needs, search needs, simp length-set (l .inv .2), rw (l .inv .3) (fill-turn (a .at) (a .words .now) (a .word) (l .i) (omega arith) (omega arith)))
+    (search needs, search needs, simp length-set (l .inv .2), rw (l .inv .3) (fill-on (a .at) (a .words .now) (a .word) (l .i) (omega arith) (omega arith)))
 
 same-length : tie.Need-same-length Inv-loop μ-loop
 same-length c = search needs

@@ -5,7 +5,7 @@ use mathlib.Core.List.{List, _++_}
 use native.Mathlib.Omega.{arith}
 use lib.ListN.{length, set, take, drop, length-set}
 use Rattle.definitions.specs.Clauses.{width}
-use Rattle.clause_set.proofs.Buffers.{moved, move-start, move-read, move-turn}
+use Rattle.clause_set.proofs.Buffers.{moved, move-start, move-read, move-on}
 use borrow.Author.Needs.{needs}
 use Rattle.clause_set.proofs.words.move_up.Statement.{statement}
 use Rattle.clause_set.proofs.words.move_up.Tie as tie
@@ -56,7 +56,7 @@ loop-again c =
       simp length-set (l .inv .2),
       rw h
           (rw (move-read (a .words .now) width (a .end) (c .before .before .before .pre .1) i (omega arith))
-          (move-turn (a .words .now) width (a .end) (c .before .before .before .pre .1) i (omega arith))),
+          (move-on (a .words .now) width (a .end) (c .before .before .before .pre .1) i (omega arith))),
     )
 
 same-length : tie.Need-same-length Inv-loop μ-loop

@@ -2,10 +2,10 @@
 use Prim.Native.Nat.{ℕ}
 use mathlib.Core.Path.{_≡_, _∙_}
 use mathlib.Core.List.{List}
-use Rattle.propagation.proofs.Marks.{told-consistent, told-contradictory}
+use Rattle.propagation.proofs.Marks.{says-consistent, says-contradictory}
 use Rattle.judge.proofs.BlockRows.{precondition-low}
-use Rattle.judge.proofs.Closures.{closure-told, closure-start, contradictory-start}
-use Rattle.judge.proofs.Turns.{fail-none, fail-rows}
+use Rattle.judge.proofs.Closures.{closure-says, closure-start, contradictory-start}
+use Rattle.judge.proofs.RowWalk.{fail-none, fail-rows}
 use borrow.Author.Needs.{needs}
 use Rattle.judge.proofs.bulk.judge_guaranteed.Statement.{statement}
 use Rattle.judge.proofs.bulk.judge_guaranteed.Tie as tie
@@ -75,11 +75,11 @@ judge-consistent-requires c κs =
     let d = closing e in
     let h = head-of d in
     let g = start h .pre .0 in
-    let told = told-consistent _ _ _ _ _ (d .close .ensures .1) (e .enum-told2 .given .1) in (
+    let said = says-consistent _ _ _ _ _ (d .close .ensures .1) (e .enum-told2 .given .1) in (
       record {
         given = g .given;
         judged = g .judged;
-        closed = closure-start _ _ _ _ _ (h .head .ensures .precondition) (closure-told _ _ _ _ told);
+        closed = closure-start _ _ _ _ _ (h .head .ensures .precondition) (closure-says _ _ _ _ said);
         flagged = cleared h .clear .kept .0 ∙ g .flagged;
       },
       start h .pre .1,
@@ -96,8 +96,8 @@ returns c =
     let d = clashing c in
     let h = head-of d in
     let pre = h .head .ensures .precondition in
-    let told = told-contradictory _ _ _ _ _ (d .close .ensures .1) (c .enum-told .given .1) in
-    (fail-none _ _ _ (judged h) _ (fails h) _ (start h .pre .0 .flagged) (cleared h .clear .ensures) pre told, contradictory-start _ _ _ _ pre told)
+    let said = says-contradictory _ _ _ _ _ (d .close .ensures .1) (c .enum-told .given .1) in
+    (fail-none _ _ _ (judged h) _ (fails h) _ (start h .pre .0 .flagged) (cleared h .clear .ensures) pre said, contradictory-start _ _ _ _ pre said)
 
 same-length-3 : tie.Need-same-length-3
 same-length-3 c = search needs
@@ -121,9 +121,9 @@ returns-2 c =
     let d = closing e in
     let h = head-of d in
     let pre = h .head .ensures .precondition in
-    let told = told-consistent _ _ _ _ _ (d .close .ensures .1) (e .enum-told2 .given .1) in
-    let consistent = closure-start _ _ _ _ _ pre (closure-told _ _ _ _ told) .consistent in (
-      fail-rows _ _ _ (judged h) _ (fails h) _ (start h .pre .0 .flagged) (cleared h .clear .ensures) pre _ (told .0)
+    let said = says-consistent _ _ _ _ _ (d .close .ensures .1) (e .enum-told2 .given .1) in
+    let consistent = closure-start _ _ _ _ _ pre (closure-says _ _ _ _ said) .consistent in (
+      fail-rows _ _ _ (judged h) _ (fails h) _ (start h .pre .0 .flagged) (cleared h .clear .ensures) pre _ (said .0)
           (j .judge-consistent .ensures .0),
       (consistent, j .judge-consistent .ensures .1),
     )

@@ -3,10 +3,10 @@ use mathlib.Core.Path.{sym, _∙_, ap}
 use denote.Ref.{now}
 use native.Mathlib.Omega.{arith}
 use Rattle.clause.specs.Rows.{clausesOf}
-use Rattle.propagation.proofs.Marks.{marked-room, told-consistent, told-contradictory}
+use Rattle.propagation.proofs.Marks.{marked-room, says-consistent, says-contradictory}
 use Rattle.judge.specs.Judging.{lacksOther, flagMore}
-use Rattle.judge.proofs.Closures.{closure-consistent, closure-told, closure-copied, closure-with}
-use Rattle.judge.proofs.Turns.{judged-low, row-contradictory, row-judged}
+use Rattle.judge.proofs.Closures.{closure-consistent, closure-says, closure-copied, closure-with}
+use Rattle.judge.proofs.RowWalk.{judged-low, row-contradictory, row-judged}
 use borrow.Author.Needs.{needs}
 use Rattle.judge.proofs.bulk.judge_row.Statement.{statement}
 use Rattle.judge.proofs.bulk.judge_row.Tie as tie
@@ -144,7 +144,7 @@ flag-violated-requires : tie.Need-flag-violated-requires
 flag-violated-requires c κs =
     let p = at-start-from-flag-violated-arg2 c .pre in
     let k = after-extend-from-flag-violated-arg2 c .extend .ensures .1 _ (after-copy-from-flag-violated-arg2 c .copy .ensures .1 _ (p .0 .closed .marked)) in
-    (p .0 .given, closure-consistent _ _ _ _ (closure-told _ _ _ _ (told-consistent _ _ _ _ _ k (c .before .before .enum-told2 .given .1))), p .0 .flagged)
+    (p .0 .given, closure-consistent _ _ _ _ (closure-says _ _ _ _ (says-consistent _ _ _ _ _ k (c .before .before .enum-told2 .given .1))), p .0 .flagged)
 
 same-length-2 : tie.Need-same-length-2
 same-length-2 c = search needs
@@ -154,7 +154,7 @@ returns-2 c =
     λ e el.
     let p = at-start-from-enum-told c .pre in
     let k = after-extend (after-marks2-of-enum-told c) .extend .ensures .1 _ (after-copy-from-enum-told c .copy .ensures .1 _ (p .0 .closed .marked)) in
-    row-contradictory _ _ _ _ e _ _ (told-contradictory _ _ _ _ _ k (c .enum-told .given .1))
+    row-contradictory _ _ _ _ e _ _ (says-contradictory _ _ _ _ _ k (c .enum-told .given .1))
 
 same-length-3 : tie.Need-same-length-3
 same-length-3 c = search needs
@@ -167,7 +167,7 @@ returns-3 c =
     λ e el.
     let p = at-start-from-slice-known6 c .pre in
     let k = after-extend-from-slice-known6 c .extend .ensures .1 _ (after-copy-from-slice-known6 c .copy .ensures .1 _ (p .0 .closed .marked)) in
-    let closed = closure-told _ _ _ _ (told-consistent _ _ _ _ _ k (after-enum-told2 (after-flag-violated-arg2 c) .enum-told2 .given .1)) in
+    let closed = closure-says _ _ _ _ (says-consistent _ _ _ _ _ k (after-enum-told2 (after-flag-violated-arg2 c) .enum-told2 .given .1)) in
     row-judged _ _ _ _ e _ _ (judged-low _ _ (p .0 .judged)) (closed .consistent) _ _ el (c .before .before .flag-violated .ensures _ closed)
 
 pub judge-row-spec : {M : Type 1} → statement M

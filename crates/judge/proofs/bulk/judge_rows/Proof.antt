@@ -8,7 +8,7 @@ use Rattle.task.specs.Walk.{operatorIn, rowsAt}
 use Rattle.task.proofs.Blocks.{rows-none}
 use Rattle.judge.specs.Judging.{someViolates, flagMore}
 use Rattle.judge.proofs.BlockRows.{Left, left-start, left-next, effect-low, conditions-low}
-use Rattle.judge.proofs.Turns.{turn-start, turn-on, turn-passed, turn-end}
+use Rattle.judge.proofs.RowWalk.{walk-start, walk-on, walk-passed, walk-end}
 use borrow.Author.Needs.{needs}
 use Rattle.judge.proofs.bulk.judge_rows.Statement.{statement}
 use Rattle.judge.proofs.bulk.judge_rows.Tie as tie
@@ -108,7 +108,7 @@ loop-holds c = (
   refl,
   refl,
   left-start _ _ (at-start-from-head c .pre .0 .given .right) _ _ (c .head .ensures),
-  turn-start _ _ _ _ _ _ _ (c .head .ensures .rows),
+  walk-start _ _ _ _ _ _ _ (c .head .ensures .rows),
 )
 
 row-requires : tie.Need-row-requires Inv-loop μ-loop
@@ -134,7 +134,7 @@ loop-again c =
       i .1,
       left-next _ _ _ _ _ _ _ (i .2) r,
       i .3
-          ∙ turn-passed _ _ _ _ _ _ _ _ _ (r .row) _ (c .before .before .complement .ensures)
+          ∙ walk-passed _ _ _ _ _ _ _ _ _ (r .row) _ (c .before .before .complement .ensures)
           (sym (c .before .some-holds .ensures) ∙ not-true _ (c .if1 .taken)),
     )
 
@@ -176,7 +176,7 @@ loop-again-2 c =
       k .kept .1 .1 .1 .1 .1 .1 .1 .0 ∙ i .0,
       k .kept .1 .1 .1 .1 .1 .1 .1 .1 .1 .0 ∙ i .1,
       left-next _ _ _ _ _ _ _ (i .2) r,
-      i .3 ∙ turn-on _ _ _ _ _ _ _ _ _ (r .row) _ (k .ensures _ (after-complement-from-slice-known4 c .complement .ensures)),
+      i .3 ∙ walk-on _ _ _ _ _ _ _ _ _ (r .row) _ (k .ensures _ (after-complement-from-slice-known4 c .complement .ensures)),
     )
 
 same-length : tie.Need-same-length Inv-loop μ-loop
@@ -186,7 +186,7 @@ same-length-2 : tie.Need-same-length-2 Inv-loop μ-loop
 same-length-2 c = c .before .loop .inv .1
 
 returns : tie.Need-returns Inv-loop μ-loop
-returns c = sym (c .before .loop .inv .3 ∙ turn-end _ _ _ _ _ _ (rows-none _ _ _ (omega arith)))
+returns c = sym (c .before .loop .inv .3 ∙ walk-end _ _ _ _ _ _ (rows-none _ _ _ (omega arith)))
 
 pub judge-rows-spec : {M : Type 1} → statement M
 judge-rows-spec =

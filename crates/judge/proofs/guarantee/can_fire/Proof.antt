@@ -3,7 +3,7 @@ use denote.Ref.{now}
 use mathlib.Core.Path.{sym, _∙_}
 use native.Mathlib.Omega.{arith}
 use Rattle.judge.proofs.Closures.{closure-fires, consistent-copied, consistent-room}
-use Rattle.propagation.proofs.Marks.{told-consistent, told-contradictory}
+use Rattle.propagation.proofs.Marks.{says-consistent, says-contradictory}
 use Rattle.judge.proofs.Firing.{fires-consistent, fires-not}
 use borrow.Author.Needs.{needs}
 use Rattle.judge.proofs.guarantee.can_fire.Statement.{statement}
@@ -89,7 +89,7 @@ returns-2 : tie.Need-returns-2
 returns-2 c =
     λ ls closed.
     let k = after-extend (after-work2-of-enum-told c) .extend .ensures .1 ls (after-copy-from-enum-told c .copy .ensures .1 _ (closed .marked)) in
-    fires-consistent _ _ ls _ (told-consistent _ _ _ _ _ k (c .enum-told .given .1) .0)
+    fires-consistent _ _ ls _ (says-consistent _ _ _ _ _ k (c .enum-told .given .1) .0)
 
 same-length-2 : tie.Need-same-length-2
 same-length-2 c = search needs
@@ -98,7 +98,7 @@ returns-3 : tie.Need-returns-3
 returns-3 c =
     λ ls closed.
     let k = after-extend (after-work2-of-enum-told2 c) .extend .ensures .1 ls (after-copy-from-enum-told2 c .copy .ensures .1 _ (closed .marked)) in
-    fires-not _ _ ls _ (told-contradictory _ _ _ _ _ k (c .enum-told2 .given .1))
+    fires-not _ _ ls _ (says-contradictory _ _ _ _ _ k (c .enum-told2 .given .1))
 
 pub can-fire-spec : {M : Type 1} → statement M
 can-fire-spec =

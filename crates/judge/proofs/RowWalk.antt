@@ -52,28 +52,28 @@ module _ (N : ℕ) (C : List (List ℕ)) (o : Operator) (D : List (List ℕ)) (e
 
   -- the walk over the rows
   module _ (rs rs′ : List Row) (next : rs ≡ record { effect = e; conditions = cs } ∷ rs′) where
-    pub turn-on :
+    pub walk-on :
         (s′ : List ℕ) → s′ ≡ flagMore (violates N C o (record { effect = e; conditions = cs })) D s
         → flagMore (someViolates N C o rs) D s ≡ flagMore (someViolates N C o rs′) D s′
     unfolding r
-    turn-on s′ h = ap (λ x. flagMore (someViolates N C o x) D s) next ∙ rows-on N C o D r rs′ s ∙ ap (flagMore (someViolates N C o rs′) D) (sym h)
+    walk-on s′ h = ap (λ x. flagMore (someViolates N C o x) D s) next ∙ rows-on N C o D r rs′ s ∙ ap (flagMore (someViolates N C o rs′) D) (sym h)
 
     -- no judged clause holds the complement of the effect
-    pub turn-passed : (l : ℕ) → l ≡ complement e → any (member l) D ≡ false → flagMore (someViolates N C o rs) D s ≡ flagMore (someViolates N C o rs′) D s
+    pub walk-passed : (l : ℕ) → l ≡ complement e → any (member l) D ≡ false → flagMore (someViolates N C o rs) D s ≡ flagMore (someViolates N C o rs′) D s
     unfolding r
-    turn-passed l el h = turn-on s (sym (flag-none (violates N C o r) D s (λ f m. violates-passed N C o r f (rw el at (not-held f m (decide (member l f)))))))
+    walk-passed l el h = walk-on s (sym (flag-none (violates N C o r) D s (λ f m. violates-passed N C o r f (rw el at (not-held f m (decide (member l f)))))))
       where
         not-held : (f : List ℕ) → List·Memᴰ f D → (member l f ≡ true) ⊎ (member l f ≡ false) → member l f ≡ false
         not-held f m (inl x) = never (any-in (member l) m x) h
         not-held f m (inr x) = x
 
-pub turn-start :
+pub walk-start :
     (N : ℕ) (C : List (List ℕ)) (o : Operator) (D : List (List ℕ)) (rs rs′ : List Row) (s : List ℕ) → rs ≡ rs′
     → flagMore (someViolates N C o rs′) D s ≡ flagMore (someViolates N C o rs) D s
-turn-start N C o D rs rs′ s h = rw h
+walk-start N C o D rs rs′ s h = rw h
 
-pub turn-end : (N : ℕ) (C : List (List ℕ)) (o : Operator) (D : List (List ℕ)) (rs : List Row) (s : List ℕ) → rs ≡ [] → flagMore (someViolates N C o rs) D s ≡ s
-turn-end N C o D rs s h = rw h (rows-end N C o D s)
+pub walk-end : (N : ℕ) (C : List (List ℕ)) (o : Operator) (D : List (List ℕ)) (rs : List Row) (s : List ℕ) → rs ≡ [] → flagMore (someViolates N C o rs) D s ≡ s
+walk-end N C o D rs s h = rw h (rows-end N C o D s)
 
 -- from flags that are all taken away
 module _
