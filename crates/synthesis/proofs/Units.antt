@@ -140,7 +140,9 @@ initial-state t =
     bit-low a = lt-ltb (stateOf (t .initial) a) 2 (state-bit (t .initial) a)
 
 -- the words before the units are written are fill
-pub filled : (w w′ : List ℕ) (atoms k : ℕ) → length w ≡ width * atoms → k ≡ atoms → w′ ≡ take 0 w ++ replicate (length w - 0) fill → w′ ≡ replicate (width * k) fill
+pub filled :
+    (w w′ : List ℕ) (atoms k : ℕ) → length w ≡ width * atoms → k ≡ atoms → w′ ≡ take 0 w ++ replicate (length w - 0) fill
+    → w′ ≡ replicate (width * k) fill
 filled w w′ atoms k h e q =
     let z : length w - 0 ≡ width * k = (let a : width * atoms ≡ width * k = ap (λ (m : ℕ). width * m) (sym e) in omega arith) in
     q ∙ rw z

@@ -102,7 +102,8 @@ are-rows-requires c κs = omega arith
 returns-4 : tie.Need-returns-4
 returns-4 c =
     c .are-rows .ensures
-    ∙ block-on _ (at-start-from-after-are-rows c .args .block .now) _ (after-wide-from-after-are-rows c .wide .ensures .0) (else2-from-after-are-rows c .if2 .left) _
+    ∙ block-on _ (at-start-from-after-are-rows c .args .block .now) _ (after-wide-from-after-are-rows c .wide .ensures .0)
+    (else2-from-after-are-rows c .if2 .left) _
     (after-are-literals-of-wide2 (after-wide2 c) .are-literals .ensures) _ (c .before .wide2 .ensures .0)
     (not-false _ (c .before .before .before .if3 .left))
 

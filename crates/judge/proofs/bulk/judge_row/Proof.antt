@@ -76,7 +76,10 @@ after-copy-from-enum-told c = after-copy (after-extend-arg (after-extend (after-
 
 abbrev at-start-from-enum-told : tie.After-enum-told → tie.Start
 at-start-from-enum-told c =
-    at-start (after-shared-slice-known3 (after-shared-slice-known6 (after-holds-all-of-copy-arg (after-copy-arg (after-copy (after-extend-arg (after-extend (after-marks2-of-enum-told c))))))))
+    at-start
+    (after-shared-slice-known3
+    (after-shared-slice-known6
+    (after-holds-all-of-copy-arg (after-copy-arg (after-copy (after-extend-arg (after-extend (after-marks2-of-enum-told c))))))))
 
 abbrev after-enum-told2 : tie.After-flag-violated-arg2 → tie.After-enum-told2
 after-enum-told2 c = c .before .before
@@ -89,7 +92,10 @@ after-extend-from-flag-violated-arg2 c = after-extend (after-marks2-of-enum-told
 
 abbrev at-start-from-flag-violated-arg2 : tie.After-flag-violated-arg2 → tie.Start
 at-start-from-flag-violated-arg2 c =
-    at-start (after-shared-slice-known3 (after-shared-slice-known6 (after-holds-all-of-copy-arg (after-copy-arg (after-copy (after-extend-arg (after-extend (after-marks2-of-enum-told2 (after-enum-told2 c)))))))))
+    at-start
+    (after-shared-slice-known3
+    (after-shared-slice-known6
+    (after-holds-all-of-copy-arg (after-copy-arg (after-copy (after-extend-arg (after-extend (after-marks2-of-enum-told2 (after-enum-told2 c)))))))))
 
 abbrev after-flag-violated-arg2 : tie.After-slice-known6 → tie.After-flag-violated-arg2
 after-flag-violated-arg2 c = c .before .before .before
@@ -103,7 +109,11 @@ after-extend-from-slice-known6 c = after-extend (after-marks2-of-enum-told2 (aft
 
 abbrev at-start-from-slice-known6 : tie.After-slice-known6 → tie.Start
 at-start-from-slice-known6 c =
-    at-start (after-shared-slice-known3 (after-shared-slice-known6 (after-holds-all-of-copy-arg (after-copy-arg (after-copy (after-extend-arg (after-extend (after-marks2-of-enum-told2 (after-enum-told2 (after-flag-violated-arg2 c))))))))))
+    at-start
+    (after-shared-slice-known3
+    (after-shared-slice-known6
+    (after-holds-all-of-copy-arg
+    (after-copy-arg (after-copy (after-extend-arg (after-extend (after-marks2-of-enum-told2 (after-enum-told2 (after-flag-violated-arg2 c))))))))))
 
 flag-lacking-requires : tie.Need-flag-lacking-requires
 flag-lacking-requires c κs = at-start-from-flag-lacking-arg c .pre .0 .flagged

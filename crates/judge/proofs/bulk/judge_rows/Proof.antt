@@ -74,7 +74,9 @@ at-loop-from-judge-row-arg3 c = at-loop (after-row (after-complement-of-judge-ro
 
 abbrev at-start-from-judge-row-arg3 : tie.After-judge-row-arg3 Inv-loop μ-loop → tie.Start Inv-loop μ-loop
 at-start-from-judge-row-arg3 c =
-    at-start (after-shared-slice-known (after-shared-slice-known4 (after-slice-known2 (after-head (at-loop (after-row (after-complement-of-judge-row-arg (after-judge-row-arg c))))))))
+    at-start
+    (after-shared-slice-known
+    (after-shared-slice-known4 (after-slice-known2 (after-head (at-loop (after-row (after-complement-of-judge-row-arg (after-judge-row-arg c))))))))
 
 abbrev after-judge-row-arg3 : tie.After-judge-row Inv-loop μ-loop → tie.After-judge-row-arg3 Inv-loop μ-loop
 after-judge-row-arg3 c = c .before

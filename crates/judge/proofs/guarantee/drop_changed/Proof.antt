@@ -81,7 +81,9 @@ at-loop-from-then1 c = at-loop (after-row (after-complement (after-wide (after-i
 
 abbrev at-start-from-can-fire-arg2 : tie.After-can-fire-arg2 Inv-loop μ-loop → tie.Start Inv-loop μ-loop
 at-start-from-can-fire-arg2 c =
-    at-start (after-shared-slice-known2 (after-slice-known2 (after-head (at-loop (after-row (after-complement (after-wide (after-is-zero-of-can-fire-arg2 c))))))))
+    at-start
+    (after-shared-slice-known2
+    (after-slice-known2 (after-head (at-loop (after-row (after-complement (after-wide (after-is-zero-of-can-fire-arg2 c))))))))
 
 abbrev after-can-fire-arg2 : tie.After-can-fire Inv-loop μ-loop → tie.After-can-fire-arg2 Inv-loop μ-loop
 after-can-fire-arg2 c = c .before
@@ -121,7 +123,9 @@ after-wide-from-slice-known4 c = after-wide (after-is-zero-of-can-fire-arg2 (aft
 
 abbrev at-loop-from-slice-known4 : tie.After-slice-known4 Inv-loop μ-loop → tie.At-loop Inv-loop μ-loop
 at-loop-from-slice-known4 c =
-    at-loop (after-row (after-complement (after-wide (after-is-zero-of-can-fire-arg2 (after-can-fire-arg2 (after-can-fire-of-else2 (else2 (after-put-arg c))))))))
+    at-loop
+    (after-row
+    (after-complement (after-wide (after-is-zero-of-can-fire-arg2 (after-can-fire-arg2 (after-can-fire-of-else2 (else2 (after-put-arg c))))))))
 
 head-requires : tie.Need-head-requires Inv-loop μ-loop
 head-requires c κs = at-start (after-shared-slice-known2 c) .pre .0 .parses

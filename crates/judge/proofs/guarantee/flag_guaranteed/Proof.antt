@@ -66,7 +66,9 @@ after-flag-marked-from-slice-known4 c =
 
 abbrev at-start-from-slice-known4 : tie.After-slice-known4 → tie.Start
 at-start-from-slice-known4 c =
-    at-start (after-shared-slice-known2 (after-marks (after-flag-marked (after-work (after-drop-changed-arg (after-drop-changed (after-work2 (after-add-effects-arg c))))))))
+    at-start
+    (after-shared-slice-known2
+    (after-marks (after-flag-marked (after-work (after-drop-changed-arg (after-drop-changed (after-work2 (after-add-effects-arg c))))))))
 
 slice-aggregate-drop-changed : tie.Need-slice-aggregate-drop-changed
 slice-aggregate-drop-changed c = sym (length-take-le _ (after-marks (after-flag-marked c) .marks .result) (omega (arith, at-start-from-work c .pre .0 .few)))

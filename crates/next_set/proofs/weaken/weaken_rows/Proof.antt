@@ -85,7 +85,9 @@ at-loop-from-known-told c = at-loop-of-weaken-row-arg (after-weaken-row-arg (aft
 
 abbrev at-start-from-known-told : tie.After-known-told Inv-loop μ-loop → tie.Start Inv-loop μ-loop
 at-start-from-known-told c =
-    at-start (after-shared-slice-known2 (after-rows (at-loop-of-weaken-row-arg (after-weaken-row-arg (after-weaken-row (after-work-of-at-match-keys2 (at-match-keys2 c)))))))
+    at-start
+    (after-shared-slice-known2
+    (after-rows (at-loop-of-weaken-row-arg (after-weaken-row-arg (after-weaken-row (after-work-of-at-match-keys2 (at-match-keys2 c)))))))
 
 loop-holds : tie.Need-loop-holds Inv-loop μ-loop
 loop-holds c =
