@@ -44,7 +44,8 @@ read-rows N w c =
 pub read-size : (N : ℕ) (w : List ℕ) (r : ℕ) → ClausesRead N w → N ≤ mostAtoms → length (foundText N (findingOf (clausesOf w) r)) ≤ mostText
 read-size N w r c few =
     let right = reading.read-right N w c in
-    found-size N (clausesOf w) r few (read-rows N w c) (λ f m. clause-good N w right f m .most) (λ f m l k. let h = clause-below N w right f m l k in omega arith)
+    found-size N (clausesOf w) r few (read-rows N w c) (λ f m. clause-good N w right f m .most)
+    (λ f m l k. let h = clause-below N w right f m l k in omega arith)
 
 -- ---- the answer of the synthesis
 made-no : (a : Answer Found) (p : paper.Refusal) → refused p ≡ madeOf a → a ≡ refused p
@@ -76,7 +77,9 @@ found-is x C r p q = rw (← p, ← q)
 
 -- the clauses of a finding are read from their words
 module _ (img : List ℕ) (n limit words work marks : ℕ) where
-  clauses-read : (x : Found) → synthesis img n limit words work marks ≡ finding x → (readClauses (getD img 0 0) (clauseWords (x .clauses)) ≡ finding (x .clauses)) × (getD img 0 0 ≤ mostAtoms)
+  clauses-read :
+      (x : Found) → synthesis img n limit words work marks ≡ finding x
+      → (readClauses (getD img 0 0) (clauseWords (x .clauses)) ≡ finding (x .clauses)) × (getD img 0 0 ≤ mostAtoms)
   unfolding check ask
   clauses-read x e =
       let f = synthesis-accepted img n limit words work marks x e in
@@ -109,7 +112,9 @@ module _ (img : List ℕ) (n limit : ℕ) (old : List ℕ) (work marks : ℕ) wh
     pub room : width * rows ≤ length buf
     pub few : getD img 0 0 ≤ mostAtoms
 
-  pub made-found : (rows rounds : ℕ) (buf : List ℕ) → outcome (finding (record { rows = rows; rounds = rounds })) buf ≡ synthesisCall img n limit old work marks → FoundRows buf rows rounds
+  pub made-found :
+      (rows rounds : ℕ) (buf : List ℕ) → outcome (finding (record { rows = rows; rounds = rounds })) buf ≡ synthesisCall img n limit old work marks
+      → FoundRows buf rows rounds
   unfolding synthesisCall bufferAfter outcome
   made-found rows rounds buf e =
       let q = made-yes answer (record { rows = rows; rounds = rounds }) (ap (λ (o : Outcome Made). o .answer) e) in
@@ -179,7 +184,9 @@ card-size bs = go (isInput bs) refl
     go false e = rw (card-short bs e) (refusal-size (refusalAt 1 0 0))
 
 -- the card stands at the start of the room, and what is after it stays
-pub card-front : (bs old new : List ℕ) (end : ℕ) → mostText ≤ length old → Wrote old 0 (card bs) new end → (new ≡ card bs ++ drop end old) × (end ≡ length (card bs))
+pub card-front :
+    (bs old new : List ℕ) (end : ℕ) → mostText ≤ length old → Wrote old 0 (card bs) new end
+    → (new ≡ card bs ++ drop end old) × (end ≡ length (card bs))
 card-front bs old new end room w =
     let s = card-size bs in
     let e : end ≡ length (card bs) = (let n = w .next in omega arith) in
@@ -193,7 +200,9 @@ pub record WordsFound (w : List ℕ) (n : ℕ) (buf : List ℕ) (k r : ℕ) : Ty
   pub few : n ≤ mostAtoms
 
 -- the words of an input, the number of atoms in them, and the buffers that the synthesis is lent
-module _ (w old : List ℕ) (n work marks : ℕ) (atoms : n ≡ getD w 2 0) (rows : length old ≡ width * mostRows) (worked : work ≡ width * mostRows) (marked : marks ≡ mostLiterals) where
+module _
+    (w old : List ℕ) (n work marks : ℕ) (atoms : n ≡ getD w 2 0) (rows : length old ≡ width * mostRows) (worked : work ≡ width * mostRows)
+    (marked : marks ≡ mostLiterals) where
   same-image : take (length w - 2) (drop 2 w) ≡ drop 2 w
   same-image = let d = length-drop 2 w in take-all (length w - 2) (drop 2 w) (omega arith)
 
@@ -203,10 +212,15 @@ module _ (w old : List ℕ) (n work marks : ℕ) (atoms : n ≡ getD w 2 0) (row
   same-atoms : getD (take (length w - 2) (drop 2 w)) 0 0 ≡ n
   same-atoms = ap (λ (z : List ℕ). getD z 0 0) same-image ∙ getD-drop 2 w 0 0 ∙ sym atoms
 
-  pub words-refused : (p : paper.Refusal) (buf : List ℕ) → outcome (refused p) buf ≡ synthesisCall (take (length w - 2) (drop 2 w)) (getD w 0 0) (getD w 1 0) old work marks → wordsText w ≡ refusedText p
+  pub words-refused :
+      (p : paper.Refusal) (buf : List ℕ)
+      → outcome (refused p) buf ≡ synthesisCall (take (length w - 2) (drop 2 w)) (getD w 0 0) (getD w 1 0) old work marks
+      → wordsText w ≡ refusedText p
   words-refused p buf e = text-refused w p (same-call ∙ made-refused (take (length w - 2) (drop 2 w)) (getD w 0 0) (getD w 1 0) old work marks p buf e)
 
-  pub words-found : (k r : ℕ) (buf : List ℕ) → outcome (finding (record { rows = k; rounds = r })) buf ≡ synthesisCall (take (length w - 2) (drop 2 w)) (getD w 0 0) (getD w 1 0) old work marks → WordsFound w n buf k r
+  pub words-found :
+      (k r : ℕ) (buf : List ℕ) → outcome (finding (record { rows = k; rounds = r })) buf ≡ synthesisCall (take (length w - 2) (drop 2 w)) (getD w 0 0)
+      (getD w 1 0) old work marks → WordsFound w n buf k r
   words-found k r buf e =
       let f = made-found (take (length w - 2) (drop 2 w)) (getD w 0 0) (getD w 1 0) old work marks k r buf e in
       let x = findingOf (clausesOf (take (width * k) buf)) r in
@@ -232,8 +246,10 @@ module _ (bs : List ℕ) where
 
   pub input-size : isInput bs ≡ true → (4 ≤ length bs) × (length bs ≤ mostInput)
   input-size e =
-      let l = and-left (leb 4 (length bs) && eqb (length bs % 2) 0) (leb (length bs) mostInput) e in
-      (leb-true 4 (length bs) (and-left (leb 4 (length bs)) (eqb (length bs % 2) 0) l), leb-true (length bs) mostInput (and-right (leb 4 (length bs) && eqb (length bs % 2) 0) (leb (length bs) mostInput) e))
+      let l = and-left (leb 4 (length bs) && eqb (length bs % 2) 0) (leb (length bs) mostInput) e in (
+        leb-true 4 (length bs) (and-left (leb 4 (length bs)) (eqb (length bs % 2) 0) l),
+        leb-true (length bs) mostInput (and-right (leb 4 (length bs) && eqb (length bs % 2) 0) (leb (length bs) mostInput) e),
+      )
 
 -- ---- the input's words
 words-length : (bs : List ℕ) → length (wordsOf bs) ≡ length bs / 2

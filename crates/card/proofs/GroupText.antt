@@ -37,7 +37,9 @@ unfolding membersFrom
 members-last i [] a = let e : i + 0 ≡ i = omega arith in rw (e, append-nil)
 members-last i (x ∷ xs) a =
     let e : i + suc (length xs) ≡ suc i + length xs = omega arith in
-    rw e (ap (λ (z : List ℕ). (separator i ++ decimal x) ++ z) (members-last (suc i) xs a) ∙ sym (append-assoc (separator i ++ decimal x) (membersFrom (suc i) xs) (separator (suc i + length xs) ++ decimal a)))
+    rw e
+    (ap (λ (z : List ℕ). (separator i ++ decimal x) ++ z) (members-last (suc i) xs a)
+    ∙ sym (append-assoc (separator i ++ decimal x) (membersFrom (suc i) xs) (separator (suc i + length xs) ++ decimal a)))
 
 -- ---- numbers in a row
 each-last : (f : ℕ → List ℕ) (i k : ℕ) → each f (range i (suc k)) ≡ each f (range i k) ++ f (i + k)
@@ -107,7 +109,9 @@ module _ (C : List (List ℕ)) where
       split : each new (range 0 (suc k)) ≡ each old (range 0 k) ++ new (0 + k)
       split = each-last new 0 k ∙ ap (λ (z : List ℕ). z ++ new (0 + k)) (each-same new old 0 k same)
 
-      go : (b : Bool) → eqb v (J .0) ≡ b → membersFrom 0 (getD G v []) ≡ each old (range 0 k) → membersFrom 0 (getD (join C k G) v []) ≡ each new (range 0 (suc k))
+      go :
+          (b : Bool) → eqb v (J .0) ≡ b → membersFrom 0 (getD G v []) ≡ each old (range 0 k)
+          → membersFrom 0 (getD (join C k G) v []) ≡ each new (range 0 (suc k))
       go true e rec =
           let q = eqb-true v (J .0) e in
           let z : 0 + J .0 ≡ J .0 = omega arith in
@@ -166,7 +170,9 @@ fields-none zero b none l e = absurd (omega arith)
 fields-none (suc i) true none l e = rw e
 fields-none (suc i) false none l e = rw e
 
-line-parts : (C : List (List ℕ)) (g : List ℕ) (none : ℕ) → 1 ≤ length g → none ≡ cond (noneOmitted C g) 0 1 → groupLine C g ≡ membersFrom 0 g ++ (noneText none ++ (10 ∷ []))
+line-parts :
+    (C : List (List ℕ)) (g : List ℕ) (none : ℕ) → 1 ≤ length g → none ≡ cond (noneOmitted C g) 0 1
+    → groupLine C g ≡ membersFrom 0 g ++ (noneText none ++ (10 ∷ []))
 unfolding groupLine
 line-parts C g none l e =
     line-fields (map decimal g ++ cond (noneOmitted C g) [] (noneWord ∷ []))
@@ -188,7 +194,9 @@ module _ (N : ℕ) (C : List (List ℕ)) (ps ss ns : List ℕ) (n : ℕ) (covere
       let e = covered .places in
       let s : length ps / 2 ≡ N = omega arith in
       line-parts C (getD (groupsBelow C N) v []) (getD ns v 0) (some-atom C N v h) (covered .none v l)
-      ∙ rw s (ap (λ (z : List ℕ). z ++ (noneText (getD ns v 0) ++ (10 ∷ []))) (members-are C N v ∙ each-same (λ a. textBy (placeOf a 0 (groupsBelow C N)) v a) (memberText ps v) 0 N (member-is v)))
+      ∙ rw s
+      (ap (λ (z : List ℕ). z ++ (noneText (getD ns v 0) ++ (10 ∷ [])))
+      (members-are C N v ∙ each-same (λ a. textBy (placeOf a 0 (groupsBelow C N)) v a) (memberText ps v) 0 N (member-is v)))
 
   -- the lines of all groups
   pub group-lines : each (groupLine C) (groups N C) ≡ groupTexts ps ns n

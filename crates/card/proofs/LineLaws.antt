@@ -24,7 +24,9 @@ pub clause-start : (ls : List ℕ) → clauseLine ls ≡ fieldsFrom 0 (map liter
 unfolding clauseLine
 clause-start ls = line-fields (map literalText ls)
 
-pub fields-next : (ls : List ℕ) (i l : ℕ) → l ≡ getD ls i 0 → i < length ls → fieldsFrom i (map literalText (drop i ls)) ≡ separator i ++ (literalText l ++ fieldsFrom (i + 1) (map literalText (drop (i + 1) ls)))
+pub fields-next :
+    (ls : List ℕ) (i l : ℕ) → l ≡ getD ls i 0 → i < length ls
+    → fieldsFrom i (map literalText (drop i ls)) ≡ separator i ++ (literalText l ++ fieldsFrom (i + 1) (map literalText (drop (i + 1) ls)))
 unfolding fieldsFrom
 fields-next ls i l e h = rw (left-here ls i 0 l e h, add-one)
 
@@ -32,7 +34,9 @@ pub fields-end : (ls : List ℕ) (i : ℕ) → length ls ≤ i → fieldsFrom i 
 unfolding fieldsFrom
 fields-end ls i h = rw (drop-of-length-le ls {i = i} h)
 
-pub clauses-next : (w : List ℕ) (i : ℕ) (f : List ℕ) → i < rowCount w → f ≡ clauseOf (rowAt w i) → each clauseLine (drop i (clausesOf w)) ≡ clauseLine f ++ each clauseLine (drop (i + 1) (clausesOf w))
+pub clauses-next :
+    (w : List ℕ) (i : ℕ) (f : List ℕ) → i < rowCount w → f ≡ clauseOf (rowAt w i)
+    → each clauseLine (drop i (clausesOf w)) ≡ clauseLine f ++ each clauseLine (drop (i + 1) (clausesOf w))
 unfolding each
 clauses-next w i f h e = rw (clauses-left w i h, e)
 
@@ -64,7 +68,9 @@ group-start ps v none = ap (λ (z : List ℕ). z ++ (noneText none ++ (10 ∷ []
 
 module _ (f : ℕ → List ℕ) (rest : List ℕ) (a n : ℕ) where
   pub numbers-next : a < n → each f (range a (n - a)) ++ rest ≡ f a ++ (each f (range (a + 1) (n - (a + 1))) ++ rest)
-  numbers-next h = ap (λ (z : List ℕ). z ++ rest) (range-each f a (n - a) (n - (a + 1)) (omega arith)) ∙ append-assoc (f a) (each f (range (a + 1) (n - (a + 1)))) rest
+  numbers-next h =
+      ap (λ (z : List ℕ). z ++ rest) (range-each f a (n - a) (n - (a + 1)) (omega arith))
+      ∙ append-assoc (f a) (each f (range (a + 1) (n - (a + 1)))) rest
 
   pub numbers-end : n ≤ a → each f (range a (n - a)) ++ rest ≡ rest
   numbers-end h = ap (λ (z : List ℕ). z ++ rest) (range-each-end f a (n - a) (omega arith))

@@ -12,7 +12,8 @@ use Rattle.definitions.specs.Answer.{Refusal}
 use Rattle.definitions.specs.Literal.{atom, positive}
 use Rattle.definitions.specs.Clauses.{width, mostRows, clauseOf}
 use Rattle.definitions.specs.Groups.{mutex, join, groupsBelow, groups, noneOmitted}
-use Rattle.definitions.specs.Card.{digits, decimal, line, literalText, clauseLine, clausesWord, roundsWord, groupsWord, refusedWord, noneWord, groupLine, foundText, refusedText}
+use Rattle.definitions.specs.Card.{digits, decimal, line, literalText, clauseLine, clausesWord, roundsWord, groupsWord, refusedWord}
+use Rattle.definitions.specs.Card.{noneWord, groupLine, foundText, refusedText}
 use Rattle.definitions.proofs.GroupLaws.{In, all-below}
 use Rattle.card.specs.Text.{separator, fieldsFrom, findingOf}
 use Rattle.card.specs.Room.{mostText}
@@ -40,7 +41,10 @@ unfolding digits tens
 digits-short zero m n rest h = omega arith
 digits-short (suc k) m n rest h = go (n / 10) refl m h (λ p l. digits-short k p (n / 10) ((48 + n % 10) ∷ rest) l)
   where
-    go : (q : ℕ) → n / 10 ≡ q → (m : ℕ) → n < tens (suc m) → ((p : ℕ) → n / 10 < tens (suc p) → length (digits k (n / 10) ((48 + n % 10) ∷ rest)) ≤ suc p + suc (length rest)) → length (digits (suc k) n rest) ≤ suc m + length rest
+    go :
+        (q : ℕ) → n / 10 ≡ q → (m : ℕ) → n < tens (suc m)
+        → ((p : ℕ) → n / 10 < tens (suc p) → length (digits k (n / 10) ((48 + n % 10) ∷ rest)) ≤ suc p + suc (length rest))
+        → length (digits (suc k) n rest) ≤ suc m + length rest
     go zero e m h rec = let q = ap length (digits-one k n rest e) in omega arith
     go (suc q) e zero h rec = let l = tens-part n 1 h in absurd (omega arith)
     go (suc q) e (suc m) h rec =
@@ -117,7 +121,9 @@ clause-size f w h =
     let m = mul-le-mul-left 6 w in
     omega (arith, ap (λ (k : ℕ). 6 * k) e)
 
-clauses-size : (C : List (List ℕ)) → length C ≤ mostRows → ((f : List ℕ) → List·Memᴰ f C → length f ≤ width) → ((f : List ℕ) → List·Memᴰ f C → (l : ℕ) → List·Memᴰ l f → l < 2048) → length (each clauseLine C) ≤ (6 * width + 1) * mostRows
+clauses-size :
+    (C : List (List ℕ)) → length C ≤ mostRows → ((f : List ℕ) → List·Memᴰ f C → length f ≤ width)
+    → ((f : List ℕ) → List·Memᴰ f C → (l : ℕ) → List·Memᴰ l f → l < 2048) → length (each clauseLine C) ≤ (6 * width + 1) * mostRows
 clauses-size C few wide low =
     let s = each-size clauseLine (6 * width + 1) C (λ f m. clause-size f (wide f m) (low f m)) in
     let m = mul-le-mul-left (6 * width + 1) few in
@@ -137,7 +143,9 @@ group-size : (C : List (List ℕ)) (g : List ℕ) → ((x : ℕ) → List·Mem�
 unfolding groupLine
 group-size C g h =
     let n = cond (noneOmitted C g) [] (noneWord ∷ []) in
-    let s = line-size 4 (map decimal g ++ n) (short-both 4 (map decimal g) n (short-map decimal 4 g (λ x m. decimal-atom x (h x m))) (none-short (noneOmitted C g))) in
+    let s =
+    line-size 4 (map decimal g ++ n)
+    (short-both 4 (map decimal g) n (short-map decimal 4 g (λ x m. decimal-atom x (h x m))) (none-short (noneOmitted C g))) in
     let e = map-length decimal g in
     let p = length-append (map decimal g) n in
     let o = none-one (noneOmitted C g) in
@@ -160,9 +168,13 @@ module _ (C : List (List ℕ)) where
   join-total a [] = refl
   join-total a (g ∷ gs) = go (all (mutex C a) g) refl (join-total a gs)
     where
-      go : (b : Bool) → all (mutex C a) g ≡ b → length (each (λ g. g) (join C a gs)) ≡ suc (length (each (λ g. g) gs)) → length (each (λ g. g) (join C a (g ∷ gs))) ≡ suc (length (g ++ each (λ g. g) gs))
+      go :
+          (b : Bool) → all (mutex C a) g ≡ b → length (each (λ g. g) (join C a gs)) ≡ suc (length (each (λ g. g) gs))
+          → length (each (λ g. g) (join C a (g ∷ gs))) ≡ suc (length (g ++ each (λ g. g) gs))
       go true e rec =
-          rw (e, join) (let p = length-append (g ++ (a ∷ [])) (each (λ g. g) gs) in let q = length-append g (a ∷ []) in let r = length-append g (each (λ g. g) gs) in omega arith)
+          rw (e, join)
+          (let p = length-append (g ++ (a ∷ [])) (each (λ g. g) gs) in
+          let q = length-append g (a ∷ []) in let r = length-append g (each (λ g. g) gs) in omega arith)
       go false e rec =
           rw (e, join) (let p = length-append g (each (λ g. g) (join C a gs)) in let r = length-append g (each (λ g. g) gs) in omega arith)
 
@@ -204,10 +216,14 @@ groups-size a = line-size 20 (groupsWord ∷ decimal a ∷ []) (omega arith, (de
 pub refusal-size : (r : Refusal) → length (refusedText r) ≤ mostText
 unfolding refusedText refusedWord mostText
 refusal-size r =
-    let s = line-size 20 (refusedWord ∷ decimal (r .number) ∷ decimal (r .first) ∷ decimal (r .second) ∷ []) (omega arith, (decimal-most (r .number), (decimal-most (r .first), (decimal-most (r .second), tt)))) in
+    let s =
+    line-size 20 (refusedWord ∷ decimal (r .number) ∷ decimal (r .first) ∷ decimal (r .second) ∷ [])
+    (omega arith, (decimal-most (r .number), (decimal-most (r .first), (decimal-most (r .second), tt)))) in
     omega arith
 
-pub found-size : (N : ℕ) (C : List (List ℕ)) (r : ℕ) → N ≤ 1024 → length C ≤ mostRows → ((f : List ℕ) → List·Memᴰ f C → length f ≤ width) → ((f : List ℕ) → List·Memᴰ f C → (l : ℕ) → List·Memᴰ l f → l < 2048) → length (foundText N (findingOf C r)) ≤ mostText
+pub found-size :
+    (N : ℕ) (C : List (List ℕ)) (r : ℕ) → N ≤ 1024 → length C ≤ mostRows → ((f : List ℕ) → List·Memᴰ f C → length f ≤ width)
+    → ((f : List ℕ) → List·Memᴰ f C → (l : ℕ) → List·Memᴰ l f → l < 2048) → length (foundText N (findingOf C r)) ≤ mostText
 unfolding foundText groups mostText
 found-size N C r few rows wide low =
     let one = line (clausesWord ∷ decimal (length C) ∷ roundsWord ∷ decimal r ∷ []) in

@@ -113,7 +113,8 @@ module _ (C : List (List ℕ)) (N : ℕ) (ps : List ℕ) (placed : Placed C N ps
   pub omitted-is : ((f : List ℕ) → List·Memᴰ f C → (l : ℕ) → List·Memᴰ l f → l < 2 * N) → any (liesIn ps v) C ≡ noneOmitted C (getD (groupsBelow C N) v [])
   unfolding noneOmitted covers liesIn G
   omitted-is lows =
-      any-same (liesIn ps v) (covers (getD G v [])) C (λ f mf. all-same (inGroup ps v) (λ l. positive l && member (atom l) (getD G v [])) f (λ l ml. literal-in l (lows f mf l ml)))
+      any-same (liesIn ps v) (covers (getD G v [])) C
+      (λ f mf. all-same (inGroup ps v) (λ l. positive l && member (atom l) (getD G v [])) f (λ l ml. literal-in l (lows f mf l ml)))
 
 one-low : (n v : ℕ) → getD (replicate n 1) v 0 ≤ 1
 one-low zero v = omega arith
@@ -124,7 +125,9 @@ cond-low : (b : Bool) (x : ℕ) → x ≤ 1 → cond b 0 x ≤ 1
 cond-low true x h = omega arith
 cond-low false x h = h
 
-pub covered : (N : ℕ) (w ps ss ns ns′ : List ℕ) (n : ℕ) → ClausesRead N w → N ≤ mostAtoms → Grouped (clausesOf w) N ps ss n → length ps ≡ 2 * N → length ss ≡ mostAtoms → length ns′ ≡ mostAtoms → ns ≡ replicate mostAtoms 1
+pub covered :
+    (N : ℕ) (w ps ss ns ns′ : List ℕ) (n : ℕ) → ClausesRead N w → N ≤ mostAtoms → Grouped (clausesOf w) N ps ss n → length ps ≡ 2 * N
+    → length ss ≡ mostAtoms → length ns′ ≡ mostAtoms → ns ≡ replicate mostAtoms 1
     → ((v : ℕ) → getD ns′ v 0 ≡ cond (any (liesIn ps v) (clausesOf w)) 0 (getD ns v 0)) → Covered N (clausesOf w) ps ss ns′ n
 covered N w ps ss ns ns′ n read few grouped ep es en ei said =
     record {
@@ -144,7 +147,9 @@ covered N w ps ss ns ns′ n read few grouped ep es en ei said =
 
 -- ---- the words
 -- the lists that f gives for a list, by index
-pub each-by : {A : Type 0} (d : A) (f : A → List ℕ) (h : ℕ → List ℕ) (xs : List A) (i : ℕ) → ((v : ℕ) → v < length xs → f (getD xs v d) ≡ h (i + v)) → each f xs ≡ each h (range i (length xs))
+pub each-by :
+    {A : Type 0} (d : A) (f : A → List ℕ) (h : ℕ → List ℕ) (xs : List A) (i : ℕ) → ((v : ℕ) → v < length xs → f (getD xs v d) ≡ h (i + v))
+    → each f xs ≡ each h (range i (length xs))
 unfolding each range
 each-by d f h [] i e = refl
 each-by d f h (x ∷ xs) i e =
@@ -153,7 +158,9 @@ each-by d f h (x ∷ xs) i e =
     (each-by d f h xs (suc i) (λ v l. let s : i + suc v ≡ suc i + v = omega arith in e (suc v) (omega arith) ∙ ap h s))
 
 -- words that are the pairs of k numbers from i on
-pairs-are : (p q : ℕ → ℕ) (k i : ℕ) (ws : List ℕ) → length ws ≡ 2 * k → ((x : ℕ) → x < k → getD ws (2 * x) 0 ≡ p (i + x)) → ((x : ℕ) → x < k → getD ws (2 * x + 1) 0 ≡ q (i + x)) → each (λ a. p a ∷ q a ∷ []) (range i k) ≡ ws
+pairs-are :
+    (p q : ℕ → ℕ) (k i : ℕ) (ws : List ℕ) → length ws ≡ 2 * k → ((x : ℕ) → x < k → getD ws (2 * x) 0 ≡ p (i + x))
+    → ((x : ℕ) → x < k → getD ws (2 * x + 1) 0 ≡ q (i + x)) → each (λ a. p a ∷ q a ∷ []) (range i k) ≡ ws
 unfolding each range
 pairs-are p q zero i [] e f g = refl
 pairs-are p q zero i (a ∷ ws) e f g = absurd (omega arith)

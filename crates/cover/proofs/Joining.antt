@@ -29,7 +29,9 @@ module _ (C : List (List ℕ)) (places : List ℕ) (a : ℕ) where
         marked = λ g h. absurd (h (rw e (zero-at g n)));
       }
 
-  pub apart-on : (b : ℕ) (apart after : List ℕ) (m : Bool) (g : ℕ) → Apart C places a b apart → m ≡ mutex C a b → g ≡ getD places (2 * b) 0 → g < length apart → after ≡ markIf (not m) apart g → Apart C places a (b + 1) after
+  pub apart-on :
+      (b : ℕ) (apart after : List ℕ) (m : Bool) (g : ℕ) → Apart C places a b apart → m ≡ mutex C a b → g ≡ getD places (2 * b) 0 → g < length apart
+      → after ≡ markIf (not m) apart g → Apart C places a (b + 1) after
   apart-on b apart after m g h em eg inside e = go m em e
     where
       go : (m : Bool) → m ≡ mutex C a b → after ≡ markIf (not m) apart g → Apart C places a (b + 1) after
@@ -160,7 +162,9 @@ module _ (C : List (List ℕ)) (a : ℕ) where
   place-added x i [] m = absurd (List·Memᴰ·not-nil m)
   place-added x i (y ∷ g) m = go (eqb x y) refl (List·Memᴰ·cases-cons m) (λ k. place-added x (suc i) g k)
     where
-      go : (b : Bool) → eqb x y ≡ b → (x ≡ y) ⊎ List·Memᴰ x g → (List·Memᴰ x g → placeIn x (suc i) (g ++ (a ∷ [])) ≡ placeIn x (suc i) g) → placeIn x i (y ∷ (g ++ (a ∷ []))) ≡ placeIn x i (y ∷ g)
+      go :
+          (b : Bool) → eqb x y ≡ b → (x ≡ y) ⊎ List·Memᴰ x g → (List·Memᴰ x g → placeIn x (suc i) (g ++ (a ∷ [])) ≡ placeIn x (suc i) g)
+          → placeIn x i (y ∷ (g ++ (a ∷ []))) ≡ placeIn x i (y ∷ g)
       go true e c rec = rw (e, placeIn)
       go false e (inl h) rec = absurd (eqb-false x y e h)
       go false e (inr k) rec = rw (e, placeIn) (rec k)
@@ -188,7 +192,9 @@ module _ (C : List (List ℕ)) (a : ℕ) where
   place-old (g ∷ gs) (suc r) j x w m ne v =
       ap (placeOf x v) (join-later g gs r j) ∙ go (member x g) refl w m (λ w k. place-old gs r (joins-tail g gs r j) x w k ne (suc v))
     where
-      go : (b : Bool) → member x g ≡ b → (w : ℕ) → In (g ∷ gs) w x → ((w : ℕ) → In gs w x → placeOf x (suc v) (join C a gs) ≡ placeOf x (suc v) gs) → placeOf x v (g ∷ join C a gs) ≡ placeOf x v (g ∷ gs)
+      go :
+          (b : Bool) → member x g ≡ b → (w : ℕ) → In (g ∷ gs) w x → ((w : ℕ) → In gs w x → placeOf x (suc v) (join C a gs) ≡ placeOf x (suc v) gs)
+          → placeOf x v (g ∷ join C a gs) ≡ placeOf x v (g ∷ gs)
       go true e w k rec = place-here x v g (join C a gs) e ∙ sym (place-here x v g gs e)
       go false e zero k rec = never (member-in k) e
       go false e (suc w) k rec = place-on x v g (join C a gs) e ∙ rec w k ∙ sym (place-on x v g gs e)
@@ -213,7 +219,9 @@ module _ (C : List (List ℕ)) (a : ℕ) where
       rw (ne-eqb a y (λ e. h (List·Memᴰ·head e)), placeIn)
       (let r = place-last (suc i) g (λ m. h (List·Memᴰ·tail m)) in omega arith)
 
-  pub place-new : (gs : List (List ℕ)) (r : ℕ) → Joins C a gs r → ((w : ℕ) → In gs w a → ⊥) → (v : ℕ) → placeOf a v (join C a gs) ≡ record { variable = v + r; value = length (getD gs r []) }
+  pub place-new :
+      (gs : List (List ℕ)) (r : ℕ) → Joins C a gs r → ((w : ℕ) → In gs w a → ⊥) → (v : ℕ)
+      → placeOf a v (join C a gs) ≡ record { variable = v + r; value = length (getD gs r []) }
   unfolding join placeOf placeIn member any
   place-new [] zero j no′ v = let e : v + 0 ≡ v = omega arith in rw (eq-eqb a a refl, placeOf, eq-eqb a a refl, placeIn, e)
   place-new [] (suc r) j no′ v = let i = j .inside in absurd (omega arith)

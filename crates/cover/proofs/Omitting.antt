@@ -63,7 +63,9 @@ module _ (w places : List ℕ) (i v : ℕ) where
   abbrev pub flagAfter : ℕ → ℕ
   flagAfter x = cond (any (liesIn places v) (drop i (clausesOf w))) 0 x
 
-  pub omit-on : i < rowCount w → (f : List ℕ) (x y : ℕ) → f ≡ clauseOf (rowAt w i) → y ≡ cond (liesIn places v f) 0 x → flagAfter x ≡ cond (any (liesIn places v) (drop (i + 1) (clausesOf w))) 0 y
+  pub omit-on :
+      i < rowCount w → (f : List ℕ) (x y : ℕ) → f ≡ clauseOf (rowAt w i) → y ≡ cond (liesIn places v f) 0 x
+      → flagAfter x ≡ cond (any (liesIn places v) (drop (i + 1) (clausesOf w))) 0 y
   unfolding any
   omit-on h f x y ef ey =
       rw (clauses-left w i h, ey, ef) (go (liesIn places v (clauseOf (rowAt w i))) (any (liesIn places v) (drop (i + 1) (clausesOf w))))

@@ -33,16 +33,26 @@ same-length c = simp length-set (omega arith)
 
 returns : tie.Need-returns Inv-loop μ-loop
 returns c =
-    let l = c .before .before .before .loop in
-    (sym (l .inv .2 ∙ digits-last (l .room) (l .i) (l .i - 1) (l .left) (c .before .digit .result) (l .inv .1) (l .inv .0) (omega arith) (c .before .digit .ensures) (c .if1 .taken)), omega arith)
+    let l = c .before .before .before .loop in (
+      sym
+          (l .inv .2
+          ∙ digits-last (l .room) (l .i) (l .i - 1) (l .left) (c .before .digit .result) (l .inv .1) (l .inv .0) (omega arith) (c .before .digit .ensures)
+          (c .if1 .taken)),
+      omega arith,
+    )
 
 loop-less : tie.Need-loop-less Inv-loop μ-loop
 loop-less c = search needs
 
 loop-again : tie.Need-loop-again Inv-loop μ-loop
 loop-again c =
-    let l = c .before .before .before .loop in
-    (omega arith, (simp length-set (l .inv .1)), (l .inv .2 ∙ digits-next (l .room) (l .i) (l .i - 1) (l .left) (c .before .digit .result) (l .inv .1) (l .inv .0) (omega arith) (c .before .digit .ensures) (c .if1 .left)))
+    let l = c .before .before .before .loop in (
+      omega arith,
+      (simp length-set (l .inv .1)),
+      (l .inv .2
+          ∙ digits-next (l .room) (l .i) (l .i - 1) (l .left) (c .before .digit .result) (l .inv .1) (l .inv .0) (omega arith) (c .before .digit .ensures)
+          (c .if1 .left)),
+    )
 
 same-length-2 : tie.Need-same-length-2 Inv-loop μ-loop
 same-length-2 c = omega arith
