@@ -9,11 +9,11 @@ use lib.ListN.{length, getD, take, drop, replicate, length-map, length-replicate
 use lib.Seq.{take-at}
 use borrow.Author.Tests.{eq-eqb, leb-true}
 use Rattle.definitions.specs.Answer.{Refusal, Answer, finding, refused, Outcome, outcome, verdict, stateAfter, becomes, ask, askAt, _>>=_}
-use Rattle.definitions.specs.Literal.{allTrue}
+use Rattle.definitions.specs.Literal.{mostAtoms, allTrue}
 use Rattle.definitions.specs.Groups.{groups, written}
 use Rattle.definitions.specs.Fdr.{FdrTask}
-use Rattle.definitions.specs.FdrImage.{readFdr}
-use Rattle.definitions.specs.Image.{Task, initialState}
+use Rattle.definitions.specs.FdrImage.{mostFdrImage, readFdr}
+use Rattle.definitions.specs.Image.{mostOperators, Task, initialState}
 use Rattle.definitions.specs.Step.{stepTask, goalTask, runTask}
 use Rattle.definitions.specs.FdrStep.{stepFdr, goalFdr, runFdr}
 use Rattle.definitions.specs.Coding.{toAtomsCall, fromAtomsCall}
@@ -40,17 +40,17 @@ same-by : {x y : List ℕ} → x ≡ y → sameList y x ≡ true
 same-by {x = x} {y = y} h = ap (λ (z : List ℕ). sameList y z) h ∙ list-self y
 
 -- an image that is read has at most 32,768 words
-fdr-size : (e : List ℕ) (t : FdrTask) → readFdr e ≡ finding t → length e ≤ 32768
+fdr-size : (e : List ℕ) (t : FdrTask) → readFdr e ≡ finding t → length e ≤ mostFdrImage
 unfolding readFdr ask
 fdr-size e t h =
     let vars = getD e 0 0 in
     let M = getD e 1 0 in
-    let test = leb (length e) 32768 && leb 1 vars && leb vars 1024 && leb M 1024 in
+    let test = leb (length e) mostFdrImage && leb 1 vars && leb vars mostAtoms && leb M mostOperators in
     let q = bind-of (askAt 17 0 test) _ t h in
-    leb-true (length e) 32768
-    (and-left (leb (length e) 32768) (leb 1 vars)
-    (and-left (leb (length e) 32768 && leb 1 vars) (leb vars 1024)
-    (and-left (leb (length e) 32768 && leb 1 vars && leb vars 1024) (leb M 1024) (ask-of 17 0 test (q .0) (q .1)))))
+    leb-true (length e) mostFdrImage
+    (and-left (leb (length e) mostFdrImage) (leb 1 vars)
+    (and-left (leb (length e) mostFdrImage && leb 1 vars) (leb vars mostAtoms)
+    (and-left (leb (length e) mostFdrImage && leb 1 vars && leb vars mostAtoms) (leb M mostOperators) (ask-of 17 0 test (q .0) (q .1)))))
 
 module _ (w c : List ℕ) (marks : ℕ) (ok : Accepts w c marks) where
   abbrev t : Task
@@ -84,7 +84,7 @@ module _ (w c : List ℕ) (marks : ℕ) (ok : Accepts w c marks) where
   unfolding fdrOf fdrIn
   encoded-fdr = record { found = rw encoded-read }
 
-  pub encoded-size : length e ≤ 32768
+  pub encoded-size : length e ≤ mostFdrImage
   encoded-size = fdr-size e (encode t C) encoded-read
 
   variables : length (fdrOf e .domains) ≡ length v₀
@@ -92,7 +92,7 @@ module _ (w c : List ℕ) (marks : ℕ) (ok : Accepts w c marks) where
   variables = rw encoded-read (length-map (groups (t .atoms) C) _ ∙ sym (length-map (groups (t .atoms) C) _))
 
   -- what the re-encoding answers, and leaves in a target that has room for every image
-  module _ (target left : List ℕ) (room : length target ≡ 32768) where
+  module _ (target left : List ℕ) (room : length target ≡ mostFdrImage) where
     is-written : written target (encodeCall w c marks (length target)) ≡ outcome (finding (length e)) (e ++ drop (length e) target)
     unfolding written
     is-written = let z = encoded-size in rw (encoding .image (length target) (omega arith))

@@ -16,16 +16,16 @@ use Rattle.definitions.proofs.AnswerLaws.{not-finding}
 use Rattle.definitions.proofs.ListLaws.{firstFail-none}
 use Rattle.definitions.proofs.Accepts.{none-false}
 use Rattle.checker.specs.Search.{falseAnswer}
-use Rattle.answer.proofs.Laws.{answer-of, lent-of, answered, left}
+use Rattle.definitions.proofs.AnswerLaws.{answer-of, lent-of, answered, left}
 use Rattle.agreement.specs.Same.{sameRefusal, sameAnswer, bothFound, sameUnit, sameBool, sameList, isFound, Both}
 
 -- ---- what a tested call says
-module _ {r b : Bool} (told : r ≡ b) where
-  pub told-no : not r ≡ true → b ≡ false
-  told-no h = sym told ∙ not-true r h
+module _ {r b : Bool} (said : r ≡ b) where
+  pub said-no : not r ≡ true → b ≡ false
+  said-no h = sym said ∙ not-true r h
 
-  pub told-yes : not r ≡ false → b ≡ true
-  told-yes h = sym told ∙ not-false r h
+  pub said-yes : not r ≡ false → b ≡ true
+  said-yes h = sym said ∙ not-false r h
 
 -- ---- no clause is the lowest that is false, or one is
 module _ (p : List ℕ → Bool) (C : List (List ℕ)) where

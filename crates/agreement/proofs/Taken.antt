@@ -10,8 +10,7 @@ use Rattle.definitions.specs.StepLists.{walk, stepsBefore}
 use Rattle.definitions.specs.Step.{stepTask, startTask}
 use Rattle.definitions.specs.FdrStep.{stepFdr, startFdr}
 use Rattle.definitions.proofs.Walks.{left-here}
-use Rattle.definitions.proofs.AnswerLaws.{not-finding}
-use Rattle.answer.proofs.Laws.{answered, left}
+use Rattle.definitions.proofs.AnswerLaws.{step-found, step-refused}
 use Rattle.agreement.specs.Same.{bothFound, sameUnit, sameList, Both}
 use Rattle.agreement.specs.Compared.{stepsTaken, leftBySteps, Walked, SameLengths}
 use Rattle.agreement.proofs.SameLaws.{not-found, are-found}
@@ -33,20 +32,6 @@ module _ (w s : List ℕ) (i : ℕ) (list : List ℕ) where
     taken-more : stepTask w s o ≡ finding s′ → stepsTaken w s (drop i list) ≡ o ∷ stepsTaken w s′ (drop (i + 1) list)
     unfolding stepsTaken stepsBefore
     taken-more e = rw (left-here list i 0 o eo inside, e, stepsBefore)
-
--- what a step did, by its outcome
-pub step-found : (a : Answer (List ℕ)) (s s′ : List ℕ) → outcome (finding tt) s′ ≡ becomes s a → a ≡ finding s′
-unfolding verdict stateAfter
-step-found (finding x) s s′ e = ap finding (sym (left (finding tt) s s′ (finding x) e))
-step-found (refused q) s s′ e = absurd (not-finding (sym (answered (finding tt) s s′ (refused q) e)))
-
-pub step-refused : (a : Answer (List ℕ)) (s s′ : List ℕ) (r : Refusal) → outcome (refused r) s′ ≡ becomes s a → (a ≡ refused r) × (s′ ≡ s)
-unfolding verdict stateAfter
-step-refused (finding x) s s′ r e = absurd (not-finding (answered (refused r) s s′ (finding x) e))
-step-refused (refused q) s s′ r e =
-    let told : _≡_ {A = Answer (Unit {0})} (refused r) (refused q) = answered (refused r) s s′ (refused q) e in
-    let same : r ≡ q = cc in
-    (ap refused (sym same), left (refused r) s s′ (refused q) e)
 
 -- ---- both walks: of a list the numbers below i are done, from s₀ and v₀ to s and v; what the others lead to is what the list leads to
 pub record Walking (w e list s₀ v₀ s v : List ℕ) (i : ℕ) : Type 0 where

@@ -7,7 +7,7 @@ use lib.Dec.{eqb}
 use lib.ListN.{length, take, replicate}
 use Rattle.definitions.specs.Lists.{all}
 use Rattle.definitions.specs.Answer.{Answer, finding, refused, becomes, _>>=_}
-use Rattle.definitions.specs.Literal.{holdsIn}
+use Rattle.definitions.specs.Literal.{mostAtoms, holdsIn}
 use Rattle.definitions.specs.StepLists.{walk, stepsBefore}
 use Rattle.definitions.specs.Step.{stepTask, goalTask, startTask, runTask}
 use Rattle.definitions.specs.FdrStep.{stepFdr, goalFdr, startFdr, runFdr}
@@ -41,7 +41,7 @@ module _ (w e c : List ℕ) where
       && (bothFound sameBool (goalTask w s) (goalFdr e v)
       && (isFound (fromAtomsCall e s (length v)) v && isFound (toAtomsCall e v (length s)) s))
 
-  -- a step for every number of the list in turn: the answers are the same, and the states after it
+  -- a step for every number of the list, one after the other: the answers are the same, and the states after it
   unfoldable pub stepsSame : List ℕ → List ℕ → List ℕ → Bool
   stepsSame [] s v = true
   stepsSame (i ∷ is) s v =
@@ -93,8 +93,8 @@ pub record Walked (w e is s v s′ v′ : List ℕ) : Type 0 where
 
 -- states that have room in the local arrays
 pub record Small (s v : List ℕ) : Type 0 where
-  pub atoms : length s ≤ 1024
-  pub values : length v ≤ 1024
+  pub atoms : length s ≤ mostAtoms
+  pub values : length v ≤ mostAtoms
 
 -- other states of the same lengths
 pub record SameLengths (s v s′ v′ : List ℕ) : Type 0 where

@@ -5,6 +5,7 @@ use answer::Tested;
 use answer::Verdict;
 ghost use mathlib.Core.Path.{_≡_};
 ghost use lib.ListN.{length};
+ghost use Rattle.definitions.specs.FdrImage.{mostFdrImage};
 ghost use Rattle.answer.specs.Answer.{testAnswer};
 ghost use Rattle.checker.specs.Accepts.{Accepts};
 ghost use Rattle.agreement.specs.Compared.{listSame, imagesSame, comparison, Agreed, Images, Small};
@@ -16,7 +17,7 @@ mod list_run; // list_run.rt: the list runs
 
 // Room for a re-encoded image: the longest has as many words.
 fn image_room() -> [u16; 32768]
-    ensures { λ r. ⌜ length r ≡ 32768 ⌝ }
+    ensures { λ r. ⌜ length r ≡ mostFdrImage ⌝ }
 {
     [0u16; 32768]
 }
@@ -46,8 +47,8 @@ fn compare_images(image: &[u16], encoded: &[u16], clauses: &[u16], list: &[u16])
 {
     let atoms = task::atoms(image);
     let variables = fdr_image::variables(encoded);
-    let mut state = states::state_room();
-    let mut values = states::value_room();
+    let mut state = literal::room::state();
+    let mut values = literal::room::values();
     same_list(
         image,
         encoded,
@@ -66,7 +67,7 @@ fn compare_accepted(
     marks: &mut [u8],
     room: &mut [u16],
 ) -> Tested
-    requires { ⌜ Accepts (now image) (now clauses) (length (now marks)) × (length (now room) ≡ 32768) ⌝ }
+    requires { ⌜ Accepts (now image) (now clauses) (length (now marks)) × (length (now room) ≡ mostFdrImage) ⌝ }
     ensures { λ r. ⌜ testAnswer r ≡ comparison (now (image .entry)) (now (clauses .entry)) (length (now (marks .entry))) (now (list .entry)) ⌝ }
 {
     let written = reencoding::reencode(image, clauses, marks, room);

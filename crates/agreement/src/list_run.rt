@@ -68,8 +68,8 @@ fn leaves(image: &[u16], encoded: &[u16], list: &[u16], state: &[u8], values: &[
     requires { ⌜ Small (now state) (now values) ⌝ }
     ensures { λ r. ⌜ r ≡ leftBySteps (now (image .entry)) (now (encoded .entry)) (now (list .entry)) (now (state .entry)) (now (values .entry)) ⌝ }
 {
-    let mut other = crate::states::state_room();
-    let mut others = crate::states::value_room();
+    let mut other = literal::room::state();
+    let mut others = literal::room::values();
     let atoms = state.len();
     let variables = values.len();
     leaves_in(

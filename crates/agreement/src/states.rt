@@ -5,27 +5,13 @@ ghost use Prim.Native.Nat.{_≤_};
 ghost use lib.ListN.{length};
 ghost use Rattle.definitions.specs.Lists.{all};
 ghost use Rattle.definitions.specs.Answer.{becomes};
-ghost use Rattle.definitions.specs.Literal.{holdsIn};
+ghost use Rattle.definitions.specs.Literal.{mostAtoms, holdsIn};
 ghost use Rattle.definitions.specs.Step.{goalTask, startTask};
 ghost use Rattle.definitions.specs.FdrStep.{goalFdr, startFdr};
 ghost use Rattle.definitions.specs.Coding.{toAtomsCall, fromAtomsCall};
 ghost use Rattle.clause.specs.Rows.{clausesOf};
 ghost use Rattle.agreement.specs.Same.{bothFound, sameUnit, sameBool, isFound, Both};
 ghost use Rattle.agreement.specs.Compared.{sameStates, Small};
-
-// Room for a task's state.
-pub fn state_room() -> [u8; 1024]
-    ensures { λ r. ⌜ length r ≡ 1024 ⌝ }
-{
-    [0u8; 1024]
-}
-
-// Room for a finite-domain state.
-pub fn value_room() -> [u16; 1024]
-    ensures { λ r. ⌜ length r ≡ 1024 ⌝ }
-{
-    [0u16; 1024]
-}
 
 // Sets both states to the initial ones: whether neither call was refused.
 pub fn set_both(image: &[u16], encoded: &[u16], state: &mut [u8], values: &mut [u16]) -> bool
@@ -70,10 +56,10 @@ fn codes_in(encoded: &[u16], state: &[u8], values: &[u16], target: &mut [u16]) -
 
 // Whether the task's state, coded, gives the values.
 fn codes(encoded: &[u16], state: &[u8], values: &[u16]) -> bool
-    requires { ⌜ length (now values) ≤ 1024 ⌝ }
+    requires { ⌜ length (now values) ≤ mostAtoms ⌝ }
     ensures { λ r. ⌜ r ≡ isFound (fromAtomsCall (now (encoded .entry)) (now (state .entry)) (length (now (values .entry)))) (now (values .entry)) ⌝ }
 {
-    let mut room = value_room();
+    let mut room = literal::room::values();
     let count = values.len();
     codes_in(encoded, state, values, &mut room[..count])
 }
@@ -92,10 +78,10 @@ fn decodes_in(encoded: &[u16], values: &[u16], state: &[u8], target: &mut [u8]) 
 
 // Whether the values, coded back, give the task's state.
 fn decodes(encoded: &[u16], values: &[u16], state: &[u8]) -> bool
-    requires { ⌜ length (now state) ≤ 1024 ⌝ }
+    requires { ⌜ length (now state) ≤ mostAtoms ⌝ }
     ensures { λ r. ⌜ r ≡ isFound (toAtomsCall (now (encoded .entry)) (now (values .entry)) (length (now (state .entry)))) (now (state .entry)) ⌝ }
 {
-    let mut room = state_room();
+    let mut room = literal::room::state();
     let count = state.len();
     decodes_in(encoded, values, state, &mut room[..count])
 }

@@ -30,23 +30,3 @@ refused-first (refused q) k r e = ap refused (cc)
 -- an outcome by an equal answer
 pub outcome-of : {A : Type 0} (a b : Answer A) (s : List ℕ) (r : Outcome A) → a ≡ b → outcome b s ≡ r → outcome a s ≡ r
 outcome-of a b s r e h = ap (λ (x : Answer _). outcome x s) e ∙ h
-
--- ---- the parts of an outcome: its answer, and what the lent buffer becomes
-module _ {A : Type 0} (a : Answer A) (s : List ℕ) (x : Outcome A) (e : outcome a s ≡ x) where
-  pub answer-of : a ≡ x .answer
-  unfolding outcome
-  answer-of = ap (λ (x : Outcome A). x .answer) e
-
-  pub lent-of : s ≡ x .lent
-  unfolding outcome
-  lent-of = ap (λ (x : Outcome A). x .lent) e
-
--- of a call whose finding is what the lent state becomes
-module _ (a : Answer (Unit {0})) (s s′ : List ℕ) (b : Answer (List ℕ)) (e : outcome a s′ ≡ becomes s b) where
-  pub answered : a ≡ verdict b
-  unfolding becomes outcome
-  answered = answer-of a s′ (becomes s b) e
-
-  pub left : s′ ≡ stateAfter s b
-  unfolding becomes outcome
-  left = lent-of a s′ (becomes s b) e

@@ -12,16 +12,16 @@ ghost use Rattle.definitions.specs.Encoding.{encodeCall};
 ghost use Rattle.definitions.specs.Coding.{toAtomsCall, fromAtomsCall};
 ghost use Rattle.definitions.specs.FdrStep.{stepFdr, goalFdr, startFdr, runFdr};
 ghost use Rattle.agreement.specs.Compared.{comparison, demanded};
-ghost use Rattle.exports.specs.Told.{told, toldVerdict, toldTest, toldCount, toldMade};
+ghost use Rattle.exports.specs.Returned.{returned, returnedVerdict, returnedTest, returnedCount, returnedMade};
 
-mod tell; // tell.rt: answers as numbers
+mod numbers; // numbers.rt: answers as numbers
 
 // Reads a task image: questions 1 to 7.
 #[no_mangle]
 pub extern "C" fn kb_read(image: &[u16], first: &mut u64, second: &mut u64) -> u32
-    ensures { λ r. ⌜ told r (now (first .exit)) (now (second .exit)) ≡ toldVerdict (verdict (readTask (now (image .entry)))) ⌝ }
+    ensures { λ r. ⌜ returned r (now (first .exit)) (now (second .exit)) ≡ returnedVerdict (verdict (readTask (now (image .entry)))) ⌝ }
 {
-    tell::verdict(task::read(image), first, second)
+    numbers::verdict(task::read(image), first, second)
 }
 
 // Sets a state to the initial one: 1 to 7, the length of 18.
@@ -32,9 +32,9 @@ pub extern "C" fn kb_task_initial(
     first: &mut u64,
     second: &mut u64,
 ) -> u32
-    ensures { λ r. ⌜ (told r (now (first .exit)) (now (second .exit)) ≡ toldVerdict (verdict (startTask (now (image .entry)) (now (state .entry))))) × (now (state .exit) ≡ stateAfter (now (state .entry)) (startTask (now (image .entry)) (now (state .entry)))) ⌝ }
+    ensures { λ r. ⌜ (returned r (now (first .exit)) (now (second .exit)) ≡ returnedVerdict (verdict (startTask (now (image .entry)) (now (state .entry))))) × (now (state .exit) ≡ stateAfter (now (state .entry)) (startTask (now (image .entry)) (now (state .entry)))) ⌝ }
 {
-    tell::verdict(state::set_initial(image, state), first, second)
+    numbers::verdict(state::set_initial(image, state), first, second)
 }
 
 // A step in the lent state: 1 to 7, 18 to 21.
@@ -46,9 +46,9 @@ pub extern "C" fn kb_task_step(
     first: &mut u64,
     second: &mut u64,
 ) -> u32
-    ensures { λ r. ⌜ (told r (now (first .exit)) (now (second .exit)) ≡ toldVerdict (verdict (stepTask (now (image .entry)) (now (state .entry)) operator))) × (now (state .exit) ≡ stateAfter (now (state .entry)) (stepTask (now (image .entry)) (now (state .entry)) operator)) ⌝ }
+    ensures { λ r. ⌜ (returned r (now (first .exit)) (now (second .exit)) ≡ returnedVerdict (verdict (stepTask (now (image .entry)) (now (state .entry)) operator))) × (now (state .exit) ≡ stateAfter (now (state .entry)) (stepTask (now (image .entry)) (now (state .entry)) operator)) ⌝ }
 {
-    tell::verdict(state::step(image, state, operator), first, second)
+    numbers::verdict(state::step(image, state, operator), first, second)
 }
 
 // The goal test: 1 to 7, 18. `first` is 1 if the goal is met, 0 if it is not.
@@ -59,9 +59,9 @@ pub extern "C" fn kb_task_goal(
     first: &mut u64,
     second: &mut u64,
 ) -> u32
-    ensures { λ r. ⌜ told r (now (first .exit)) (now (second .exit)) ≡ toldTest (goalTask (now (image .entry)) (now (state .entry))) ⌝ }
+    ensures { λ r. ⌜ returned r (now (first .exit)) (now (second .exit)) ≡ returnedTest (goalTask (now (image .entry)) (now (state .entry))) ⌝ }
 {
-    tell::test(state::goal_met(image, state), first, second)
+    numbers::test(state::goal_met(image, state), first, second)
 }
 
 // A list run in the lent state: 1 to 7 and 18 once, then 19 to 21 at each operator. `first` is the number of steps.
@@ -73,9 +73,9 @@ pub extern "C" fn kb_task_run(
     first: &mut u64,
     second: &mut u64,
 ) -> u32
-    ensures { λ r. ⌜ (told r (now (first .exit)) (now (second .exit)) ≡ toldCount (runTask (now (image .entry)) (now (state .entry)) (now (list .entry)) .answer)) × (now (state .exit) ≡ runTask (now (image .entry)) (now (state .entry)) (now (list .entry)) .lent) ⌝ }
+    ensures { λ r. ⌜ (returned r (now (first .exit)) (now (second .exit)) ≡ returnedCount (runTask (now (image .entry)) (now (state .entry)) (now (list .entry)) .answer)) × (now (state .exit) ≡ runTask (now (image .entry)) (now (state .entry)) (now (list .entry)) .lent) ⌝ }
 {
-    tell::count(state::run(image, state, list), first, second)
+    numbers::count(state::run(image, state, list), first, second)
 }
 
 // Whether the clauses keep a clause under an operator: 1 to 9, then 8 and 9 for the clause alone, 19, 13. `first` is 1 if kept, 0 if not.
@@ -89,9 +89,9 @@ pub extern "C" fn kb_kept(
     first: &mut u64,
     second: &mut u64,
 ) -> u32
-    ensures { λ r. ⌜ told r (now (first .exit)) (now (second .exit)) ≡ toldTest (keeps (now (image .entry)) (now (clauses .entry)) (now (clause .entry)) operator (length (now (marks .entry)))) ⌝ }
+    ensures { λ r. ⌜ returned r (now (first .exit)) (now (second .exit)) ≡ returnedTest (keeps (now (image .entry)) (now (clauses .entry)) (now (clause .entry)) operator (length (now (marks .entry)))) ⌝ }
 {
-    tell::test(
+    numbers::test(
         judge::kept(image, clauses, clause, operator, marks),
         first,
         second,
@@ -107,9 +107,9 @@ pub extern "C" fn kb_check(
     first: &mut u64,
     second: &mut u64,
 ) -> u32
-    ensures { λ r. ⌜ told r (now (first .exit)) (now (second .exit)) ≡ toldVerdict (verdict (check (now (image .entry)) (now (clauses .entry)) (length (now (marks .entry))))) ⌝ }
+    ensures { λ r. ⌜ returned r (now (first .exit)) (now (second .exit)) ≡ returnedVerdict (verdict (check (now (image .entry)) (now (clauses .entry)) (length (now (marks .entry))))) ⌝ }
 {
-    tell::verdict(checker::accept(image, clauses, marks), first, second)
+    numbers::verdict(checker::accept(image, clauses, marks), first, second)
 }
 
 // Synthesis: 1 to 7, 12 to 15. `first` is the number of rows, `second` that of rounds.
@@ -124,9 +124,9 @@ pub extern "C" fn kb_synthesize(
     first: &mut u64,
     second: &mut u64,
 ) -> u32
-    ensures { λ r. ⌜ (told r (now (first .exit)) (now (second .exit)) ≡ toldMade (synthesisCall (now (image .entry)) n limit (now (clauses .entry)) (length (now (work .entry))) (length (now (marks .entry))) .answer)) × (now (clauses .exit) ≡ synthesisCall (now (image .entry)) n limit (now (clauses .entry)) (length (now (work .entry))) (length (now (marks .entry))) .lent) ⌝ }
+    ensures { λ r. ⌜ (returned r (now (first .exit)) (now (second .exit)) ≡ returnedMade (synthesisCall (now (image .entry)) n limit (now (clauses .entry)) (length (now (work .entry))) (length (now (marks .entry))) .answer)) × (now (clauses .exit) ≡ synthesisCall (now (image .entry)) n limit (now (clauses .entry)) (length (now (work .entry))) (length (now (marks .entry))) .lent) ⌝ }
 {
-    tell::made(
+    numbers::made(
         synthesis::synthesize(image, n, limit, clauses, work, marks),
         first,
         second,
@@ -143,9 +143,9 @@ pub extern "C" fn kb_groups(
     first: &mut u64,
     second: &mut u64,
 ) -> u32
-    ensures { λ r. ⌜ (told r (now (first .exit)) (now (second .exit)) ≡ toldCount (written (now (target .entry)) (groupsCall (now (image .entry)) (now (clauses .entry)) (length (now (marks .entry))) (length (now (target .entry)))) .answer)) × (now (target .exit) ≡ written (now (target .entry)) (groupsCall (now (image .entry)) (now (clauses .entry)) (length (now (marks .entry))) (length (now (target .entry)))) .lent) ⌝ }
+    ensures { λ r. ⌜ (returned r (now (first .exit)) (now (second .exit)) ≡ returnedCount (written (now (target .entry)) (groupsCall (now (image .entry)) (now (clauses .entry)) (length (now (marks .entry))) (length (now (target .entry)))) .answer)) × (now (target .exit) ≡ written (now (target .entry)) (groupsCall (now (image .entry)) (now (clauses .entry)) (length (now (marks .entry))) (length (now (target .entry)))) .lent) ⌝ }
 {
-    tell::count(groups::groups(image, clauses, marks, target), first, second)
+    numbers::count(groups::groups(image, clauses, marks, target), first, second)
 }
 
 // Re-encoding: the checker's questions, then 16. Writes the re-encoded image; `first` is its length.
@@ -158,9 +158,9 @@ pub extern "C" fn kb_reencode(
     first: &mut u64,
     second: &mut u64,
 ) -> u32
-    ensures { λ r. ⌜ (told r (now (first .exit)) (now (second .exit)) ≡ toldCount (written (now (target .entry)) (encodeCall (now (image .entry)) (now (clauses .entry)) (length (now (marks .entry))) (length (now (target .entry)))) .answer)) × (now (target .exit) ≡ written (now (target .entry)) (encodeCall (now (image .entry)) (now (clauses .entry)) (length (now (marks .entry))) (length (now (target .entry)))) .lent) ⌝ }
+    ensures { λ r. ⌜ (returned r (now (first .exit)) (now (second .exit)) ≡ returnedCount (written (now (target .entry)) (encodeCall (now (image .entry)) (now (clauses .entry)) (length (now (marks .entry))) (length (now (target .entry)))) .answer)) × (now (target .exit) ≡ written (now (target .entry)) (encodeCall (now (image .entry)) (now (clauses .entry)) (length (now (marks .entry))) (length (now (target .entry)))) .lent) ⌝ }
 {
-    tell::count(
+    numbers::count(
         reencoding::reencode(image, clauses, marks, target),
         first,
         second,
@@ -175,9 +175,9 @@ pub extern "C" fn kb_fdr_initial(
     first: &mut u64,
     second: &mut u64,
 ) -> u32
-    ensures { λ r. ⌜ (told r (now (first .exit)) (now (second .exit)) ≡ toldVerdict (verdict (startFdr (now (image .entry)) (now (state .entry))))) × (now (state .exit) ≡ stateAfter (now (state .entry)) (startFdr (now (image .entry)) (now (state .entry)))) ⌝ }
+    ensures { λ r. ⌜ (returned r (now (first .exit)) (now (second .exit)) ≡ returnedVerdict (verdict (startFdr (now (image .entry)) (now (state .entry))))) × (now (state .exit) ≡ stateAfter (now (state .entry)) (startFdr (now (image .entry)) (now (state .entry)))) ⌝ }
 {
-    tell::verdict(fdr::set_initial(image, state), first, second)
+    numbers::verdict(fdr::set_initial(image, state), first, second)
 }
 
 // A step in the lent finite-domain state: 17, 18 to 22.
@@ -189,9 +189,9 @@ pub extern "C" fn kb_fdr_step(
     first: &mut u64,
     second: &mut u64,
 ) -> u32
-    ensures { λ r. ⌜ (told r (now (first .exit)) (now (second .exit)) ≡ toldVerdict (verdict (stepFdr (now (image .entry)) (now (state .entry)) operator))) × (now (state .exit) ≡ stateAfter (now (state .entry)) (stepFdr (now (image .entry)) (now (state .entry)) operator)) ⌝ }
+    ensures { λ r. ⌜ (returned r (now (first .exit)) (now (second .exit)) ≡ returnedVerdict (verdict (stepFdr (now (image .entry)) (now (state .entry)) operator))) × (now (state .exit) ≡ stateAfter (now (state .entry)) (stepFdr (now (image .entry)) (now (state .entry)) operator)) ⌝ }
 {
-    tell::verdict(fdr::step(image, state, operator), first, second)
+    numbers::verdict(fdr::step(image, state, operator), first, second)
 }
 
 // The goal test in a finite-domain state: 17, 18. `first` is 1 if the goal is met, 0 if it is not.
@@ -202,9 +202,9 @@ pub extern "C" fn kb_fdr_goal(
     first: &mut u64,
     second: &mut u64,
 ) -> u32
-    ensures { λ r. ⌜ told r (now (first .exit)) (now (second .exit)) ≡ toldTest (goalFdr (now (image .entry)) (now (state .entry))) ⌝ }
+    ensures { λ r. ⌜ returned r (now (first .exit)) (now (second .exit)) ≡ returnedTest (goalFdr (now (image .entry)) (now (state .entry))) ⌝ }
 {
-    tell::test(fdr::goal_met(image, state), first, second)
+    numbers::test(fdr::goal_met(image, state), first, second)
 }
 
 // A list run in the lent finite-domain state: 17 and 18 once, then 19 to 22 at each operator. `first` is the number of steps.
@@ -216,9 +216,9 @@ pub extern "C" fn kb_fdr_run(
     first: &mut u64,
     second: &mut u64,
 ) -> u32
-    ensures { λ r. ⌜ (told r (now (first .exit)) (now (second .exit)) ≡ toldCount (runFdr (now (image .entry)) (now (state .entry)) (now (list .entry)) .answer)) × (now (state .exit) ≡ runFdr (now (image .entry)) (now (state .entry)) (now (list .entry)) .lent) ⌝ }
+    ensures { λ r. ⌜ (returned r (now (first .exit)) (now (second .exit)) ≡ returnedCount (runFdr (now (image .entry)) (now (state .entry)) (now (list .entry)) .answer)) × (now (state .exit) ≡ runFdr (now (image .entry)) (now (state .entry)) (now (list .entry)) .lent) ⌝ }
 {
-    tell::count(fdr::run(image, state, list), first, second)
+    numbers::count(fdr::run(image, state, list), first, second)
 }
 
 // The finite-domain state of a task's state: 17, 18, 23.
@@ -230,9 +230,9 @@ pub extern "C" fn kb_encode(
     first: &mut u64,
     second: &mut u64,
 ) -> u32
-    ensures { λ r. ⌜ (told r (now (first .exit)) (now (second .exit)) ≡ toldVerdict (verdict (fromAtomsCall (now (image .entry)) (now (state .entry)) (length (now (target .entry)))))) × (now (target .exit) ≡ stateAfter (now (target .entry)) (fromAtomsCall (now (image .entry)) (now (state .entry)) (length (now (target .entry))))) ⌝ }
+    ensures { λ r. ⌜ (returned r (now (first .exit)) (now (second .exit)) ≡ returnedVerdict (verdict (fromAtomsCall (now (image .entry)) (now (state .entry)) (length (now (target .entry)))))) × (now (target .exit) ≡ stateAfter (now (target .entry)) (fromAtomsCall (now (image .entry)) (now (state .entry)) (length (now (target .entry))))) ⌝ }
 {
-    tell::verdict(coding::encode(image, state, target), first, second)
+    numbers::verdict(coding::encode(image, state, target), first, second)
 }
 
 // The task's state of a finite-domain state: 17, 18.
@@ -244,9 +244,9 @@ pub extern "C" fn kb_decode(
     first: &mut u64,
     second: &mut u64,
 ) -> u32
-    ensures { λ r. ⌜ (told r (now (first .exit)) (now (second .exit)) ≡ toldVerdict (verdict (toAtomsCall (now (image .entry)) (now (state .entry)) (length (now (target .entry)))))) × (now (target .exit) ≡ stateAfter (now (target .entry)) (toAtomsCall (now (image .entry)) (now (state .entry)) (length (now (target .entry))))) ⌝ }
+    ensures { λ r. ⌜ (returned r (now (first .exit)) (now (second .exit)) ≡ returnedVerdict (verdict (toAtomsCall (now (image .entry)) (now (state .entry)) (length (now (target .entry)))))) × (now (target .exit) ≡ stateAfter (now (target .entry)) (toAtomsCall (now (image .entry)) (now (state .entry)) (length (now (target .entry))))) ⌝ }
 {
-    tell::verdict(coding::decode(image, state, target), first, second)
+    numbers::verdict(coding::decode(image, state, target), first, second)
 }
 
 // Demand 3 along a list of operator numbers: the checker's questions; then task and re-encoding are compared at the start and after
@@ -260,7 +260,7 @@ pub extern "C" fn kb_agree(
     first: &mut u64,
     second: &mut u64,
 ) -> u32
-    ensures { λ r. ⌜ (told r (now (first .exit)) (now (second .exit)) ≡ toldTest (comparison (now (image .entry)) (now (clauses .entry)) (length (now (marks .entry))) (now (list .entry)))) × (told r (now (first .exit)) (now (second .exit)) ≡ toldTest (demanded (check (now (image .entry)) (now (clauses .entry)) (length (now (marks .entry)))))) ⌝ }
+    ensures { λ r. ⌜ (returned r (now (first .exit)) (now (second .exit)) ≡ returnedTest (comparison (now (image .entry)) (now (clauses .entry)) (length (now (marks .entry))) (now (list .entry)))) × (returned r (now (first .exit)) (now (second .exit)) ≡ returnedTest (demanded (check (now (image .entry)) (now (clauses .entry)) (length (now (marks .entry)))))) ⌝ }
 {
-    tell::test(agreement::agree(image, clauses, list, marks), first, second)
+    numbers::test(agreement::agree(image, clauses, list, marks), first, second)
 }

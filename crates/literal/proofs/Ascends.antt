@@ -44,11 +44,11 @@ pub ascends-end : (next : ℕ → ℕ) (bound from : ℕ) (xs : List ℕ) (i : �
 ascends-end next bound from xs i h = rw (drop-of-length-le xs {i = i} h)
 
 -- a part taken out of a conjunction
-turn : (a b c d : Bool) → (a && b && (c && d)) ≡ (a && (c && (b && d)))
-turn true true c d = refl
-turn true false true d = refl
-turn true false false d = refl
-turn false b c d = refl
+reorder : (a b c d : Bool) → (a && b && (c && d)) ≡ (a && (c && (b && d)))
+reorder true true c d = refl
+reorder true false true d = refl
+reorder true false false d = refl
+reorder false b c d = refl
 
 next-atom : (x y : ℕ) → ltb x y ≡ leb (nextAtom x) y
 next-atom x y =
@@ -60,7 +60,7 @@ atoms-above : (n x : ℕ) (xs : List ℕ) → (above x xs && allBelow n xs) ≡ 
 unfolding above allBelow all
 atoms-above n x [] = refl
 atoms-above n x (y ∷ ys) =
-    turn (ltb x y) (above y ys) (ltb y n) (allBelow n ys)
+    reorder (ltb x y) (above y ys) (ltb y n) (allBelow n ys)
     ∙ rw (next-atom x y, atoms-above n y ys)
 
 -- strictly ascending atoms below n
@@ -98,9 +98,12 @@ literals-above n x (y ∷ ys) =
 pub literals-ascend : (n : ℕ) (xs : List ℕ) → literalList n xs ≡ ascends nextLiteral (2 * n) 0 xs
 unfolding literalList ascending allBelow all
 literals-ascend n [] = refl
-literals-ascend n (x ∷ xs) = rw (le-leb 0 x zero-le) (go (ltb x (2 * n)) (above x xs) (allBelow (2 * n) xs) (above (atom x) (map atom xs)) (literals-above (2 * n) x xs))
+literals-ascend n (x ∷ xs) =
+    rw (le-leb 0 x zero-le) (go (ltb x (2 * n)) (above x xs) (allBelow (2 * n) xs) (above (atom x) (map atom xs)) (literals-above (2 * n) x xs))
   where
-    go : (a b c d : Bool) → (b && c && d) ≡ ascends nextLiteral (2 * n) (nextLiteral x) xs → (b && (a && c) && d) ≡ (a && ascends nextLiteral (2 * n) (nextLiteral x) xs)
+    go :
+        (a b c d : Bool) → (b && c && d) ≡ ascends nextLiteral (2 * n) (nextLiteral x) xs
+        → (b && (a && c) && d) ≡ (a && ascends nextLiteral (2 * n) (nextLiteral x) xs)
     go true b c d h = h
     go false true c d h = refl
     go false false c d h = refl

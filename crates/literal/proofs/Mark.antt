@@ -19,4 +19,7 @@ mark-length false m l = refl
 
 -- a place that has zero
 pub zero-place : (s : List ℕ) (i : ℕ) (r : Bool) → r ≡ (ltb i (length s) && eqb (getD s i 0) 0) → r ≡ true → (getD s i 0 ≡ 0) × (i < length s)
-zero-place s i r e h = (eqb-true (getD s i 0) 0 (and-right (ltb i (length s)) (eqb (getD s i 0) 0) (sym e ∙ h)), ltb-true i (length s) (and-left (ltb i (length s)) (eqb (getD s i 0) 0) (sym e ∙ h)))
+zero-place s i r e h = (
+  eqb-true (getD s i 0) 0 (and-right (ltb i (length s)) (eqb (getD s i 0) 0) (sym e ∙ h)),
+  ltb-true i (length s) (and-left (ltb i (length s)) (eqb (getD s i 0) 0) (sym e ∙ h)),
+)

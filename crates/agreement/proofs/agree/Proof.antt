@@ -13,7 +13,7 @@ use borrow.Author.Needs.{needs}
 use Rattle.agreement.proofs.agree.Statement.{statement}
 use Rattle.agreement.proofs.agree.Tie as tie
 
--- behind the checker: the start, with the task image, the clause words, the list and the bytes of marks
+-- after the checker: the start, with the task image, the clause words, the list and the bytes of marks
 abbrev checked : Type 0
 checked = tie.After-accept
 
@@ -49,7 +49,7 @@ checked-by c = answered (c .before .before)
 ok : (c : fine) → let d = checked-by c in Accepts (image d) (set d) (marks d)
 ok c = accepted _ _ _ (ap verdictAnswer (sym (c .enum-told .given .1)) ∙ checked-by c .accept .ensures)
 
--- behind the comparison
+-- after the comparison
 abbrev compared : tie.After-room2 → tie.After-compare-accepted
 compared c = c .before .before .before
 

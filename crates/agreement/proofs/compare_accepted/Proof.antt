@@ -19,7 +19,7 @@ use borrow.Author.Needs.{needs}
 use Rattle.agreement.proofs.compare_accepted.Statement.{statement}
 use Rattle.agreement.proofs.compare_accepted.Tie as tie
 
--- behind the re-encoding: the start, with the task image, the clause words, the bytes of marks and the target; what the target then holds
+-- after the re-encoding: the start, with the task image, the clause words, the bytes of marks and the target; what the target then holds
 abbrev made : Type 0
 made = tie.After-reencode
 

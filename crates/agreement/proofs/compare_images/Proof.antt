@@ -7,14 +7,14 @@ use borrow.Author.Needs.{needs}
 use Rattle.agreement.proofs.compare_images.Statement.{statement}
 use Rattle.agreement.proofs.compare_images.Tie as tie
 
--- behind the comparison: the rooms, and the numbers of atoms and variables
-abbrev compared : tie.After-values2 → tie.After-same-list
+-- after the comparison: the rooms, and the numbers of atoms and variables
+abbrev compared : tie.After-values3 → tie.After-same-list
 compared c = c .before .before
 
-abbrev rooms : tie.After-same-list → tie.After-value-room
+abbrev rooms : tie.After-same-list → tie.After-values
 rooms c = c .before .before .before
 
-abbrev sizes : tie.After-value-room → tie.After-variables
+abbrev sizes : tie.After-values → tie.After-variables
 sizes c = c .before .before
 
 atoms-requires : tie.Need-atoms-requires
@@ -23,30 +23,30 @@ atoms-requires c κs = search needs
 variables-requires : tie.Need-variables-requires
 variables-requires c κs = search needs
 
-state-room-requires : tie.Need-state-room-requires
-state-room-requires c κs = search needs
+state-requires : tie.Need-state-requires
+state-requires c κs = search needs
 
-value-room-requires : tie.Need-value-room-requires
-value-room-requires c κs = search needs
+values-requires : tie.Need-values-requires
+values-requires c κs = search needs
 
 array-borrow-prefix-state : tie.Need-array-borrow-prefix-state
 array-borrow-prefix-state c = search needs
 
 slice-aggregate-same-list : tie.Need-slice-aggregate-same-list
-slice-aggregate-same-list c = sym (length-take-le _ (c .before .before .state-room .result) (omega arith))
+slice-aggregate-same-list c = sym (length-take-le _ (c .before .before .state .result) (omega arith))
 
 array-borrow-prefix-values : tie.Need-array-borrow-prefix-values
 array-borrow-prefix-values c = search needs
 
 slice-aggregate-same-list-2 : tie.Need-slice-aggregate-same-list-2
-slice-aggregate-same-list-2 c = sym (length-take-le _ (c .before .before .value-room .result) (omega arith))
+slice-aggregate-same-list-2 c = sym (length-take-le _ (c .before .before .values .result) (omega arith))
 
 same-list-requires : tie.Need-same-list-requires
 same-list-requires c κs =
     let r = c .before .before in
     let n = sizes r in
-    let s = length-take-le (n .before .atoms .result) (r .before .state-room .result) (omega arith) in
-    let v = length-take-le (n .variables .result) (r .value-room .result) (omega arith) in
+    let s = length-take-le (n .before .atoms .result) (r .before .state .result) (omega arith) in
+    let v = length-take-le (n .variables .result) (r .values .result) (omega arith) in
     record { atoms = omega arith; values = omega arith }
 
 returns : tie.Need-returns
@@ -56,8 +56,8 @@ returns c =
     let n = sizes r in
     d .same-list .ensures
     ∙ images-by _ _ _ _ _ _
-    (length-take-le _ (r .before .state-room .result) (omega arith) ∙ n .before .atoms .ensures .0)
-    (length-take-le _ (r .value-room .result) (omega arith) ∙ n .variables .ensures .0)
+    (length-take-le _ (r .before .state .result) (omega arith) ∙ n .before .atoms .ensures .0)
+    (length-take-le _ (r .values .result) (omega arith) ∙ n .variables .ensures .0)
 
 pub compare-images-spec : {M : Type 1} → statement M
 compare-images-spec =
@@ -65,8 +65,8 @@ compare-images-spec =
     (tie.spec
     atoms-requires
     variables-requires
-    state-room-requires
-    value-room-requires
+    state-requires
+    values-requires
     array-borrow-prefix-state
     slice-aggregate-same-list
     array-borrow-prefix-values

@@ -1,6 +1,6 @@
 -- `agreement::same_list`: the steps, then the list runs, from states of the same lengths.
 use mathlib.Core.Path.{sym, _∙_}
-use Rattle.agreement.proofs.SameLaws.{told-no, told-yes}
+use Rattle.agreement.proofs.SameLaws.{said-no, said-yes}
 use Rattle.agreement.proofs.Comparing.{list-differs, list-on}
 use borrow.Author.Needs.{needs}
 use Rattle.agreement.proofs.same_list.Statement.{statement}
@@ -13,7 +13,7 @@ back c = c .before .before .before
 abbrev stepped : tie.After-slice-known4 → tie.After-from-start
 stepped c = back c .before
 
--- behind the list runs
+-- after the list runs
 abbrev run-back : tie.After-slice-known6 → tie.After-state2
 run-back c = c .before .before .before
 
@@ -33,7 +33,7 @@ same-length-2 : tie.Need-same-length-2
 same-length-2 c = search needs
 
 returns : tie.Need-returns
-returns c = list-differs _ _ _ _ _ _ (told-no (stepped (c .before) .from-start .ensures) (c .if1 .taken))
+returns c = list-differs _ _ _ _ _ _ (said-no (stepped (c .before) .from-start .ensures) (c .if1 .taken))
 
 from-start-requires-2 : tie.Need-from-start-requires-2
 from-start-requires-2 c κs = search needs
@@ -53,7 +53,7 @@ returns-2 c =
     ∙ list-on _ _ _ _ _ _ _ _
     (sym (d .from-start .kept .1 .1 .1 .1 .0))
     (sym (d .from-start .kept .1 .1 .1 .1 .1 .0))
-    (told-yes (d .from-start .ensures) (e .if1 .left))
+    (said-yes (d .from-start .ensures) (e .if1 .left))
 
 pub same-list-spec : {M : Type 1} → statement M
 same-list-spec =

@@ -1,6 +1,6 @@
--- `exports::kb_agree`: both facts of the answer, told as numbers.
+-- `exports::kb_agree`: both facts of the answer, returned as numbers.
 use mathlib.Core.Path.{ap, _∙_}
-use Rattle.exports.specs.Told.{toldTest}
+use Rattle.exports.specs.Returned.{returnedTest}
 use borrow.Author.Needs.{needs}
 use Rattle.exports.proofs.kb_agree.Statement.{statement}
 use Rattle.exports.proofs.kb_agree.Tie as tie
@@ -24,7 +24,7 @@ same-length c = search needs
 returns : tie.Need-returns
 returns c =
     let a = compared c .agree .ensures in
-    (c .test .ensures ∙ ap toldTest (a .compared), c .test .ensures ∙ ap toldTest (a .demand))
+    (c .test .ensures ∙ ap returnedTest (a .compared), c .test .ensures ∙ ap returnedTest (a .demand))
 
 pub kb-agree-spec : {M : Type 1} → statement M
 kb-agree-spec = tie.close (tie.spec agree-requires test-requires same-length returns)

@@ -1,5 +1,5 @@
 use mathlib.Core.Path.{ap, _∙_}
-use Rattle.exports.specs.Told.{toldVerdict}
+use Rattle.exports.specs.Returned.{returnedVerdict}
 use borrow.Author.Needs.{needs}
 use Rattle.exports.proofs.kb_check.Statement.{statement}
 use Rattle.exports.proofs.kb_check.Tie as tie
@@ -13,8 +13,15 @@ verdict-requires c κs = search needs
 same-length : tie.Need-same-length
 same-length c = search needs
 
+-- the places of the function
+abbrev after-accept : tie.After-verdict-arg → tie.After-accept
+after-accept c = c .before .before .before
+
+abbrev after-verdict-arg : tie.After-verdict → tie.After-verdict-arg
+after-verdict-arg c = c .before .before
+
 returns : tie.Need-returns
-returns c = c .verdict .ensures ∙ ap toldVerdict (c .before .before .before .before .before .accept .ensures)
+returns c = c .verdict .ensures ∙ ap returnedVerdict (after-accept (after-verdict-arg c) .accept .ensures)
 
 pub kb-check-spec : {M : Type 1} → statement M
 kb-check-spec = tie.close (tie.spec accept-requires verdict-requires same-length returns)

@@ -1,6 +1,6 @@
 use mathlib.Core.Path.{ap, _∙_}
-use Rattle.exports.specs.Told.{toldVerdict}
-use Rattle.answer.proofs.Laws.{answered, left}
+use Rattle.exports.specs.Returned.{returnedVerdict}
+use Rattle.definitions.proofs.AnswerLaws.{answered, left}
 use borrow.Author.Needs.{needs}
 use Rattle.exports.proofs.kb_encode.Statement.{statement}
 use Rattle.exports.proofs.kb_encode.Tie as tie
@@ -24,7 +24,7 @@ same-length c = search needs
 returns : tie.Need-returns
 returns c =
     let e = made c .encode .ensures in
-    (c .verdict .ensures ∙ ap toldVerdict (answered _ _ _ _ e), left _ _ _ _ e)
+    (c .verdict .ensures ∙ ap returnedVerdict (answered _ _ _ _ e), left _ _ _ _ e)
 
 pub kb-encode-spec : {M : Type 1} → statement M
 kb-encode-spec = tie.close (tie.spec encode-requires verdict-requires same-length returns)

@@ -1,5 +1,5 @@
 use mathlib.Core.Path.{ap, _∙_}
-use Rattle.exports.specs.Told.{toldTest}
+use Rattle.exports.specs.Returned.{returnedTest}
 use borrow.Author.Needs.{needs}
 use Rattle.exports.proofs.kb_fdr_goal.Statement.{statement}
 use Rattle.exports.proofs.kb_fdr_goal.Tie as tie
@@ -11,7 +11,7 @@ test-requires : tie.Need-test-requires
 test-requires c κs = search needs
 
 returns : tie.Need-returns
-returns c = c .test .ensures ∙ ap toldTest (c .before .before .before .goal-met .ensures)
+returns c = c .test .ensures ∙ ap returnedTest (c .before .before .before .goal-met .ensures)
 
 pub kb-fdr-goal-spec : {M : Type 1} → statement M
 kb-fdr-goal-spec = tie.close (tie.spec goal-met-requires test-requires returns)

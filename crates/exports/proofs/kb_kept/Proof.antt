@@ -1,5 +1,5 @@
 use mathlib.Core.Path.{ap, _∙_}
-use Rattle.exports.specs.Told.{toldTest}
+use Rattle.exports.specs.Returned.{returnedTest}
 use borrow.Author.Needs.{needs}
 use Rattle.exports.proofs.kb_kept.Statement.{statement}
 use Rattle.exports.proofs.kb_kept.Tie as tie
@@ -13,8 +13,15 @@ test-requires c κs = search needs
 same-length : tie.Need-same-length
 same-length c = search needs
 
+-- the places of the function
+abbrev after-kept : tie.After-test-arg → tie.After-kept
+after-kept c = c .before .before .before
+
+abbrev after-test-arg : tie.After-test → tie.After-test-arg
+after-test-arg c = c .before .before
+
 returns : tie.Need-returns
-returns c = c .test .ensures ∙ ap toldTest (c .before .before .before .before .before .kept .ensures)
+returns c = c .test .ensures ∙ ap returnedTest (after-kept (after-test-arg c) .kept .ensures)
 
 pub kb-kept-spec : {M : Type 1} → statement M
 kb-kept-spec = tie.close (tie.spec kept-requires test-requires same-length returns)

@@ -1,5 +1,5 @@
 use mathlib.Core.Path.{ap, _∙_}
-use Rattle.exports.specs.Told.{toldVerdict}
+use Rattle.exports.specs.Returned.{returnedVerdict}
 use borrow.Author.Needs.{needs}
 use Rattle.exports.proofs.kb_read.Statement.{statement}
 use Rattle.exports.proofs.kb_read.Tie as tie
@@ -11,7 +11,7 @@ verdict-requires : tie.Need-verdict-requires
 verdict-requires c κs = search needs
 
 returns : tie.Need-returns
-returns c = c .verdict .ensures ∙ ap toldVerdict (c .before .before .before .read .ensures)
+returns c = c .verdict .ensures ∙ ap returnedVerdict (c .before .before .before .read .ensures)
 
 pub kb-read-spec : {M : Type 1} → statement M
 kb-read-spec = tie.close (tie.spec read-requires verdict-requires returns)

@@ -29,7 +29,10 @@ shared-slice-read-if2 : tie.Need-shared-slice-read-if2 Inv-loop μ-loop
 shared-slice-read-if2 c = search needs
 
 returns-2 : tie.Need-returns-2 Inv-loop μ-loop
-returns-2 c = sym (c .before .before .before .loop .inv .1 ∙ all-off _ (c .before .before .before .loop .a) 0 _ refl (c .before .before .loop-test .taken) (λ x. ltb x 2) (le-ltb _ 2 (c .if2 .taken)))
+returns-2 c =
+    sym
+    (c .before .before .before .loop .inv .1
+    ∙ all-off _ (c .before .before .before .loop .a) 0 _ refl (c .before .before .loop-test .taken) (λ x. ltb x 2) (le-ltb _ 2 (c .if2 .taken)))
 
 add-a : tie.Need-add-a Inv-loop μ-loop
 add-a c = search needs
@@ -38,7 +41,11 @@ loop-less : tie.Need-loop-less Inv-loop μ-loop
 loop-less c = search needs
 
 loop-again : tie.Need-loop-again Inv-loop μ-loop
-loop-again c = (omega arith, c .before .before .before .loop .inv .1 ∙ all-on _ (c .before .before .before .loop .a) 0 _ refl (c .before .before .loop-test .taken) (λ x. ltb x 2) (lt-ltb _ 2 (c .if2 .left)))
+loop-again c = (
+  omega arith,
+  c .before .before .before .loop .inv .1
+      ∙ all-on _ (c .before .before .before .loop .a) 0 _ refl (c .before .before .loop-test .taken) (λ x. ltb x 2) (lt-ltb _ 2 (c .if2 .left)),
+)
 
 returns-3 : tie.Need-returns-3 Inv-loop μ-loop
 returns-3 c = sym (c .before .loop .inv .1 ∙ all-end (λ x. ltb x 2) _ _ (c .loop-test .left))

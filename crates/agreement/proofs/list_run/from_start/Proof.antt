@@ -1,6 +1,6 @@
 -- `agreement::list_run::from_start`: the first test that fails decides.
 use mathlib.Core.Path.{refl, _∙_}
-use Rattle.agreement.proofs.SameLaws.{told-no, told-yes}
+use Rattle.agreement.proofs.SameLaws.{said-no, said-yes}
 use Rattle.agreement.proofs.Comparing.{runs-not-set, runs-differ, ends-differ, runs-on}
 use borrow.Author.Needs.{needs}
 use Rattle.agreement.proofs.list_run.from_start.Statement.{statement}
@@ -41,7 +41,7 @@ same-length-2 : tie.Need-same-length-2
 same-length-2 c = search needs
 
 returns : tie.Need-returns
-returns c = runs-not-set _ _ _ _ _ _ _ _ _ (set (c .before) .set-both .ensures) (told-no refl (c .if1 .taken))
+returns c = runs-not-set _ _ _ _ _ _ _ _ _ (set (c .before) .set-both .ensures) (said-no refl (c .if1 .taken))
 
 run-both-requires : tie.Need-run-both-requires
 run-both-requires c κs = search needs
@@ -56,8 +56,8 @@ returns-2 : tie.Need-returns-2
 returns-2 c =
     let r = ran (c .before) in
     let s = was-set r in
-    runs-differ _ _ _ _ _ _ _ _ _ (set (s .before) .set-both .ensures) (told-yes refl (s .if1 .left)) _ _ _ (r .run-both .ensures)
-    (told-no refl (c .if2 .taken))
+    runs-differ _ _ _ _ _ _ _ _ _ (set (s .before) .set-both .ensures) (said-yes refl (s .if1 .left)) _ _ _ (r .run-both .ensures)
+    (said-no refl (c .if2 .taken))
 
 same-states-requires : tie.Need-same-states-requires
 same-states-requires c κs = search needs
@@ -73,9 +73,9 @@ returns-3 c =
     let a = answered (c .before) in
     let r = ran (a .before) in
     let s = was-set r in
-    ends-differ _ _ _ _ _ _ _ _ _ (set (s .before) .set-both .ensures) (told-yes refl (s .if1 .left)) _ _ _ (r .run-both .ensures)
-    (told-yes refl (a .if2 .left))
-    (told-no (c .before .same-states .ensures) (c .if3 .taken))
+    ends-differ _ _ _ _ _ _ _ _ _ (set (s .before) .set-both .ensures) (said-yes refl (s .if1 .left)) _ _ _ (r .run-both .ensures)
+    (said-yes refl (a .if2 .left))
+    (said-no (c .before .same-states .ensures) (c .if3 .taken))
 
 leaves-requires : tie.Need-leaves-requires
 leaves-requires c κs = search needs
@@ -93,9 +93,9 @@ returns-4 c =
     let r = ran (a .before) in
     let s = was-set r in
     c .leaves .ensures
-    ∙ runs-on _ _ _ _ _ _ _ _ _ (set (s .before) .set-both .ensures) (told-yes refl (s .if1 .left)) _ _ _ (r .run-both .ensures)
-    (told-yes refl (a .if2 .left))
-    (told-yes (e .before .same-states .ensures) (e .if3 .left))
+    ∙ runs-on _ _ _ _ _ _ _ _ _ (set (s .before) .set-both .ensures) (said-yes refl (s .if1 .left)) _ _ _ (r .run-both .ensures)
+    (said-yes refl (a .if2 .left))
+    (said-yes (e .before .same-states .ensures) (e .if3 .left))
 
 pub from-start-spec : {M : Type 1} → statement M
 from-start-spec =

@@ -1,6 +1,6 @@
 -- `agreement::list_run::leaves_in`: the first test that fails decides.
 use mathlib.Core.Path.{refl, _∙_}
-use Rattle.agreement.proofs.SameLaws.{told-no, told-yes}
+use Rattle.agreement.proofs.SameLaws.{said-no, said-yes}
 use Rattle.agreement.proofs.Taken.{left-not-set, left-differs, left-on}
 use borrow.Author.Needs.{needs}
 use Rattle.agreement.proofs.list_run.leaves_in.Statement.{statement}
@@ -47,7 +47,7 @@ same-length-2 c = search needs
 returns : tie.Need-returns
 returns c =
     let p = set (c .before) in
-    left-not-set _ _ _ _ _ _ _ _ _ (start p .pre) _ (p .set-both .ensures) (told-no refl (c .if1 .taken))
+    left-not-set _ _ _ _ _ _ _ _ _ (start p .pre) _ (p .set-both .ensures) (said-no refl (c .if1 .taken))
 
 walk-both-requires : tie.Need-walk-both-requires
 walk-both-requires c κs = search needs
@@ -66,8 +66,8 @@ returns-2 c =
     let d = walked (c .before .before .before) in
     let s = was-set d in
     let p = set (s .before) in
-    left-differs _ _ _ _ _ _ _ _ _ (start p .pre) _ (p .set-both .ensures) _ _ (d .walk-both .ensures) (told-yes refl (s .if1 .left))
-    (told-no (c .before .bytes .ensures) (c .if2 .taken))
+    left-differs _ _ _ _ _ _ _ _ _ (start p .pre) _ (p .set-both .ensures) _ _ (d .walk-both .ensures) (said-yes refl (s .if1 .left))
+    (said-no (c .before .bytes .ensures) (c .if2 .taken))
 
 words-requires : tie.Need-words-requires
 words-requires c κs = search needs
@@ -85,8 +85,8 @@ returns-3 c =
     let s = was-set d in
     let p = set (s .before) in
     c .words .ensures
-    ∙ left-on _ _ _ _ _ _ _ _ _ (start p .pre) _ (p .set-both .ensures) _ _ (d .walk-both .ensures) (told-yes refl (s .if1 .left))
-    (told-yes (e .before .bytes .ensures) (e .if2 .left))
+    ∙ left-on _ _ _ _ _ _ _ _ _ (start p .pre) _ (p .set-both .ensures) _ _ (d .walk-both .ensures) (said-yes refl (s .if1 .left))
+    (said-yes (e .before .bytes .ensures) (e .if2 .left))
 
 pub leaves-in-spec : {M : Type 1} → statement M
 leaves-in-spec =

@@ -3,7 +3,8 @@ use Prim.Native.Nat.{_-_}
 use mathlib.Core.Path.{sym, ap}
 use lib.ListN.{length}
 use Rattle.answer.specs.Answer.{placed, verdictAnswer}
-use Rattle.answer.proofs.Laws.{outcome-of, left}
+use Rattle.definitions.proofs.AnswerLaws.{left}
+use Rattle.answer.proofs.Laws.{outcome-of}
 use Rattle.agreement.proofs.Taken.{Walking, walking-start, walking-end, walking-stop, walking-on}
 use borrow.Author.Needs.{needs}
 use Rattle.agreement.proofs.list_run.walk_both.Statement.{statement}
@@ -15,14 +16,14 @@ Inv-loop image encoded list state₀ values₀ i₀ state values i = Walking ima
 abbrev μ-loop : tie.MeasureT-loop
 μ-loop image encoded list state₀ values₀ i₀ state values i = length list - i
 
--- where the task's step is made, and its turn
+-- where the task's step is made, and its iteration
 abbrev stepped : tie.After-slice-known3 Inv-loop μ-loop → tie.After-step Inv-loop μ-loop
 stepped c = c .before .before
 
-abbrev turn : tie.After-step Inv-loop μ-loop → tie.In-loop Inv-loop μ-loop
-turn c = c .before .before .before
+abbrev iteration : tie.After-step Inv-loop μ-loop → tie.In-loop Inv-loop μ-loop
+iteration c = c .before .before .before
 
--- behind both steps: the second, and the case in which the first was found
+-- after both steps: the second, and the case in which the first was found
 abbrev second : tie.After-slice-known4 Inv-loop μ-loop → tie.After-step2 Inv-loop μ-loop
 second c = c .before .before
 
@@ -53,7 +54,7 @@ same-length-2 c = search needs
 returns : tie.Need-returns Inv-loop μ-loop
 returns c =
     let d = stepped (c .before .before .before) in
-    let t = turn d in
+    let t = iteration d in
     let f = c .before .stepped .given in
     walking-stop _ _ _ _ _ _ _ _ (t .before .loop .inv) _ (t .loop-test .taken) (placed (f .0 .0))
     (outcome-of _ _ _ _ (ap verdictAnswer (sym (f .1))) (d .step .ensures))
@@ -81,7 +82,7 @@ loop-again c =
     let q = second c in
     let m = found q in
     let d = stepped (m .before .before) in
-    let t = turn d in
+    let t = iteration d in
     walking-on _ _ _ _ _ _ _ _ (t .before .loop .inv) _ (t .loop-test .taken) _
     (outcome-of _ _ _ _ (ap verdictAnswer (sym (m .enum-told .given .1))) (d .step .ensures))
     (left _ _ _ _ (q .step2 .ensures))

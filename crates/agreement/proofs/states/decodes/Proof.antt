@@ -9,23 +9,23 @@ use Rattle.agreement.proofs.states.decodes.Statement.{statement}
 use Rattle.agreement.proofs.states.decodes.Tie as tie
 
 -- the room, and the start
-abbrev given : tie.After-state-room → tie.After-shared-slice-known
+abbrev given : tie.After-state → tie.After-shared-slice-known
 given c = c .before .before .before
 
-abbrev start : tie.After-state-room → tie.Start
+abbrev start : tie.After-state → tie.Start
 start c = given c .before
 
-state-room-requires : tie.Need-state-room-requires
-state-room-requires c κs = search needs
+state-requires : tie.Need-state-requires
+state-requires c κs = search needs
 
 array-borrow-prefix-room : tie.Need-array-borrow-prefix-room
 array-borrow-prefix-room c = search needs
 
 slice-aggregate-decodes-in : tie.Need-slice-aggregate-decodes-in
-slice-aggregate-decodes-in c = sym (length-take-le _ (c .before .state-room .result) (omega (arith, start (c .before) .pre)))
+slice-aggregate-decodes-in c = sym (length-take-le _ (c .before .state .result) (omega (arith, start (c .before) .pre)))
 
 decodes-in-requires : tie.Need-decodes-in-requires
-decodes-in-requires c κs = length-take-le _ (c .before .state-room .result) (omega (arith, start (c .before) .pre))
+decodes-in-requires c κs = length-take-le _ (c .before .state .result) (omega (arith, start (c .before) .pre))
 
 returns : tie.Need-returns
 returns c = search needs
@@ -34,7 +34,7 @@ pub decodes-spec : {M : Type 1} → statement M
 decodes-spec =
     tie.close
     (tie.spec
-    state-room-requires
+    state-requires
     array-borrow-prefix-room
     slice-aggregate-decodes-in
     decodes-in-requires

@@ -1,6 +1,6 @@
 -- `agreement::states::same_states`: the first test that fails decides.
 use mathlib.Core.Path.{_∙_}
-use Rattle.agreement.proofs.SameLaws.{told-no, told-yes}
+use Rattle.agreement.proofs.SameLaws.{said-no, said-yes}
 use Rattle.agreement.proofs.Comparing.{clause-fails, goals-differ, not-coded, coded-back}
 use borrow.Author.Needs.{needs}
 use Rattle.agreement.proofs.states.same_states.Statement.{statement}
@@ -17,7 +17,7 @@ all-hold-requires : tie.Need-all-hold-requires
 all-hold-requires c κs = search needs
 
 returns : tie.Need-returns
-returns c = clause-fails _ _ _ _ _ (told-no (c .before .all-hold .ensures) (c .if1 .taken))
+returns c = clause-fails _ _ _ _ _ (said-no (c .before .all-hold .ensures) (c .if1 .taken))
 
 same-goals-requires : tie.Need-same-goals-requires
 same-goals-requires c κs = search needs
@@ -25,7 +25,7 @@ same-goals-requires c κs = search needs
 returns-2 : tie.Need-returns-2
 returns-2 c =
     let h = c .before .before in
-    goals-differ _ _ _ _ _ (told-yes (h .before .all-hold .ensures) (h .if1 .left)) (told-no (c .before .same-goals .ensures) (c .if2 .taken))
+    goals-differ _ _ _ _ _ (said-yes (h .before .all-hold .ensures) (h .if1 .left)) (said-no (c .before .same-goals .ensures) (c .if2 .taken))
 
 codes-requires : tie.Need-codes-requires
 codes-requires c κs = search needs
@@ -34,8 +34,8 @@ returns-3 : tie.Need-returns-3
 returns-3 c =
     let g = c .before .before in
     let h = clauses-hold g in
-    not-coded _ _ _ _ _ (told-yes (h .before .all-hold .ensures) (h .if1 .left)) (told-yes (g .before .same-goals .ensures) (g .if2 .left))
-    (told-no (c .before .codes .ensures) (c .if3 .taken))
+    not-coded _ _ _ _ _ (said-yes (h .before .all-hold .ensures) (h .if1 .left)) (said-yes (g .before .same-goals .ensures) (g .if2 .left))
+    (said-no (c .before .codes .ensures) (c .if3 .taken))
 
 decodes-requires : tie.Need-decodes-requires
 decodes-requires c κs = search needs
@@ -46,8 +46,8 @@ returns-4 c =
     let g = goals-same d in
     let h = clauses-hold g in
     c .decodes .ensures
-    ∙ coded-back _ _ _ _ _ (told-yes (h .before .all-hold .ensures) (h .if1 .left)) (told-yes (g .before .same-goals .ensures) (g .if2 .left))
-    (told-yes (d .before .codes .ensures) (d .if3 .left))
+    ∙ coded-back _ _ _ _ _ (said-yes (h .before .all-hold .ensures) (h .if1 .left)) (said-yes (g .before .same-goals .ensures) (g .if2 .left))
+    (said-yes (d .before .codes .ensures) (d .if3 .left))
 
 pub same-states-spec : {M : Type 1} → statement M
 same-states-spec =

@@ -1,6 +1,6 @@
 -- `agreement::steps::from_start`: the first test that fails decides.
 use mathlib.Core.Path.{refl, _∙_}
-use Rattle.agreement.proofs.SameLaws.{told-no, told-yes}
+use Rattle.agreement.proofs.SameLaws.{said-no, said-yes}
 use Rattle.agreement.proofs.Comparing.{steps-not-set, start-differs, start-on}
 use borrow.Author.Needs.{needs}
 use Rattle.agreement.proofs.steps.from_start.Statement.{statement}
@@ -17,7 +17,7 @@ set c = back c .before
 abbrev was-set : tie.After-same-states → tie.Else1
 was-set c = c .before .before .before
 
--- behind the steps: the states were the same
+-- after the steps: the states were the same
 abbrev lent : tie.After-slice-known6 → tie.After-state2
 lent c = c .before .before .before
 
@@ -37,7 +37,7 @@ same-length-2 : tie.Need-same-length-2
 same-length-2 c = search needs
 
 returns : tie.Need-returns
-returns c = steps-not-set _ _ _ _ _ _ _ _ _ (set (c .before) .set-both .ensures) (told-no refl (c .if1 .taken))
+returns c = steps-not-set _ _ _ _ _ _ _ _ _ (set (c .before) .set-both .ensures) (said-no refl (c .if1 .taken))
 
 same-states-requires : tie.Need-same-states-requires
 same-states-requires c κs = search needs
@@ -51,8 +51,8 @@ same-length-4 c = search needs
 returns-2 : tie.Need-returns-2
 returns-2 c =
     let s = was-set (c .before) in
-    start-differs _ _ _ _ _ _ _ _ _ (set (s .before) .set-both .ensures) (told-yes refl (s .if1 .left))
-    (told-no (c .before .same-states .ensures) (c .if2 .taken))
+    start-differs _ _ _ _ _ _ _ _ _ (set (s .before) .set-both .ensures) (said-yes refl (s .if1 .left))
+    (said-no (c .before .same-states .ensures) (c .if2 .taken))
 
 same-steps-requires : tie.Need-same-steps-requires
 same-steps-requires c κs = search needs
@@ -69,7 +69,7 @@ returns-3 c =
     let a = were-same d in
     let s = was-set (a .before) in
     d .same-steps .ensures
-    ∙ start-on _ _ _ _ _ _ _ _ _ (set (s .before) .set-both .ensures) (told-yes refl (s .if1 .left)) (told-yes (a .before .same-states .ensures) (a .if2 .left))
+    ∙ start-on _ _ _ _ _ _ _ _ _ (set (s .before) .set-both .ensures) (said-yes refl (s .if1 .left)) (said-yes (a .before .same-states .ensures) (a .if2 .left))
 
 pub from-start-spec : {M : Type 1} → statement M
 from-start-spec =

@@ -4,7 +4,7 @@ use mathlib.Core.List.{List}
 use mathlib.Core.Path.{refl}
 use lib.ListN.{length}
 use Rattle.agreement.specs.Compared.{Small, SameLengths}
-use Rattle.agreement.proofs.SameLaws.{told-no, told-yes}
+use Rattle.agreement.proofs.SameLaws.{said-no, said-yes}
 use Rattle.agreement.proofs.Comparing.{Stepping, stepping-start, stepping-small, stepping-end, step-differs, states-differ, step-on}
 use borrow.Author.Needs.{needs}
 use Rattle.agreement.proofs.steps.same_steps.Statement.{statement}
@@ -16,15 +16,15 @@ Inv-loop image encoded clauses list state₀ values₀ i₀ state values i = Ste
 abbrev μ-loop : tie.MeasureT-loop
 μ-loop image encoded clauses list state₀ values₀ i₀ state values i = length list - i
 
--- where both steps are made: the turn, and the start
+-- where both steps are made: the iteration, and the start
 abbrev stepped : Type 0
 stepped = tie.After-step-both Inv-loop μ-loop
 
 abbrev lent : stepped → tie.After-shared-slice-known5 Inv-loop μ-loop
 lent d = d .before .before .before
 
-abbrev turn : stepped → tie.In-loop Inv-loop μ-loop
-turn d = lent d .before
+abbrev iteration : stepped → tie.In-loop Inv-loop μ-loop
+iteration d = lent d .before
 
 abbrev given : tie.In-loop Inv-loop μ-loop → tie.After-slice-known Inv-loop μ-loop
 given t = t .before .before .before
@@ -37,7 +37,7 @@ start t = read t .before .before
 
 -- the steps keep the lengths
 lengths :
-    (d : stepped) → let l = turn d .before .loop in
+    (d : stepped) → let l = iteration d .before .loop in
     SameLengths (l .state) (l .values) (d .step-both .last .1 .1 .1 .0) (d .step-both .last .1 .1 .1 .1 .0)
 lengths d = record { atoms = d .step-both .kept .1 .1 .1 .0; values = d .step-both .kept .1 .1 .1 .1 .0 }
 
@@ -73,14 +73,14 @@ same-length-2 c = search needs
 returns : tie.Need-returns Inv-loop μ-loop
 returns c =
     let d = steps (c .before) in
-    let t = turn d in
-    step-differs _ _ _ _ _ _ _ _ _ (t .before .loop .inv) _ _ (t .loop-test .taken) _ (d .step-both .ensures) (told-no refl (c .if1 .taken))
+    let t = iteration d in
+    step-differs _ _ _ _ _ _ _ _ _ (t .before .loop .inv) _ _ (t .loop-test .taken) _ (d .step-both .ensures) (said-no refl (c .if1 .taken))
 
 same-states-requires : tie.Need-same-states-requires Inv-loop μ-loop
 same-states-requires c κs =
     let a = c .before .before in
     let d = steps (a .before) in
-    let t = turn d in
+    let t = iteration d in
     stepping-small _ _ _ _ _ _ _ _ _ (t .before .loop .inv) _ _ (lengths d) (start t .pre)
 
 same-length-3 : tie.Need-same-length-3 Inv-loop μ-loop
@@ -93,9 +93,9 @@ returns-2 : tie.Need-returns-2 Inv-loop μ-loop
 returns-2 c =
     let a = answered (c .before) in
     let d = steps (a .before) in
-    let t = turn d in
-    states-differ _ _ _ _ _ _ _ _ _ (t .before .loop .inv) _ _ (t .loop-test .taken) _ (d .step-both .ensures) (told-yes refl (a .if1 .left))
-    (told-no (c .before .same-states .ensures) (c .if2 .taken))
+    let t = iteration d in
+    states-differ _ _ _ _ _ _ _ _ _ (t .before .loop .inv) _ _ (t .loop-test .taken) _ (d .step-both .ensures) (said-yes refl (a .if1 .left))
+    (said-no (c .before .same-states .ensures) (c .if2 .taken))
 
 add-i : tie.Need-add-i Inv-loop μ-loop
 add-i c = search needs
@@ -107,9 +107,9 @@ loop-again : tie.Need-loop-again Inv-loop μ-loop
 loop-again c =
     let a = answered (c .before) in
     let d = steps (a .before) in
-    let t = turn d in
-    step-on _ _ _ _ _ _ _ _ _ (t .before .loop .inv) _ _ (t .loop-test .taken) _ (d .step-both .ensures) (lengths d) (told-yes refl (a .if1 .left))
-    (told-yes (c .before .same-states .ensures) (c .if2 .left))
+    let t = iteration d in
+    step-on _ _ _ _ _ _ _ _ _ (t .before .loop .inv) _ _ (t .loop-test .taken) _ (d .step-both .ensures) (lengths d) (said-yes refl (a .if1 .left))
+    (said-yes (c .before .same-states .ensures) (c .if2 .left))
 
 same-length-5 : tie.Need-same-length-5 Inv-loop μ-loop
 same-length-5 c = search needs

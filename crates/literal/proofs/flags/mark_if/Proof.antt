@@ -16,7 +16,9 @@ returns : tie.Need-returns
 returns c = ap (λ (t : Bool). markIf t (c .before .before .args .marks .now) (c .before .before .args .l)) (sym (c .before .if1 .taken))
 
 returns-2 : tie.Need-returns-2
-returns-2 c = mark-out _ _ (c .if2 .left) ∙ ap (λ (t : Bool). markIf t (c .before .before .args .marks .now) (c .before .before .args .l)) (sym (c .before .if1 .taken))
+returns-2 c =
+    mark-out _ _ (c .if2 .left)
+    ∙ ap (λ (t : Bool). markIf t (c .before .before .args .marks .now) (c .before .before .args .l)) (sym (c .before .if1 .taken))
 
 returns-3 : tie.Need-returns-3
 returns-3 c = ap (λ (t : Bool). markIf t (c .before .args .marks .now) (c .before .args .l)) (sym (c .if1 .left))

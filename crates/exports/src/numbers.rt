@@ -1,11 +1,11 @@
 // Answers as numbers: the number of the question, 0 for a finding, and two values or places.
 ghost use mathlib.Core.Path.{_≡_};
 ghost use Rattle.answer.specs.Answer.{placed, verdictAnswer, testAnswer, countAnswer};
-ghost use Rattle.exports.specs.Told.{told, toldRefusal, toldVerdict, toldTest, toldCount, toldMade};
+ghost use Rattle.exports.specs.Returned.{returned, returnedRefusal, returnedVerdict, returnedTest, returnedCount, returnedMade};
 ghost use Rattle.synthesis.specs.Answer.{synthesisAnswer};
 
 fn findings(value: usize, other: usize, first: &mut u64, second: &mut u64) -> u32
-    ensures { λ r. ⌜ told r (now (first .exit)) (now (second .exit)) ≡ told 0 value other ⌝ }
+    ensures { λ r. ⌜ returned r (now (first .exit)) (now (second .exit)) ≡ returned 0 value other ⌝ }
 {
     *first = value as u64;
     *second = other as u64;
@@ -13,13 +13,13 @@ fn findings(value: usize, other: usize, first: &mut u64, second: &mut u64) -> u3
 }
 
 fn finding(value: usize, first: &mut u64, second: &mut u64) -> u32
-    ensures { λ r. ⌜ told r (now (first .exit)) (now (second .exit)) ≡ told 0 value 0 ⌝ }
+    ensures { λ r. ⌜ returned r (now (first .exit)) (now (second .exit)) ≡ returned 0 value 0 ⌝ }
 {
     findings(value, 0, first, second)
 }
 
 fn refusal(f: answer::Refusal, first: &mut u64, second: &mut u64) -> u32
-    ensures { λ r. ⌜ told r (now (first .exit)) (now (second .exit)) ≡ toldRefusal (placed f) ⌝ }
+    ensures { λ r. ⌜ returned r (now (first .exit)) (now (second .exit)) ≡ returnedRefusal (placed f) ⌝ }
 {
     *first = f.first as u64;
     *second = f.second as u64;
@@ -27,7 +27,7 @@ fn refusal(f: answer::Refusal, first: &mut u64, second: &mut u64) -> u32
 }
 
 pub fn verdict(v: answer::Verdict, first: &mut u64, second: &mut u64) -> u32
-    ensures { λ r. ⌜ told r (now (first .exit)) (now (second .exit)) ≡ toldVerdict (verdictAnswer v) ⌝ }
+    ensures { λ r. ⌜ returned r (now (first .exit)) (now (second .exit)) ≡ returnedVerdict (verdictAnswer v) ⌝ }
 {
     match v {
         answer::Verdict::Fine => finding(0, first, second),
@@ -36,7 +36,7 @@ pub fn verdict(v: answer::Verdict, first: &mut u64, second: &mut u64) -> u32
 }
 
 pub fn test(t: answer::Tested, first: &mut u64, second: &mut u64) -> u32
-    ensures { λ r. ⌜ told r (now (first .exit)) (now (second .exit)) ≡ toldTest (testAnswer t) ⌝ }
+    ensures { λ r. ⌜ returned r (now (first .exit)) (now (second .exit)) ≡ returnedTest (testAnswer t) ⌝ }
 {
     match t {
         answer::Tested::Holds => finding(1, first, second),
@@ -46,7 +46,7 @@ pub fn test(t: answer::Tested, first: &mut u64, second: &mut u64) -> u32
 }
 
 pub fn count(c: answer::Counted, first: &mut u64, second: &mut u64) -> u32
-    ensures { λ r. ⌜ told r (now (first .exit)) (now (second .exit)) ≡ toldCount (countAnswer c) ⌝ }
+    ensures { λ r. ⌜ returned r (now (first .exit)) (now (second .exit)) ≡ returnedCount (countAnswer c) ⌝ }
 {
     match c {
         answer::Counted::Count(k) => finding(k, first, second),
@@ -55,7 +55,7 @@ pub fn count(c: answer::Counted, first: &mut u64, second: &mut u64) -> u32
 }
 
 pub fn made(s: synthesis::Synthesis, first: &mut u64, second: &mut u64) -> u32
-    ensures { λ r. ⌜ told r (now (first .exit)) (now (second .exit)) ≡ toldMade (synthesisAnswer s) ⌝ }
+    ensures { λ r. ⌜ returned r (now (first .exit)) (now (second .exit)) ≡ returnedMade (synthesisAnswer s) ⌝ }
 {
     match s {
         synthesis::Synthesis::Found(rows, rounds) => findings(rows, rounds, first, second),
