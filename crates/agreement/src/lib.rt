@@ -16,10 +16,10 @@ mod steps; // steps.rt: a step for every number of a list
 mod list_run; // list_run.rt: the list runs
 
 // Room for a re-encoded image: the longest has as many words.
-fn image_room() -> [u16; 32768]
+fn image_room() -> [u16; fdr_image::MOST_WORDS]
     ensures { λ r. ⌜ length r ≡ mostFdrImage ⌝ }
 {
-    [0u16; 32768]
+    [0u16; fdr_image::MOST_WORDS]
 }
 
 // The list by steps, and as a list run.

@@ -27,7 +27,7 @@ pub const MOST_TEXT: usize = (6 * clause::WIDTH + 1) * clause::MOST_ROWS
 const MOST_WORDS: usize = 8194;
 
 // The most bytes of an input.
-const MOST_INPUT: usize = 2 * MOST_WORDS;
+pub const MOST_INPUT: usize = 2 * MOST_WORDS;
 
 // Whether the input has the bytes of n, limit and an image that is not too long.
 fn is_input(input: &[u8]) -> bool

@@ -12,21 +12,21 @@ ghost use Rattle.writing.specs.Writing.{Wrote};
 ghost use Rattle.card.specs.Text.{countsLine, setText, groupsLine};
 
 // Writes a number as a field after another.
-fn write_number(out: &mut [u8], at: usize, n: usize) -> usize
-    requires { ⌜ at + length (32 ∷ decimal n) ≤ length (now out) ⌝ }
-    ensures { λ r. ⌜ Wrote (now (out .entry)) at (32 ∷ decimal n) (now (out .exit)) r ⌝ }
+fn write_number(out: &mut [u8], at: usize, number: usize) -> usize
+    requires { ⌜ at + length (32 ∷ decimal number) ≤ length (now out) ⌝ }
+    ensures { λ r. ⌜ Wrote (now (out .entry)) at (32 ∷ decimal number) (now (out .exit)) r ⌝ }
 {
     let to = writing::byte(b' ', out, at);
-    super::text::write_decimal(out, to, n)
+    super::text::write_decimal(out, to, number)
 }
 
 // Writes a word, and a number as the field after it.
-fn write_named(out: &mut [u8], at: usize, word: &[u8], n: usize) -> usize
-    requires { ⌜ at + length (now word ++ (32 ∷ decimal n)) ≤ length (now out) ⌝ }
-    ensures { λ r. ⌜ Wrote (now (out .entry)) at (now (word .entry) ++ (32 ∷ decimal n)) (now (out .exit)) r ⌝ }
+fn write_named(out: &mut [u8], at: usize, word: &[u8], number: usize) -> usize
+    requires { ⌜ at + length (now word ++ (32 ∷ decimal number)) ≤ length (now out) ⌝ }
+    ensures { λ r. ⌜ Wrote (now (out .entry)) at (now (word .entry) ++ (32 ∷ decimal number)) (now (out .exit)) r ⌝ }
 {
     let to = writing::bytes(word, out, at);
-    write_number(out, to, n)
+    write_number(out, to, number)
 }
 
 // Writes the line of a clause.

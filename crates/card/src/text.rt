@@ -20,18 +20,18 @@ pub fn separate(out: &mut [u8], at: usize, i: usize) -> usize
 }
 
 // The last digit of a number.
-fn digit(n: usize) -> u8
-    ensures { λ r. ⌜ r ≡ 48 + n % 10 ⌝ }
+fn digit(number: usize) -> u8
+    ensures { λ r. ⌜ r ≡ 48 + number % 10 ⌝ }
 {
-    48 + (n % 10) as u8
+    48 + (number % 10) as u8
 }
 
 // Writes a number's digits at the end of `room`, and gives the place of the first.
-fn fill_digits(room: &mut [u8], n: usize) -> usize
+fn fill_digits(room: &mut [u8], number: usize) -> usize
     requires { ⌜ length (now room) ≡ 20 ⌝ }
-    ensures { λ r. ⌜ (drop r (now (room .exit)) ≡ decimal n) × (r ≤ 20) ⌝ }
+    ensures { λ r. ⌜ (drop r (now (room .exit)) ≡ decimal number) × (r ≤ 20) ⌝ }
 {
-    let mut left = n;
+    let mut left = number;
     let mut i: usize = 20;
     while 0 < i {
         i -= 1;
@@ -45,12 +45,12 @@ fn fill_digits(room: &mut [u8], n: usize) -> usize
 }
 
 // Writes a number in decimal.
-pub fn write_decimal(out: &mut [u8], at: usize, n: usize) -> usize
-    requires { ⌜ at + length (decimal n) ≤ length (now out) ⌝ }
-    ensures { λ r. ⌜ Wrote (now (out .entry)) at (decimal n) (now (out .exit)) r ⌝ }
+pub fn write_decimal(out: &mut [u8], at: usize, number: usize) -> usize
+    requires { ⌜ at + length (decimal number) ≤ length (now out) ⌝ }
+    ensures { λ r. ⌜ Wrote (now (out .entry)) at (decimal number) (now (out .exit)) r ⌝ }
 {
     let mut room = [0u8; 20];
-    let first = fill_digits(&mut room, n);
+    let first = fill_digits(&mut room, number);
     writing::bytes(&room[first..], out, at)
 }
 

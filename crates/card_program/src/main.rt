@@ -1,12 +1,14 @@
 // The card program: reads n, round limit and image as little-endian words from standard input, and writes the card to standard output.
 ghost use mathlib.Core.Path.{_≡_};
+ghost use Prim.Native.Nat.{_+_};
 ghost use lib.ListN.{length};
+ghost use Rattle.definitions.specs.Card.{mostInput};
 
 // Room for one byte more than an input may have, so that a longer one is seen.
-fn input_room() -> [u8; 16389]
-    ensures { λ r. ⌜ length r ≡ 16389 ⌝ }
+fn input_room() -> [u8; card::MOST_INPUT + 1]
+    ensures { λ r. ⌜ length r ≡ mostInput + 1 ⌝ }
 {
-    [0u8; 16389]
+    [0u8; card::MOST_INPUT + 1]
 }
 
 // Room for the longest text.

@@ -15,8 +15,8 @@ mod input; // input.rt: the words of a case and its lists
 
 // ---- A line
 
-fn field(n: u64) {
-    io::print_decimal(1, n);
+fn field(number: u64) {
+    io::print_decimal(1, number);
     let space = [b' '];
     io::write_all(1, &space);
 }

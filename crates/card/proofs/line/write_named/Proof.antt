@@ -20,15 +20,15 @@ bytes-requires : tie.Need-bytes-requires
 bytes-requires c κs =
     let s = c .before .before .before in
     let a = s .args in
-    first-room (a .word .now ++ (32 ∷ decimal (a .n))) (a .word .now) (32 ∷ decimal (a .n)) (a .out .now) (a .at) refl (s .pre)
+    first-room (a .word .now ++ (32 ∷ decimal (a .number))) (a .word .now) (32 ∷ decimal (a .number)) (a .out .now) (a .at) refl (s .pre)
 
 write-number-requires : tie.Need-write-number-requires
 write-number-requires c κs =
     let b = worded c in
     let s = start b in
     let a = s .args in
-    let whole = a .word .now ++ (32 ∷ decimal (a .n)) in
-    next-room whole (a .word .now) (32 ∷ decimal (a .n)) (a .out .now) (a .at) refl (s .pre) (b .bytes .ensures)
+    let whole = a .word .now ++ (32 ∷ decimal (a .number)) in
+    next-room whole (a .word .now) (32 ∷ decimal (a .number)) (a .out .now) (a .at) refl (s .pre) (b .bytes .ensures)
 
 same-length : tie.Need-same-length
 same-length c = search needs

@@ -11,10 +11,10 @@ use Rattle.card.proofs.text.fill_digits.Statement.{statement}
 use Rattle.card.proofs.text.fill_digits.Tie as tie
 
 abbrev Inv-loop : tie.InvT-loop
-Inv-loop room₀ n left₀ i₀ room left i = (i ≤ 20) × (length room ≡ 20) × (decimal n ≡ digits i left (drop i room))
+Inv-loop room₀ number left₀ i₀ room left i = (i ≤ 20) × (length room ≡ 20) × (decimal number ≡ digits i left (drop i room))
 
 abbrev μ-loop : tie.MeasureT-loop
-μ-loop room₀ n left₀ i₀ room left i = i
+μ-loop room₀ number left₀ i₀ room left i = i
 
 loop-holds : tie.Need-loop-holds Inv-loop μ-loop
 loop-holds c = (omega arith, (c .before .pre), digits-start (c .before .args .room .now) _ (c .before .pre))

@@ -15,8 +15,8 @@ start c = c .before .before .before
 
 digits :
     (c : tie.After-fill-digits) → let f = c .fill-digits in
-    take (20 - f .result) (drop (f .result) (f .last .0)) ≡ decimal (start c .args .n)
-digits c = let f = c .fill-digits in digits-cut (f .last .0) (f .result) (start c .args .n) (f .kept .0) (f .ensures .0)
+    take (20 - f .result) (drop (f .result) (f .last .0)) ≡ decimal (start c .args .number)
+digits c = let f = c .fill-digits in digits-cut (f .last .0) (f .result) (start c .args .number) (f .kept .0) (f .ensures .0)
 
 abbrev lent : tie.After-bytes-arg2 → tie.After-room3
 lent c = c .before .before
