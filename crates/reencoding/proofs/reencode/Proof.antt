@@ -8,7 +8,7 @@ use borrow.Author.Needs.{needs}
 use Rattle.reencoding.proofs.reencode.Statement.{statement}
 use Rattle.reencoding.proofs.reencode.Tie as tie
 
--- behind the checker: the start, with the task image, the clause words and the bytes of marks
+-- after the checker: the start, with the task image, the clause words and the bytes of marks
 abbrev lent : tie.After-accept → tie.After-slice-known
 lent d = d .before .before .before
 
