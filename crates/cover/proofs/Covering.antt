@@ -129,15 +129,15 @@ pub covered :
     (N : ℕ) (w ps ss ns ns′ : List ℕ) (n : ℕ) → ClausesRead N w → N ≤ mostAtoms → Grouped (clausesOf w) N ps ss n → length ps ≡ 2 * N
     → length ss ≡ mostAtoms → length ns′ ≡ mostAtoms → ns ≡ replicate mostAtoms 1
     → ((v : ℕ) → getD ns′ v 0 ≡ cond (any (liesIn ps v) (clausesOf w)) 0 (getD ns v 0)) → Covered N (clausesOf w) ps ss ns′ n
-covered N w ps ss ns ns′ n read few grouped ep es en ei said =
+covered N w ps ss ns ns′ n read few grouped ep es en ei omits =
     record {
       grouped = grouped;
       none = λ v h.
-          said v
+          omits v
           ∙ rw (omitted-is (clausesOf w) N ps (grouped .placed) v (literals-low N w read))
           (ap (λ (x : ℕ). cond (noneOmitted (clausesOf w) (getD (groupsBelow (clausesOf w) N) v [])) 0 x)
           (rw ei (getD-replicate mostAtoms v 1 0 (let f = grouped .few in omega arith))));
-      flags = λ v. rw (said v) (cond-low (any (liesIn ps v) (clausesOf w)) (getD ns v 0) (rw ei (one-low mostAtoms v)));
+      flags = λ v. rw (omits v) (cond-low (any (liesIn ps v) (clausesOf w)) (getD ns v 0) (rw ei (one-low mostAtoms v)));
       low = places-low (clausesOf w) N ps ss n grouped ep few;
       places = ep;
       sizes = es;

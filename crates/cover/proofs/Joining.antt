@@ -152,15 +152,15 @@ module _ (C : List (List ℕ)) (a : ℕ) where
       ap length (join-later g gs r j) ∙ omega arith
 
   -- the place of an atom that is there already
-  member-added : (x : ℕ) (g : List ℕ) → (x ≡ a → ⊥) → member x (g ++ (a ∷ [])) ≡ member x g
+  member-before : (x : ℕ) (g : List ℕ) → (x ≡ a → ⊥) → member x (g ++ (a ∷ [])) ≡ member x g
   unfolding member any
-  member-added x [] ne = rw (ne-eqb x a ne)
-  member-added x (y ∷ g) ne = ap (λ (b : Bool). eqb x y || b) (member-added x g ne)
+  member-before x [] ne = rw (ne-eqb x a ne)
+  member-before x (y ∷ g) ne = ap (λ (b : Bool). eqb x y || b) (member-before x g ne)
 
-  place-added : (x i : ℕ) (g : List ℕ) → List·Memᴰ x g → placeIn x i (g ++ (a ∷ [])) ≡ placeIn x i g
+  place-before : (x i : ℕ) (g : List ℕ) → List·Memᴰ x g → placeIn x i (g ++ (a ∷ [])) ≡ placeIn x i g
   unfolding placeIn
-  place-added x i [] m = absurd (List·Memᴰ·not-nil m)
-  place-added x i (y ∷ g) m = go (eqb x y) refl (List·Memᴰ·cases-cons m) (λ k. place-added x (suc i) g k)
+  place-before x i [] m = absurd (List·Memᴰ·not-nil m)
+  place-before x i (y ∷ g) m = go (eqb x y) refl (List·Memᴰ·cases-cons m) (λ k. place-before x (suc i) g k)
     where
       go :
           (b : Bool) → eqb x y ≡ b → (x ≡ y) ⊎ List·Memᴰ x g → (List·Memᴰ x g → placeIn x (suc i) (g ++ (a ∷ [])) ≡ placeIn x (suc i) g)
@@ -185,10 +185,10 @@ module _ (C : List (List ℕ)) (a : ℕ) where
     where
       go : (b : Bool) → member x g ≡ b → placeOf x v ((g ++ (a ∷ [])) ∷ gs) ≡ placeOf x v (g ∷ gs)
       go true e =
-          place-here x v (g ++ (a ∷ [])) gs (member-added x g ne ∙ e)
-          ∙ ap (λ (n : ℕ). record { variable = v; value = n }) (place-added x 0 g (member-of x g e))
+          place-here x v (g ++ (a ∷ [])) gs (member-before x g ne ∙ e)
+          ∙ ap (λ (n : ℕ). record { variable = v; value = n }) (place-before x 0 g (member-of x g e))
           ∙ sym (place-here x v g gs e)
-      go false e = place-on x v (g ++ (a ∷ [])) gs (member-added x g ne ∙ e) ∙ sym (place-on x v g gs e)
+      go false e = place-on x v (g ++ (a ∷ [])) gs (member-before x g ne ∙ e) ∙ sym (place-on x v g gs e)
   place-old (g ∷ gs) (suc r) j x w m ne v =
       ap (placeOf x v) (join-later g gs r j) ∙ go (member x g) refl w m (λ w k. place-old gs r (joins-tail g gs r j) x w k ne (suc v))
     where

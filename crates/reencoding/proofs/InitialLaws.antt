@@ -78,14 +78,14 @@ module _ (t : List ℕ) (at : ℕ) (vs t′ : List ℕ) (end : ℕ) (w : Wrote t
   pub words-end : end ≤ length t′
   words-end = let n = w .next in let a = length-sets t at vs in rw (w .target) (omega arith)
 
-  after-front : drop at t′ ≡ vs ++ drop (at + length vs) t
-  after-front = rw (wrote-is, append-assoc (take at t) vs (drop (at + length vs) t)) (drop-at (take at t) (vs ++ drop (at + length vs) t) at front)
+  after : drop at t′ ≡ vs ++ drop (at + length vs) t
+  after = rw (wrote-is, append-assoc (take at t) vs (drop (at + length vs) t)) (drop-at (take at t) (vs ++ drop (at + length vs) t) at front)
 
   pub part-is : take (end - at) (drop at t′) ≡ vs
   part-is =
       let n = w .next in
       let e : end - at ≡ length vs = omega arith in
-      rw (e, after-front) (take-at vs (drop (at + length vs) t) (length vs) refl)
+      rw (e, after) (take-at vs (drop (at + length vs) t) (length vs) refl)
 
   front-stays : take at t′ ≡ take at t
   front-stays = rw (wrote-is, append-assoc (take at t) vs (drop (at + length vs) t)) (take-at (take at t) (vs ++ drop (at + length vs) t) at front)
@@ -94,7 +94,7 @@ module _ (t : List ℕ) (at : ℕ) (vs t′ : List ℕ) (end : ℕ) (w : Wrote t
   back-stays =
       let n = w .next in
       let e : end - at ≡ length vs = omega arith in
-      rw (e, after-front) (drop-at vs (drop (at + length vs) t) (length vs) refl)
+      rw (e, after) (drop-at vs (drop (at + length vs) t) (length vs) refl)
 
   -- the words become others in their place
   pub wrote-again : (vs′ : List ℕ) → length vs′ ≡ length vs → Wrote t at vs′ (take at t′ ++ (vs′ ++ drop (end - at) (drop at t′))) end
