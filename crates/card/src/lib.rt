@@ -24,7 +24,7 @@ pub const MOST_TEXT: usize = (6 * clause::WIDTH + 1) * clause::MOST_ROWS
     + 128;
 
 // The most words of an input: n, limit and the longest image.
-const MOST_WORDS: usize = 8194;
+const MOST_WORDS: usize = 2 + task::MOST_WORDS;
 
 // The most bytes of an input.
 pub const MOST_INPUT: usize = 2 * MOST_WORDS;
