@@ -8,7 +8,7 @@ use std::fmt::Write;
 pub const FILL: u16 = 7;
 
 /// A call by its number, with its two numbers and four lists; what these mean
-/// is said in crates/cases/src (task.rt, clause.rt, fdr.rt, agreement.rt).
+/// is said in crates/cases/src/lib.rt.
 #[derive(Clone, Default)]
 pub struct Case {
     pub call: u16,
