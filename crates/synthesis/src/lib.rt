@@ -59,8 +59,8 @@ fn clear(clauses: &mut [u16], number: u16) -> Synthesis
 }
 
 // Room for a flag for each operator and number of literals.
-fn due_room() -> [u8; 1025 * WIDTH] {
-    [0u8; 1025 * WIDTH]
+fn due_room() -> [u8; (task::MOST_OPERATORS + 1) * WIDTH] {
+    [0u8; (task::MOST_OPERATORS + 1) * WIDTH]
 }
 
 // The step to the next set that was built.
