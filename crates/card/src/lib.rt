@@ -43,7 +43,7 @@ fn is_input(input: &[u8]) -> bool
 }
 
 // Writes the text of a refusal.
-fn write_refused(out: &mut [u8], f: answer::Refusal) -> usize
+fn write_refused(out: &mut [u8], f: Refusal) -> usize
     requires { ⌜ mostText ≤ length (now out) ⌝ }
     ensures { λ r. ⌜ Wrote (now (out .entry)) 0 (refusedText (placed f)) (now (out .exit)) r ⌝ }
 {

@@ -1,4 +1,5 @@
 // The lines of the card but those of groups.
+use answer::Refusal;
 use literal::Literal;
 ghost use mathlib.Core.Path.{_≡_};
 ghost use mathlib.Core.List.{[], _∷_, _++_};
@@ -62,7 +63,7 @@ fn write_clauses(out: &mut [u8], at: usize, clauses: &[u16]) -> usize
 }
 
 // Writes the line of a refusal.
-pub fn write_refusal(out: &mut [u8], at: usize, f: answer::Refusal) -> usize
+pub fn write_refusal(out: &mut [u8], at: usize, f: Refusal) -> usize
     requires { ⌜ at + length (refusedText (placed f)) ≤ length (now out) ⌝ }
     ensures { λ r. ⌜ Wrote (now (out .entry)) at (refusedText (placed f)) (now (out .exit)) r ⌝ }
 {

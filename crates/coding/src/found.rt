@@ -33,8 +33,7 @@ pub fn find(image: &[u16], state: &[u8], values: &mut [usize]) -> bool
     while a < state.len() {
         let variable = fdr_image::atom_variable(image, a);
         let value = fdr_image::atom_value(image, a);
-        let first = note(values, variable, value, state[a]);
-        if !first {
+        if !note(values, variable, value, state[a]) {
             return false;
         }
         a += 1;
@@ -61,8 +60,7 @@ pub fn are_codable(image: &[u16], values: &[usize]) -> bool
     let variables = fdr_image::variables(image);
     let mut v: usize = 0;
     while v < variables {
-        let codable = is_codable(image, values[v], v);
-        if !codable {
+        if !is_codable(image, values[v], v) {
             return false;
         }
         v += 1;

@@ -18,12 +18,10 @@ fn encode_read(image: &[u16], state: &[u8], target: &mut [u16]) -> Verdict
     ensures { λ r. ⌜ outcome (verdictAnswer r) (now (target .exit)) ≡ becomes (now (target .entry)) (fromAtoms (fdrOf (now (image .entry))) (now (state .entry))) ⌝ }
 {
     let mut values = [0usize; literal::MOST_ATOMS];
-    let single = found::find(image, state, &mut values);
-    if !single {
+    if !found::find(image, state, &mut values) {
         return answer::refuse(Refusal::NOT_CODABLE);
     }
-    let codable = found::are_codable(image, &values);
-    if !codable {
+    if !found::are_codable(image, &values) {
         return answer::refuse(Refusal::NOT_CODABLE);
     }
     found::write(image, &values, target);
@@ -38,8 +36,7 @@ pub fn encode(image: &[u16], state: &[u8], target: &mut [u16]) -> Verdict
     match reading {
         Verdict::Refused(f) => Verdict::Refused(f),
         Verdict::Fine => {
-            let right = literal::is_state(state, fdr_image::atoms(image));
-            if !right {
+            if !literal::is_state(state, fdr_image::atoms(image)) {
                 return answer::refuse(Refusal::STATE);
             }
             if target.len() != fdr_image::variables(image) {
@@ -58,8 +55,7 @@ pub fn decode(image: &[u16], state: &[u16], target: &mut [u8]) -> Verdict
     match reading {
         Verdict::Refused(f) => Verdict::Refused(f),
         Verdict::Fine => {
-            let right = fdr_image::is_state(image, state);
-            if !right {
+            if !fdr_image::is_state(image, state) {
                 return answer::refuse(Refusal::STATE);
             }
             if target.len() != fdr_image::atoms(image) {

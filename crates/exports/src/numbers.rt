@@ -3,6 +3,7 @@ ghost use mathlib.Core.Path.{_≡_};
 ghost use Rattle.answer.specs.Answer.{placed, verdictAnswer, testAnswer, countAnswer};
 ghost use Rattle.exports.specs.Returned.{returned, returnedRefusal, returnedVerdict, returnedTest, returnedCount, returnedMade};
 ghost use Rattle.synthesis.specs.Answer.{synthesisAnswer};
+use answer::Refusal;
 
 fn findings(value: usize, other: usize, first: &mut u64, second: &mut u64) -> u32
     ensures { λ r. ⌜ returned r (now (first .exit)) (now (second .exit)) ≡ returned 0 value other ⌝ }
@@ -18,7 +19,7 @@ fn finding(value: usize, first: &mut u64, second: &mut u64) -> u32
     findings(value, 0, first, second)
 }
 
-fn refusal(f: answer::Refusal, first: &mut u64, second: &mut u64) -> u32
+fn refusal(f: Refusal, first: &mut u64, second: &mut u64) -> u32
     ensures { λ r. ⌜ returned r (now (first .exit)) (now (second .exit)) ≡ returnedRefusal (placed f) ⌝ }
 {
     *first = f.first as u64;

@@ -89,8 +89,7 @@ fn note_row(
     if kind != pass {
         return true;
     }
-    let fires = super::truth::all_true(state, conditions);
-    if !fires {
+    if !super::truth::all_true(state, conditions) {
         return true;
     }
     note_kind(changes, state, kind, variable, value)
@@ -113,8 +112,7 @@ fn note_rows(block: &[u16], state: &[u16], pass: u16, changes: &mut [usize]) -> 
             end,
         } = fdr_image::block::row(block, at, left);
         let conditions = &block[from..end];
-        let free = note_row(changes, state, conditions, pass, kind, variable, value);
-        if !free {
+        if !note_row(changes, state, conditions, pass, kind, variable, value) {
             return false;
         }
         at = end;
@@ -128,8 +126,7 @@ pub fn note(block: &[u16], state: &[u16], changes: &mut [usize]) -> bool
     requires { ⌜ LowBlock mostAtoms (now block) × (length (now changes) ≡ mostAtoms) ⌝ }
     ensures { λ r. ⌜ (noted r (now (changes .exit)) ≡ noteFired (now (state .entry)) (fdrFired (now (state .entry)) (operatorIn (now (block .entry)))) (now (changes .entry))) × NotedFor (operatorIn (now (block .entry)) .rows) (now (changes .entry)) (now (changes .exit)) ⌝ }
 {
-    let agree = note_rows(block, state, SETS, changes);
-    if !agree {
+    if !note_rows(block, state, SETS, changes) {
         return false;
     }
     note_rows(block, state, CLEARS, changes)

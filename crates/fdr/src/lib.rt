@@ -27,8 +27,7 @@ pub fn read_state(image: &[u16], state: &[u16]) -> Verdict
     match reading {
         Verdict::Refused(f) => Verdict::Refused(f),
         Verdict::Fine => {
-            let right = fdr_image::is_state(image, state);
-            if !right {
+            if !fdr_image::is_state(image, state) {
                 return answer::refuse(Refusal::STATE);
             }
             Verdict::Fine
@@ -51,13 +50,11 @@ fn apply(image: &[u16], block: &[u16], state: &mut [u16], changes: &mut [usize])
     requires { ⌜ Applying (now image) (now block) (now state) (now changes) ⌝ }
     ensures { λ r. ⌜ (outcome (verdictAnswer r) (now (state .exit)) ≡ becomes (now (state .entry)) (applied (fdrOf (now (image .entry))) (now (state .entry)) (fdrFired (now (state .entry)) (operatorIn (now (block .entry)))))) × NotedFor (operatorIn (now (block .entry)) .rows) (now (changes .entry)) (now (changes .exit)) ⌝ }
 {
-    let free = change::note(block, state, changes);
-    if !free {
+    if !change::note(block, state, changes) {
         return answer::refuse(Refusal::CONFLICT);
     }
     let domains = fdr_image::domains(image);
-    let there = change::are_nones_there(block, domains, changes);
-    if !there {
+    if !change::are_nones_there(block, domains, changes) {
         return answer::refuse(Refusal::OMITTED_NONE);
     }
     change::write(block, domains, changes, state);
@@ -69,8 +66,7 @@ fn step_block(image: &[u16], block: &[u16], state: &mut [u16], changes: &mut [us
     requires { ⌜ Applying (now image) (now block) (now state) (now changes) ⌝ }
     ensures { λ r. ⌜ (outcome (verdictAnswer r) (now (state .exit)) ≡ becomes (now (state .entry)) (stepped (fdrOf (now (image .entry))) (now (state .entry)) (operatorIn (now (block .entry))))) × (now (changes .exit) ≡ now (changes .entry)) ⌝ }
 {
-    let holds = precondition_holds(block, state);
-    if !holds {
+    if !precondition_holds(block, state) {
         return answer::refuse(Refusal::PRECONDITION);
     }
     let applied = apply(image, block, state, changes);

@@ -33,8 +33,7 @@ pub fn all_true(state: &[u16], literals: &[u16]) -> bool
     while i < literals.len() / 2 {
         let variable = literal::wide(literals[2 * i]);
         let code = literal::wide(literals[2 * i + 1]);
-        let holds = is_true(state, variable, code);
-        if !holds {
+        if !is_true(state, variable, code) {
             return false;
         }
         i += 1;

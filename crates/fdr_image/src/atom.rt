@@ -61,8 +61,7 @@ fn are_given_once(domains: &[u16], atoms: &[u16]) -> bool
     ensures { λ r. ⌜ r ≡ eachGivenOnce (domainsIn (now (domains .entry))) (placesIn (now (atoms .entry))) ⌝ }
 {
     let mut starts = literal::room::values();
-    let full = put_starts(domains, &mut starts, atoms.len() / 2);
-    if !full {
+    if !put_starts(domains, &mut starts, atoms.len() / 2) {
         return false;
     }
     are_new(atoms, &starts)
@@ -76,8 +75,7 @@ fn are_placed(domains: &[u16], atoms: &[u16]) -> bool
     while i < atoms.len() / 2 {
         let variable = literal::wide(atoms[2 * i]);
         let value = literal::wide(atoms[2 * i + 1]);
-        let right = super::domain::is_atom_value(domains, variable, value);
-        if !right {
+        if !super::domain::is_atom_value(domains, variable, value) {
             return false;
         }
         i += 1;
@@ -99,8 +97,7 @@ pub fn are_atoms(domains: &[u16], atoms: &[u16]) -> bool
     if literal::MOST_ATOMS < atoms.len() / 2 {
         return false;
     }
-    let placed = are_placed(domains, atoms);
-    if !placed {
+    if !are_placed(domains, atoms) {
         return false;
     }
     are_given_once(domains, atoms)

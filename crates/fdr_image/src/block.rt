@@ -40,12 +40,10 @@ fn is_kind(word: u16) -> bool
 fn is_row(domains: &[u16], kind: u16, variable: usize, value: usize, conditions: &[u16]) -> bool
     ensures { λ r. ⌜ r ≡ fdrRowRight (domainsIn (now (domains .entry))) (row kind variable value (literalsIn (now (conditions .entry)))) ⌝ }
 {
-    let known = is_kind(kind);
-    if !known {
+    if !is_kind(kind) {
         return false;
     }
-    let named = super::domain::is_atom_value(domains, variable, value);
-    if !named {
+    if !super::domain::is_atom_value(domains, variable, value) {
         return false;
     }
     super::domain::are_literals(domains, conditions)
@@ -95,8 +93,7 @@ fn are_rows(domains: &[u16], block: &[u16], from: usize, rows: usize) -> bool
     let mut at = from;
     let mut left = rows;
     while 0 < left {
-        let whole = is_whole(block, at);
-        if !whole {
+        if !is_whole(block, at) {
             return false;
         }
         let RowPart {
@@ -106,8 +103,7 @@ fn are_rows(domains: &[u16], block: &[u16], from: usize, rows: usize) -> bool
             from,
             end,
         } = row_at(block, at);
-        let right = is_row(domains, kind, variable, value, &block[from..end]);
-        if !right {
+        if !is_row(domains, kind, variable, value, &block[from..end]) {
             return false;
         }
         at = end;
@@ -127,8 +123,7 @@ pub fn is_block(domains: &[u16], block: &[u16]) -> bool
     if block.len() <= end {
         return false;
     }
-    let precondition = super::domain::are_literals(domains, &block[1..end]);
-    if !precondition {
+    if !super::domain::are_literals(domains, &block[1..end]) {
         return false;
     }
     let rows = literal::wide(block[end]);

@@ -88,8 +88,7 @@ pub fn are_literals(domains: &[u16], words: &[u16]) -> bool
     while i < words.len() / 2 {
         let variable = literal::wide(words[2 * i]);
         let code = literal::wide(words[2 * i + 1]);
-        let right = is_atom_value(domains, variable, code / 2);
-        if !right {
+        if !is_atom_value(domains, variable, code / 2) {
             return false;
         }
         i += 1;

@@ -57,8 +57,7 @@ fn are_operators(image: &[u16], domains: &[u16], operators: usize) -> bool
 {
     let mut i: usize = 0;
     while i < operators {
-        let right = block::is_block(domains, directory::part(image, i + 4));
-        if !right {
+        if !block::is_block(domains, directory::part(image, i + 4)) {
             return false;
         }
         i += 1;
@@ -71,8 +70,7 @@ fn are_rules(image: &[u16], domains: &[u16]) -> bool
     requires { ⌜ LaidOver (now domains) (now image) ⌝ }
     ensures { λ r. ⌜ r ≡ rulesRight (domainsIn (now (domains .entry))) (now (image .entry)) ⌝ }
 {
-    let goal = is_goal(domains, directory::part(image, 3));
-    if !goal {
+    if !is_goal(domains, directory::part(image, 3)) {
         return false;
     }
     are_operators(image, domains, literal::wide(image[1]))
@@ -83,12 +81,10 @@ fn is_rest(image: &[u16], domains: &[u16]) -> bool
     requires { ⌜ LaidOver (now domains) (now image) ⌝ }
     ensures { λ r. ⌜ r ≡ restRight (domainsIn (now (domains .entry))) (now (image .entry)) ⌝ }
 {
-    let initial = domain::are_values(domains, directory::part(image, 2));
-    if !initial {
+    if !domain::are_values(domains, directory::part(image, 2)) {
         return false;
     }
-    let atoms = atom::are_atoms(domains, directory::part(image, 1));
-    if !atoms {
+    if !atom::are_atoms(domains, directory::part(image, 1)) {
         return false;
     }
     are_rules(image, domains)
@@ -100,8 +96,7 @@ fn are_parts(image: &[u16]) -> bool
     ensures { λ r. ⌜ r ≡ partsRight (now (image .entry)) ⌝ }
 {
     let domains = directory::part(image, 0);
-    let sized = domain::are_domains(domains, literal::wide(image[0]));
-    if !sized {
+    if !domain::are_domains(domains, literal::wide(image[0])) {
         return false;
     }
     is_rest(image, domains)
@@ -114,12 +109,10 @@ fn is_right(image: &[u16]) -> bool
     if image.len() < 2 {
         return false;
     }
-    let counts = are_counts(image);
-    if !counts {
+    if !are_counts(image) {
         return false;
     }
-    let laid = directory::is_directory(image, literal::wide(image[1]) + 4);
-    if !laid {
+    if !directory::is_directory(image, literal::wide(image[1]) + 4) {
         return false;
     }
     are_parts(image)
@@ -129,8 +122,7 @@ fn is_right(image: &[u16]) -> bool
 pub fn read(image: &[u16]) -> Verdict
     ensures { λ r. ⌜ verdictAnswer r ≡ verdict (readFdr (now (image .entry))) ⌝ }
 {
-    let right = is_right(image);
-    if !right {
+    if !is_right(image) {
         return answer::refuse(Refusal::FDR_IMAGE);
     }
     Verdict::Fine

@@ -161,8 +161,7 @@ pub fn all_true(state: &[u8], literals: &[u16]) -> bool
     let mut i: usize = 0;
     while i < literals.len() {
         let l = literals[i];
-        let holds = is_true(state, Literal { code: l });
-        if !holds {
+        if !is_true(state, Literal { code: l }) {
             return false;
         }
         i += 1;

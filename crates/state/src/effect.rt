@@ -32,8 +32,7 @@ fn both_marked(marks: &[u8], l: usize) -> bool
     requires { ⌜ length (now marks) ≤ mostLiterals ⌝ }
     ensures { λ r. ⌜ r ≡ bothMarked (now (marks .entry)) l ⌝ }
 {
-    let marked = literal::flags::has(marks, l);
-    if !marked {
+    if !literal::flags::has(marks, l) {
         return false;
     }
     literal::flags::has(marks, literal::complement(l))

@@ -29,8 +29,7 @@ pub fn read_state(image: &[u16], state: &[u8]) -> Verdict
     match reading {
         Verdict::Refused(f) => Verdict::Refused(f),
         Verdict::Fine => {
-            let right = literal::is_state(state, task::atoms(image));
-            if !right {
+            if !literal::is_state(state, task::atoms(image)) {
                 return answer::refuse(Refusal::STATE);
             }
             Verdict::Fine
@@ -53,12 +52,10 @@ fn step_block(block: &[u16], state: &mut [u8], marks: &mut [u8]) -> Verdict
     requires { ⌜ Applies (now block) (now state) (now marks) ⌝ }
     ensures { λ r. ⌜ (outcome (verdictAnswer r) (now (state .exit)) ≡ becomes (now (state .entry)) (applied (now (state .entry)) (operatorIn (now (block .entry))))) × (now (marks .exit) ≡ now (marks .entry)) ⌝ }
 {
-    let holds = precondition_holds(block, state);
-    if !holds {
+    if !precondition_holds(block, state) {
         return answer::refuse(Refusal::PRECONDITION);
     }
-    let done = effect::apply(block, state, marks);
-    if !done {
+    if !effect::apply(block, state, marks) {
         return answer::refuse(Refusal::CONFLICT);
     }
     Verdict::Fine

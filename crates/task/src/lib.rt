@@ -70,12 +70,10 @@ fn read_lists(image: &[u16], atoms: usize, operators: usize) -> Verdict
     requires { ⌜ Laid (now image) atoms operators ⌝ }
     ensures { λ r. ⌜ verdictAnswer r ≡ listsAnswer (now (image .entry)) atoms operators ⌝ }
 {
-    let initial = literal::is_atom_list(directory::part(image, 0), atoms);
-    if !initial {
+    if !literal::is_atom_list(directory::part(image, 0), atoms) {
         return answer::refuse(Refusal::INITIAL);
     }
-    let goal = literal::is_literal_list(directory::part(image, 1), atoms);
-    if !goal {
+    if !literal::is_literal_list(directory::part(image, 1), atoms) {
         return answer::refuse(Refusal::GOAL);
     }
     check_operators(image, atoms, operators)
@@ -87,8 +85,7 @@ fn read_parts(image: &[u16]) -> Verdict
     ensures { λ r. ⌜ verdictAnswer r ≡ partsAnswer (now (image .entry)) ⌝ }
 {
     let operators = literal::wide(image[1]);
-    let laid = directory::is_directory(image, operators + 2);
-    if !laid {
+    if !directory::is_directory(image, operators + 2) {
         return answer::refuse(Refusal::DIRECTORY);
     }
     read_lists(image, literal::wide(image[0]), operators)
@@ -98,12 +95,10 @@ fn read_parts(image: &[u16]) -> Verdict
 pub fn read(image: &[u16]) -> Verdict
     ensures { λ r. ⌜ verdictAnswer r ≡ verdict (readTask (now (image .entry))) ⌝ }
 {
-    let size = is_size(image);
-    if !size {
+    if !is_size(image) {
         return answer::refuse(Refusal::IMAGE_SIZE);
     }
-    let counts = are_counts(image);
-    if !counts {
+    if !are_counts(image) {
         return answer::refuse(Refusal::COUNTS);
     }
     read_parts(image)
