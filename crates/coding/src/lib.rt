@@ -33,18 +33,16 @@ pub fn encode(image: &[u16], state: &[u8], target: &mut [u16]) -> Verdict
     ensures { λ r. ⌜ outcome (verdictAnswer r) (now (target .exit)) ≡ becomes (now (target .entry)) (fromAtomsCall (now (image .entry)) (now (state .entry)) (length (now (target .entry)))) ⌝ }
 {
     let reading = fdr_image::read(image);
-    match reading {
-        Verdict::Refused(f) => Verdict::Refused(f),
-        Verdict::Fine => {
-            if !literal::is_state(state, fdr_image::atoms(image)) {
-                return answer::refuse(Refusal::STATE);
-            }
-            if target.len() != fdr_image::variables(image) {
-                return answer::refuse(Refusal::STATE);
-            }
-            encode_read(image, state, target)
-        }
+    if let Verdict::Refused(f) = reading {
+        return Verdict::Refused(f);
     }
+    if !literal::is_state(state, fdr_image::atoms(image)) {
+        return answer::refuse(Refusal::STATE);
+    }
+    if target.len() != fdr_image::variables(image) {
+        return answer::refuse(Refusal::STATE);
+    }
+    encode_read(image, state, target)
 }
 
 // Codes a finite-domain state to atoms: the task's state goes to the target.
@@ -52,17 +50,15 @@ pub fn decode(image: &[u16], state: &[u16], target: &mut [u8]) -> Verdict
     ensures { λ r. ⌜ outcome (verdictAnswer r) (now (target .exit)) ≡ becomes (now (target .entry)) (toAtomsCall (now (image .entry)) (now (state .entry)) (length (now (target .entry)))) ⌝ }
 {
     let reading = fdr_image::read(image);
-    match reading {
-        Verdict::Refused(f) => Verdict::Refused(f),
-        Verdict::Fine => {
-            if !fdr_image::is_state(image, state) {
-                return answer::refuse(Refusal::STATE);
-            }
-            if target.len() != fdr_image::atoms(image) {
-                return answer::refuse(Refusal::STATE);
-            }
-            atom::write(image, state, target);
-            Verdict::Fine
-        }
+    if let Verdict::Refused(f) = reading {
+        return Verdict::Refused(f);
     }
+    if !fdr_image::is_state(image, state) {
+        return answer::refuse(Refusal::STATE);
+    }
+    if target.len() != fdr_image::atoms(image) {
+        return answer::refuse(Refusal::STATE);
+    }
+    atom::write(image, state, target);
+    Verdict::Fine
 }

@@ -24,15 +24,13 @@ pub fn read_state(image: &[u16], state: &[u16]) -> Verdict
     ensures { λ r. ⌜ verdictAnswer r ≡ stateAnswer fdrReader (now (image .entry)) (now (state .entry)) ⌝ }
 {
     let reading = fdr_image::read(image);
-    match reading {
-        Verdict::Refused(f) => Verdict::Refused(f),
-        Verdict::Fine => {
-            if !fdr_image::is_state(image, state) {
-                return answer::refuse(Refusal::STATE);
-            }
-            Verdict::Fine
-        }
+    if let Verdict::Refused(f) = reading {
+        return Verdict::Refused(f);
     }
+    if !fdr_image::is_state(image, state) {
+        return answer::refuse(Refusal::STATE);
+    }
+    Verdict::Fine
 }
 
 // Whether the precondition of a block holds in a state.
@@ -100,10 +98,10 @@ pub fn step(image: &[u16], state: &mut [u16], operator: u16) -> Verdict
     ensures { λ r. ⌜ outcome (verdictAnswer r) (now (state .exit)) ≡ becomes (now (state .entry)) (stepFdr (now (image .entry)) (now (state .entry)) operator) ⌝ }
 {
     let reading = read_state(image, state);
-    match reading {
-        Verdict::Refused(f) => Verdict::Refused(f),
-        Verdict::Fine => step_read(image, state, operator),
+    if let Verdict::Refused(f) = reading {
+        return Verdict::Refused(f);
     }
+    step_read(image, state, operator)
 }
 
 // The steps of a list in a state, with changes that note nothing: questions 19 to 22 of each operator of the list.
@@ -143,10 +141,10 @@ pub fn run(image: &[u16], state: &mut [u16], list: &[u16]) -> Counted
     ensures { λ r. ⌜ outcome (countAnswer r) (now (state .exit)) ≡ runFdr (now (image .entry)) (now (state .entry)) (now (list .entry)) ⌝ }
 {
     let reading = read_state(image, state);
-    match reading {
-        Verdict::Refused(f) => Counted::Refused(f),
-        Verdict::Fine => run_read(image, state, list),
+    if let Verdict::Refused(f) = reading {
+        return Counted::Refused(f);
     }
+    run_read(image, state, list)
 }
 
 // Whether the goal is met in a state.
@@ -154,10 +152,10 @@ pub fn goal_met(image: &[u16], state: &[u16]) -> Tested
     ensures { λ r. ⌜ testAnswer r ≡ goalFdr (now (image .entry)) (now (state .entry)) ⌝ }
 {
     let reading = read_state(image, state);
-    match reading {
-        Verdict::Refused(f) => Tested::Refused(f),
-        Verdict::Fine => answer::whether(truth::all_true(state, fdr_image::goal(image))),
+    if let Verdict::Refused(f) = reading {
+        return Tested::Refused(f);
     }
+    answer::whether(truth::all_true(state, fdr_image::goal(image)))
 }
 
 // Sets a state to the initial one.
@@ -165,14 +163,12 @@ pub fn set_initial(image: &[u16], state: &mut [u16]) -> Verdict
     ensures { λ r. ⌜ outcome (verdictAnswer r) (now (state .exit)) ≡ becomes (now (state .entry)) (startFdr (now (image .entry)) (now (state .entry))) ⌝ }
 {
     let reading = fdr_image::read(image);
-    match reading {
-        Verdict::Refused(f) => Verdict::Refused(f),
-        Verdict::Fine => {
-            if state.len() != fdr_image::variables(image) {
-                return answer::refuse(Refusal::STATE);
-            }
-            writing::words(fdr_image::initial(image), state, 0);
-            Verdict::Fine
-        }
+    if let Verdict::Refused(f) = reading {
+        return Verdict::Refused(f);
     }
+    if state.len() != fdr_image::variables(image) {
+        return answer::refuse(Refusal::STATE);
+    }
+    writing::words(fdr_image::initial(image), state, 0);
+    Verdict::Fine
 }

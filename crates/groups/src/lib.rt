@@ -57,8 +57,8 @@ pub fn groups(image: &[u16], clauses: &[u16], marks: &mut [u8], target: &mut [u1
     ensures { λ r. ⌜ outcome (countAnswer r) (now (target .exit)) ≡ written (now (target .entry)) (groupsCall (now (image .entry)) (now (clauses .entry)) (length (now (marks .entry))) (length (now (target .entry)))) ⌝ }
 {
     let checked = checker::accept(image, clauses, marks);
-    match checked {
-        Verdict::Refused(f) => Counted::Refused(f),
-        Verdict::Fine => groups_read(image, clauses, target),
+    if let Verdict::Refused(f) = checked {
+        return Counted::Refused(f);
     }
+    groups_read(image, clauses, target)
 }

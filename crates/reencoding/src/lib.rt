@@ -101,8 +101,8 @@ pub fn reencode(image: &[u16], clauses: &[u16], marks: &mut [u8], target: &mut [
     ensures { λ r. ⌜ outcome (countAnswer r) (now (target .exit)) ≡ written (now (target .entry)) (encodeCall (now (image .entry)) (now (clauses .entry)) (length (now (marks .entry))) (length (now (target .entry)))) ⌝ }
 {
     let checked = checker::accept(image, clauses, marks);
-    match checked {
-        Verdict::Refused(f) => Counted::Refused(f),
-        Verdict::Fine => reencode_read(image, clauses, target),
+    if let Verdict::Refused(f) = checked {
+        return Counted::Refused(f);
     }
+    reencode_read(image, clauses, target)
 }

@@ -26,15 +26,13 @@ pub fn read_state(image: &[u16], state: &[u8]) -> Verdict
     ensures { λ r. ⌜ verdictAnswer r ≡ stateAnswer taskReader (now (image .entry)) (now (state .entry)) ⌝ }
 {
     let reading = task::read(image);
-    match reading {
-        Verdict::Refused(f) => Verdict::Refused(f),
-        Verdict::Fine => {
-            if !literal::is_state(state, task::atoms(image)) {
-                return answer::refuse(Refusal::STATE);
-            }
-            Verdict::Fine
-        }
+    if let Verdict::Refused(f) = reading {
+        return Verdict::Refused(f);
     }
+    if !literal::is_state(state, task::atoms(image)) {
+        return answer::refuse(Refusal::STATE);
+    }
+    Verdict::Fine
 }
 
 // Whether the precondition of a block holds in a state.
@@ -87,10 +85,10 @@ pub fn step(image: &[u16], state: &mut [u8], operator: u16) -> Verdict
     ensures { λ r. ⌜ outcome (verdictAnswer r) (now (state .exit)) ≡ becomes (now (state .entry)) (stepTask (now (image .entry)) (now (state .entry)) operator) ⌝ }
 {
     let reading = read_state(image, state);
-    match reading {
-        Verdict::Refused(f) => Verdict::Refused(f),
-        Verdict::Fine => step_read(image, state, operator),
+    if let Verdict::Refused(f) = reading {
+        return Verdict::Refused(f);
     }
+    step_read(image, state, operator)
 }
 
 // The steps of a list in a task's state, with marks for its literals that are all zero: questions 19 to 21 of each operator of the list.
@@ -131,10 +129,10 @@ pub fn run(image: &[u16], state: &mut [u8], list: &[u16]) -> Counted
     ensures { λ r. ⌜ outcome (countAnswer r) (now (state .exit)) ≡ runTask (now (image .entry)) (now (state .entry)) (now (list .entry)) ⌝ }
 {
     let reading = read_state(image, state);
-    match reading {
-        Verdict::Refused(f) => Counted::Refused(f),
-        Verdict::Fine => run_read(image, state, list),
+    if let Verdict::Refused(f) = reading {
+        return Counted::Refused(f);
     }
+    run_read(image, state, list)
 }
 
 // Whether the goal is met in a state.
@@ -142,10 +140,10 @@ pub fn goal_met(image: &[u16], state: &[u8]) -> Tested
     ensures { λ r. ⌜ testAnswer r ≡ goalTask (now (image .entry)) (now (state .entry)) ⌝ }
 {
     let reading = read_state(image, state);
-    match reading {
-        Verdict::Refused(f) => Tested::Refused(f),
-        Verdict::Fine => answer::whether(literal::all_true(state, task::goal(image))),
+    if let Verdict::Refused(f) = reading {
+        return Tested::Refused(f);
     }
+    answer::whether(literal::all_true(state, task::goal(image)))
 }
 
 fn set_true(state: &mut [u8], atoms: &[u16])
@@ -172,14 +170,12 @@ pub fn set_initial(image: &[u16], state: &mut [u8]) -> Verdict
     ensures { λ r. ⌜ outcome (verdictAnswer r) (now (state .exit)) ≡ becomes (now (state .entry)) (startTask (now (image .entry)) (now (state .entry))) ⌝ }
 {
     let reading = task::read(image);
-    match reading {
-        Verdict::Refused(f) => Verdict::Refused(f),
-        Verdict::Fine => {
-            if state.len() != task::atoms(image) {
-                return answer::refuse(Refusal::STATE);
-            }
-            write_initial(image, state);
-            Verdict::Fine
-        }
+    if let Verdict::Refused(f) = reading {
+        return Verdict::Refused(f);
     }
+    if state.len() != task::atoms(image) {
+        return answer::refuse(Refusal::STATE);
+    }
+    write_initial(image, state);
+    Verdict::Fine
 }

@@ -37,6 +37,11 @@ read-requires c κs = search needs
 enum-known-reading : tie.Need-enum-known-reading
 enum-known-reading c = search needs
 
+returns : tie.Need-returns
+returns c =
+    let f = c .before .reading .given in
+    codes-17 _ _ _ _ _ _ (decode-codes _ _ _) (placed (f .0 .0)) (ap verdictAnswer (sym (f .1)) ∙ c .before .before .before .read .ensures)
+
 enum-told : tie.Need-enum-told
 enum-told c = search needs
 
@@ -46,8 +51,8 @@ is-state-requires c κs = read-fine c
 refuse-requires : tie.Need-refuse-requires
 refuse-requires c κs = search needs
 
-returns : tie.Need-returns
-returns c =
+returns-2 : tie.Need-returns-2
+returns-2 c =
     let t = c .before .before in
     outcome-of _ _ _ _ (c .refuse .ensures)
     (codes-source _ _ _ _ _ _ (decode-codes _ _ _) (read-fine (t .before)) _ (t .is-state .ensures) (not-true _ (c .before .if1 .taken)))
@@ -58,8 +63,8 @@ atoms-requires c κs = read-fine (c .before .before)
 refuse-requires-2 : tie.Need-refuse-requires-2
 refuse-requires-2 c κs = search needs
 
-returns-2 : tie.Need-returns-2
-returns-2 c =
+returns-3 : tie.Need-returns-3
+returns-3 c =
     let v = c .before .before in
     let t = source-of v in
     outcome-of _ _ _ _ (c .refuse2 .ensures)
@@ -77,11 +82,6 @@ write-requires c κs =
       source = values-length _ _ (sym (t .is-state .ensures) ∙ not-false _ (v .before .if1 .left));
       target = e .if2 .left ∙ v .atoms .ensures .0;
     }
-
-returns-3 : tie.Need-returns-3
-returns-3 c =
-    let f = c .before .reading .given in
-    codes-17 _ _ _ _ _ _ (decode-codes _ _ _) (placed (f .0 .0)) (ap verdictAnswer (sym (f .1)) ∙ c .before .before .before .read .ensures)
 
 same-length : tie.Need-same-length
 same-length c = search needs
@@ -102,14 +102,14 @@ decode-spec =
     (tie.spec
     read-requires
     enum-known-reading
+    returns
     enum-told
     is-state-requires
     refuse-requires
-    returns
+    returns-2
     atoms-requires
     refuse-requires-2
-    returns-2
-    write-requires
     returns-3
+    write-requires
     same-length
     returns-4)

@@ -48,6 +48,11 @@ read-requires c κs = search needs
 enum-known-reading : tie.Need-enum-known-reading
 enum-known-reading c = search needs
 
+returns : tie.Need-returns
+returns c =
+    let f = c .before .reading .given in
+    codes-17 _ _ _ _ _ _ (encode-codes _ _ _) (placed (f .0 .0)) (ap verdictAnswer (sym (f .1)) ∙ c .before .before .before .read .ensures)
+
 enum-told : tie.Need-enum-told
 enum-told c = search needs
 
@@ -60,8 +65,8 @@ is-state-requires c κs = search needs
 refuse-requires : tie.Need-refuse-requires
 refuse-requires c κs = search needs
 
-returns : tie.Need-returns
-returns c =
+returns-2 : tie.Need-returns-2
+returns-2 c =
     let t = c .before .before in
     outcome-of _ _ _ _ (c .refuse .ensures)
     (codes-source _ _ _ _ _ _ (encode-codes _ _ _) (read-fine (fine-of t)) _ (is-right t) (not-true _ (c .before .if1 .taken)))
@@ -72,8 +77,8 @@ variables-requires c κs = read-fine (fine-of (c .before))
 refuse-requires-2 : tie.Need-refuse-requires-2
 refuse-requires-2 c κs = search needs
 
-returns-2 : tie.Need-returns-2
-returns-2 c =
+returns-3 : tie.Need-returns-3
+returns-3 c =
     let v = c .before .before in
     let t = source-of v in
     outcome-of _ _ _ _ (c .refuse2 .ensures)
@@ -90,11 +95,6 @@ encode-read-requires c κs =
       source = state-length _ _ _ (is-right t) (not-false _ (v .before .if1 .left));
       target = e .if2 .left ∙ v .variables .ensures .0;
     }
-
-returns-3 : tie.Need-returns-3
-returns-3 c =
-    let f = c .before .reading .given in
-    codes-17 _ _ _ _ _ _ (encode-codes _ _ _) (placed (f .0 .0)) (ap verdictAnswer (sym (f .1)) ∙ c .before .before .before .read .ensures)
 
 same-length : tie.Need-same-length
 same-length c = search needs
@@ -115,15 +115,15 @@ encode-spec =
     (tie.spec
     read-requires
     enum-known-reading
+    returns
     enum-told
     atoms-requires
     is-state-requires
     refuse-requires
-    returns
+    returns-2
     variables-requires
     refuse-requires-2
-    returns-2
-    encode-read-requires
     returns-3
+    encode-read-requires
     same-length
     returns-4)

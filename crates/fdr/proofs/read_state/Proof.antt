@@ -23,6 +23,11 @@ read-requires c κs = search needs
 enum-known-reading : tie.Need-enum-known-reading
 enum-known-reading c = search needs
 
+returns : tie.Need-returns
+returns c =
+    let f = c .before .reading .given in
+    first-refused fdrReader _ _ (placed (f .0 .0)) (ap verdictAnswer (sym (f .1)) ∙ c .before .before .before .read .ensures)
+
 enum-told : tie.Need-enum-told
 enum-told c = search needs
 
@@ -32,15 +37,10 @@ is-state-requires c κs = read-fine c
 refuse-requires : tie.Need-refuse-requires
 refuse-requires c κs = search needs
 
-returns : tie.Need-returns
-returns c =
-    let t = c .before .before in
-    c .refuse .ensures ∙ first-not fdrReader _ _ _ (read-fine (t .before) .found) _ (t .is-state .ensures) (not-true _ (c .before .if1 .taken))
-
 returns-2 : tie.Need-returns-2
 returns-2 c =
-    let f = c .before .reading .given in
-    first-refused fdrReader _ _ (placed (f .0 .0)) (ap verdictAnswer (sym (f .1)) ∙ c .before .before .before .read .ensures)
+    let t = c .before .before in
+    c .refuse .ensures ∙ first-not fdrReader _ _ _ (read-fine (t .before) .found) _ (t .is-state .ensures) (not-true _ (c .before .if1 .taken))
 
 returns-3 : tie.Need-returns-3
 returns-3 c =
@@ -50,12 +50,4 @@ returns-3 c =
 pub read-state-spec : {M : Type 1} → statement M
 read-state-spec =
     tie.close
-    (tie.spec
-    read-requires
-    enum-known-reading
-    enum-told
-    is-state-requires
-    refuse-requires
-    returns
-    returns-2
-    returns-3)
+    (tie.spec read-requires enum-known-reading returns enum-told is-state-requires refuse-requires returns-2 returns-3)

@@ -41,6 +41,12 @@ read-requires c κs = search needs
 enum-known-reading : tie.Need-enum-known-reading
 enum-known-reading c = search needs
 
+returns : tie.Need-returns
+unfolding startFdr
+returns c =
+    let f = c .before .reading .given in
+    start-refused fdrReader _ _ (placed (f .0 .0)) (ap verdictAnswer (sym (f .1)) ∙ c .before .before .before .read .ensures)
+
 enum-told : tie.Need-enum-told
 enum-told c = search needs
 
@@ -50,9 +56,9 @@ variables-requires c κs = read-fine c
 refuse-requires : tie.Need-refuse-requires
 refuse-requires c κs = search needs
 
-returns : tie.Need-returns
+returns-2 : tie.Need-returns-2
 unfolding startFdr
-returns c =
+returns-2 c =
     let n = c .before .before in
     outcome-of _ _ _ _ (c .refuse .ensures)
     (start-long fdrReader _ _ _ (read-fine (n .before) .found) _ (n .variables .ensures .0) (c .before .if1 .taken))
@@ -64,12 +70,6 @@ words-requires : tie.Need-words-requires
 words-requires c κs =
     let z = fits (c .before) in
     omega arith
-
-returns-2 : tie.Need-returns-2
-unfolding startFdr
-returns-2 c =
-    let f = c .before .reading .given in
-    start-refused fdrReader _ _ (placed (f .0 .0)) (ap verdictAnswer (sym (f .1)) ∙ c .before .before .before .read .ensures)
 
 same-length : tie.Need-same-length
 same-length c = search needs
@@ -89,12 +89,12 @@ set-initial-spec =
     (tie.spec
     read-requires
     enum-known-reading
+    returns
     enum-told
     variables-requires
     refuse-requires
-    returns
+    returns-2
     initial-requires
     words-requires
-    returns-2
     same-length
     returns-3)

@@ -30,14 +30,6 @@ accept-requires c κs = search needs
 enum-known-checked : tie.Need-enum-known-checked
 enum-known-checked c = search needs
 
-enum-told : tie.Need-enum-told
-enum-told c = search needs
-
-reencode-read-requires : tie.Need-reencode-read-requires
-reencode-read-requires c κs =
-    let a = accepts (c .before) in
-    (a .reads, a .rows)
-
 same-length : tie.Need-same-length
 same-length c = search needs
 
@@ -45,6 +37,14 @@ returns : tie.Need-returns
 returns c =
     let f = c .before .checked .given in
     encode-refused _ _ _ _ (placed (f .0 .0)) (ap verdictAnswer (sym (f .1)) ∙ answered (c .before .before .before) .accept .ensures)
+
+enum-told : tie.Need-enum-told
+enum-told c = search needs
+
+reencode-read-requires : tie.Need-reencode-read-requires
+reencode-read-requires c κs =
+    let a = accepts (c .before) in
+    (a .reads, a .rows)
 
 same-length-2 : tie.Need-same-length-2
 same-length-2 c = search needs
@@ -63,10 +63,10 @@ reencode-spec =
     (tie.spec
     accept-requires
     enum-known-checked
-    enum-told
-    reencode-read-requires
     same-length
     returns
+    enum-told
+    reencode-read-requires
     same-length-2
     same-length-3
     returns-2)

@@ -40,6 +40,11 @@ read-requires c κs = search needs
 enum-known-reading : tie.Need-enum-known-reading
 enum-known-reading c = search needs
 
+returns : tie.Need-returns
+returns c =
+    let f = c .before .reading .given in
+    first-refused taskReader _ _ (placed (f .0 .0)) (ap verdictAnswer (sym (f .1)) ∙ c .before .before .before .read .ensures)
+
 enum-told : tie.Need-enum-told
 enum-told c = search needs
 
@@ -52,15 +57,10 @@ is-state-requires c κs = search needs
 refuse-requires : tie.Need-refuse-requires
 refuse-requires c κs = search needs
 
-returns : tie.Need-returns
-returns c =
-    let t = c .before .before in
-    c .refuse .ensures ∙ first-not taskReader _ _ _ (read-fine (t .before .before) .found) _ (right-is t) (not-true _ (c .before .if1 .taken))
-
 returns-2 : tie.Need-returns-2
 returns-2 c =
-    let f = c .before .reading .given in
-    first-refused taskReader _ _ (placed (f .0 .0)) (ap verdictAnswer (sym (f .1)) ∙ c .before .before .before .read .ensures)
+    let t = c .before .before in
+    c .refuse .ensures ∙ first-not taskReader _ _ _ (read-fine (t .before .before) .found) _ (right-is t) (not-true _ (c .before .if1 .taken))
 
 returns-3 : tie.Need-returns-3
 returns-3 c =
@@ -73,10 +73,10 @@ read-state-spec =
     (tie.spec
     read-requires
     enum-known-reading
+    returns
     enum-told
     atoms-requires
     is-state-requires
     refuse-requires
-    returns
     returns-2
     returns-3)

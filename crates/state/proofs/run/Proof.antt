@@ -30,12 +30,6 @@ read-state-requires c κs = search needs
 enum-known-reading : tie.Need-enum-known-reading
 enum-known-reading c = search needs
 
-enum-told : tie.Need-enum-told
-enum-told c = search needs
-
-run-read-requires : tie.Need-run-read-requires
-run-read-requires c κs = standing _ _ (fine (c .before))
-
 same-length : tie.Need-same-length
 same-length c = search needs
 
@@ -44,6 +38,12 @@ unfolding runTask
 returns c =
     let f = c .before .reading .given in
     run-refused taskReader _ _ (placed (f .0 .0)) (ap verdictAnswer (sym (f .1)) ∙ c .before .before .before .read-state .ensures) _
+
+enum-told : tie.Need-enum-told
+enum-told c = search needs
+
+run-read-requires : tie.Need-run-read-requires
+run-read-requires c κs = standing _ _ (fine (c .before))
 
 same-length-2 : tie.Need-same-length-2
 same-length-2 c = search needs
@@ -58,12 +58,4 @@ returns-2 c =
 pub run-spec : {M : Type 1} → statement M
 run-spec =
     tie.close
-    (tie.spec
-    read-state-requires
-    enum-known-reading
-    enum-told
-    run-read-requires
-    same-length
-    returns
-    same-length-2
-    returns-2)
+    (tie.spec read-state-requires enum-known-reading same-length returns enum-told run-read-requires same-length-2 returns-2)

@@ -27,6 +27,12 @@ read-requires c κs = search needs
 enum-known-reading : tie.Need-enum-known-reading
 enum-known-reading c = search needs
 
+returns : tie.Need-returns
+unfolding startTask
+returns c =
+    let f = c .before .reading .given in
+    start-refused taskReader _ _ (placed (f .0 .0)) (ap verdictAnswer (sym (f .1)) ∙ c .before .before .before .read .ensures)
+
 enum-told : tie.Need-enum-told
 enum-told c = search needs
 
@@ -36,9 +42,9 @@ atoms-requires c κs = read-fine c
 refuse-requires : tie.Need-refuse-requires
 refuse-requires c κs = search needs
 
-returns : tie.Need-returns
+returns-2 : tie.Need-returns-2
 unfolding startTask
-returns c =
+returns-2 c =
     let n = c .before .before in
     outcome-of _ _ _ _ (c .refuse .ensures)
     (start-long taskReader _ _ _ (read-fine (n .before) .found) _ (n .atoms .ensures .0) (c .before .if1 .taken))
@@ -47,12 +53,6 @@ write-initial-requires : tie.Need-write-initial-requires
 write-initial-requires c κs =
     let n = c .before .before in
     (read-fine (n .before), c .before .if1 .left ∙ n .atoms .ensures .0)
-
-returns-2 : tie.Need-returns-2
-unfolding startTask
-returns-2 c =
-    let f = c .before .reading .given in
-    start-refused taskReader _ _ (placed (f .0 .0)) (ap verdictAnswer (sym (f .1)) ∙ c .before .before .before .read .ensures)
 
 same-length : tie.Need-same-length
 same-length c = search needs
@@ -71,11 +71,11 @@ set-initial-spec =
     (tie.spec
     read-requires
     enum-known-reading
+    returns
     enum-told
     atoms-requires
     refuse-requires
-    returns
-    write-initial-requires
     returns-2
+    write-initial-requires
     same-length
     returns-3)
