@@ -87,11 +87,9 @@ pub fn agree(image: &[u16], clauses: &[u16], list: &[u16], marks: &mut [u8]) -> 
     ensures { λ r. ⌜ Agreed (now (image .entry)) (now (clauses .entry)) (length (now (marks .entry))) (now (list .entry)) r ⌝ }
 {
     let checked = checker::accept(image, clauses, marks);
-    match checked {
-        Verdict::Refused(f) => Tested::Refused(f),
-        Verdict::Fine => {
-            let mut room = image_room();
-            compare_accepted(image, clauses, list, marks, &mut room[..])
-        }
+    if let Verdict::Refused(f) = checked {
+        return Tested::Refused(f);
     }
+    let mut room = image_room();
+    compare_accepted(image, clauses, list, marks, &mut room[..])
 }

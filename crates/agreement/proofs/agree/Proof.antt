@@ -62,6 +62,19 @@ accept-requires c κs = search needs
 enum-known-checked : tie.Need-enum-known-checked
 enum-known-checked c = search needs
 
+same-length : tie.Need-same-length
+same-length c = search needs
+
+returns : tie.Need-returns
+returns c =
+    let d = answered (c .before .before .before) in
+    let f = c .before .checked .given in
+    let h = ap verdictAnswer (sym (f .1)) ∙ d .accept .ensures in
+    record {
+      compared = comparison-refused _ _ _ _ (placed (f .0 .0)) h;
+      demand = demanded-refused _ _ _ (list d) (placed (f .0 .0)) h;
+    }
+
 enum-told : tie.Need-enum-told
 enum-told c = search needs
 
@@ -76,19 +89,6 @@ compare-accepted-requires c κs =
     let r = c .before .before in
     let d = checked-by (r .before) in
     (subst (Accepts (image d) (set d)) (sym (d .accept .kept .1 .1 .0)) (ok (r .before)), r .image-room .ensures)
-
-same-length : tie.Need-same-length
-same-length c = search needs
-
-returns : tie.Need-returns
-returns c =
-    let d = answered (c .before .before .before) in
-    let f = c .before .checked .given in
-    let h = ap verdictAnswer (sym (f .1)) ∙ d .accept .ensures in
-    record {
-      compared = comparison-refused _ _ _ _ (placed (f .0 .0)) h;
-      demand = demanded-refused _ _ _ (list d) (placed (f .0 .0)) h;
-    }
 
 same-length-2 : tie.Need-same-length-2
 same-length-2 c = search needs
@@ -107,11 +107,11 @@ agree-spec =
     (tie.spec
     accept-requires
     enum-known-checked
+    same-length
+    returns
     enum-told
     image-room-requires
     slice-aggregate-compare-accepted
     compare-accepted-requires
-    same-length
-    returns
     same-length-2
     returns-2)
