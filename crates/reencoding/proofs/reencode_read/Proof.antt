@@ -27,29 +27,26 @@ slice-aggregate-write-task-3 : tie.Need-slice-aggregate-write-task-3
 slice-aggregate-write-task-3 c = search needs
 
 -- the places of the function
+abbrev after-write-task : tie.After-sizes2 → tie.After-write-task
+after-write-task c = c .before .before
+
 abbrev at-start : tie.After-shared-slice-known → tie.Start
 at-start c = c .before
 
 abbrev after-shared-slice-known : tie.After-atoms → tie.After-shared-slice-known
 after-shared-slice-known c = c .before .before .before
 
+abbrev after-sizes2 : tie.After-slice-known2 → tie.After-sizes2
+after-sizes2 c = c .before .before .before
+
 abbrev after-atoms : tie.After-places → tie.After-atoms
 after-atoms c = c .before
-
-abbrev at-start-from-places : tie.After-places → tie.Start
-at-start-from-places c = at-start (after-shared-slice-known ((after-atoms c)))
 
 abbrev after-places : tie.After-write-task-arg → tie.After-places
 after-places c = c .before .before .before
 
 abbrev at-start-from-write-task-arg : tie.After-write-task-arg → tie.Start
-at-start-from-write-task-arg c = at-start-from-places (after-places c)
-
-abbrev after-write-task : tie.After-sizes2 → tie.After-write-task
-after-write-task c = c .before .before
-
-abbrev after-sizes2 : tie.After-slice-known2 → tie.After-sizes2
-after-sizes2 c = c .before .before .before
+at-start-from-write-task-arg c = at-start (after-shared-slice-known (after-atoms (after-places c)))
 
 write-task-requires : tie.Need-write-task-requires
 unfolding noPlaces noSizes allNone

@@ -23,43 +23,44 @@ abbrev after-head : tie.After-counted-arg2 → tie.After-head
 after-head c = c .before .before
 
 abbrev at-start-from-counted-arg2 : tie.After-counted-arg2 → tie.Start
-at-start-from-counted-arg2 c = at-start (after-shared-slice-known ((after-head c)))
+at-start-from-counted-arg2 c = at-start (after-shared-slice-known (after-head c))
 
 abbrev after-counted-arg2 : tie.After-counted → tie.After-counted-arg2
 after-counted-arg2 c = c .before
 
 abbrev at-start-from-counted : tie.After-counted → tie.Start
-at-start-from-counted c = at-start-from-counted-arg2 (after-counted-arg2 c)
+at-start-from-counted c = at-start (after-shared-slice-known (after-head (after-counted-arg2 c)))
 
 abbrev after-counted : tie.After-slice-known2 → tie.After-counted
 after-counted c = c .before .before
 
 abbrev after-head-from-slice-known2 : tie.After-slice-known2 → tie.After-head
-after-head-from-slice-known2 c = after-head (after-counted-arg2 ((after-counted c)))
+after-head-from-slice-known2 c = after-head (after-counted-arg2 (after-counted c))
 
 abbrev at-start-from-slice-known2 : tie.After-slice-known2 → tie.Start
-at-start-from-slice-known2 c = at-start-from-counted (after-counted c)
+at-start-from-slice-known2 c = at-start (after-shared-slice-known (after-head (after-counted-arg2 (after-counted c))))
 
 abbrev after-slice-known2 : tie.After-rows-arg → tie.After-slice-known2
 after-slice-known2 c = c .before
 
 abbrev after-head-from-rows-arg : tie.After-rows-arg → tie.After-head
-after-head-from-rows-arg c = after-head-from-slice-known2 (after-slice-known2 c)
+after-head-from-rows-arg c = after-head (after-counted-arg2 (after-counted (after-slice-known2 c)))
 
 abbrev at-start-from-rows-arg : tie.After-rows-arg → tie.Start
-at-start-from-rows-arg c = at-start-from-slice-known2 (after-slice-known2 c)
+at-start-from-rows-arg c = at-start (after-shared-slice-known (after-head (after-counted-arg2 (after-counted (after-slice-known2 c)))))
 
 abbrev after-rows-arg : tie.After-slice-known3 → tie.After-rows-arg
 after-rows-arg c = c .before .before .before
 
 abbrev after-counted-from-slice-known3 : tie.After-slice-known3 → tie.After-counted
-after-counted-from-slice-known3 c = after-counted (after-slice-known2 ((after-rows-arg c)))
-
-abbrev at-start-from-slice-known3 : tie.After-slice-known3 → tie.Start
-at-start-from-slice-known3 c = at-start-from-rows-arg (after-rows-arg c)
+after-counted-from-slice-known3 c = after-counted (after-slice-known2 (after-rows-arg c))
 
 abbrev after-head-from-slice-known3 : tie.After-slice-known3 → tie.After-head
-after-head-from-slice-known3 c = after-head-from-rows-arg (after-rows-arg c)
+after-head-from-slice-known3 c = after-head (after-counted-arg2 (after-counted (after-slice-known2 (after-rows-arg c))))
+
+abbrev at-start-from-slice-known3 : tie.After-slice-known3 → tie.Start
+at-start-from-slice-known3 c =
+    at-start (after-shared-slice-known (after-head (after-counted-arg2 (after-counted (after-slice-known2 (after-rows-arg c))))))
 
 -- the words of the precondition, the count of rows and the rows find room
 room :

@@ -44,13 +44,13 @@ abbrev after-shared-slice-known3 : tie.After-shared-slice-known4 → tie.After-s
 after-shared-slice-known3 c = c .before
 
 abbrev at-start-from-shared-slice-known4 : tie.After-shared-slice-known4 → tie.Start
-at-start-from-shared-slice-known4 c = at-start (after-shared-slice-known ((after-shared-slice-known3 c)))
+at-start-from-shared-slice-known4 c = at-start (after-shared-slice-known (after-shared-slice-known3 c))
 
 abbrev after-shared-slice-known4 : tie.After-counted-arg → tie.After-shared-slice-known4
 after-shared-slice-known4 c = c .before
 
 abbrev at-start-from-counted-arg : tie.After-counted-arg → tie.Start
-at-start-from-counted-arg c = at-start-from-shared-slice-known4 (after-shared-slice-known4 c)
+at-start-from-counted-arg c = at-start (after-shared-slice-known (after-shared-slice-known3 (after-shared-slice-known4 c)))
 
 shared-slice-read-target : tie.Need-shared-slice-read-target
 shared-slice-read-target c = omega (arith, inside (at-start (after-shared-slice-known c)))

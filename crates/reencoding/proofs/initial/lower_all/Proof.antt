@@ -25,47 +25,35 @@ after-shared-slice-known c = c .before .before .before
 abbrev at-loop : tie.In-loop Inv-loop μ-loop → tie.At-loop Inv-loop μ-loop
 at-loop c = c .before
 
-abbrev at-start-from-loop : tie.In-loop Inv-loop μ-loop → tie.Start Inv-loop μ-loop
-at-start-from-loop c = at-start (after-shared-slice-known ((at-loop c)))
-
 abbrev in-loop : tie.After-wide Inv-loop μ-loop → tie.In-loop Inv-loop μ-loop
 in-loop c = c .before .before
 
 abbrev at-start-from-wide : tie.After-wide Inv-loop μ-loop → tie.Start Inv-loop μ-loop
-at-start-from-wide c = at-start-from-loop (in-loop c)
+at-start-from-wide c = at-start (after-shared-slice-known (at-loop (in-loop c)))
 
 abbrev after-wide : tie.After-wide2 Inv-loop μ-loop → tie.After-wide Inv-loop μ-loop
 after-wide c = c .before .before .before
 
-abbrev at-start-from-wide2 : tie.After-wide2 Inv-loop μ-loop → tie.Start Inv-loop μ-loop
-at-start-from-wide2 c = at-start-from-wide (after-wide c)
-
-abbrev at-loop-from-wide2 : tie.After-wide2 Inv-loop μ-loop → tie.At-loop Inv-loop μ-loop
-at-loop-from-wide2 c = at-loop (in-loop ((after-wide c)))
-
 abbrev after-wide2 : tie.After-shared-slice-known5 Inv-loop μ-loop → tie.After-wide2 Inv-loop μ-loop
 after-wide2 c = c .before
 
-abbrev at-start-from-shared-slice-known5 : tie.After-shared-slice-known5 Inv-loop μ-loop → tie.Start Inv-loop μ-loop
-at-start-from-shared-slice-known5 c = at-start-from-wide2 (after-wide2 c)
-
 abbrev at-loop-from-shared-slice-known5 : tie.After-shared-slice-known5 Inv-loop μ-loop → tie.At-loop Inv-loop μ-loop
-at-loop-from-shared-slice-known5 c = at-loop-from-wide2 (after-wide2 c)
+at-loop-from-shared-slice-known5 c = at-loop (in-loop (after-wide (after-wide2 c)))
 
-abbrev in-loop-from-shared-slice-known5 : tie.After-shared-slice-known5 Inv-loop μ-loop → tie.In-loop Inv-loop μ-loop
-in-loop-from-shared-slice-known5 c = in-loop (after-wide ((after-wide2 c)))
+abbrev at-start-from-shared-slice-known5 : tie.After-shared-slice-known5 Inv-loop μ-loop → tie.Start Inv-loop μ-loop
+at-start-from-shared-slice-known5 c = at-start (after-shared-slice-known (at-loop (in-loop (after-wide (after-wide2 c)))))
 
 abbrev after-shared-slice-known5 : tie.After-slice-known2 Inv-loop μ-loop → tie.After-shared-slice-known5 Inv-loop μ-loop
 after-shared-slice-known5 c = c .before .before .before
 
-abbrev at-loop-from-slice-known2 : tie.After-slice-known2 Inv-loop μ-loop → tie.At-loop Inv-loop μ-loop
-at-loop-from-slice-known2 c = at-loop-from-shared-slice-known5 (after-shared-slice-known5 c)
-
 abbrev after-wide-from-slice-known2 : tie.After-slice-known2 Inv-loop μ-loop → tie.After-wide Inv-loop μ-loop
-after-wide-from-slice-known2 c = after-wide (after-wide2 ((after-shared-slice-known5 c)))
+after-wide-from-slice-known2 c = after-wide (after-wide2 (after-shared-slice-known5 c))
+
+abbrev at-loop-from-slice-known2 : tie.After-slice-known2 Inv-loop μ-loop → tie.At-loop Inv-loop μ-loop
+at-loop-from-slice-known2 c = at-loop (in-loop (after-wide (after-wide2 (after-shared-slice-known5 c))))
 
 abbrev in-loop-from-slice-known2 : tie.After-slice-known2 Inv-loop μ-loop → tie.In-loop Inv-loop μ-loop
-in-loop-from-slice-known2 c = in-loop-from-shared-slice-known5 (after-shared-slice-known5 c)
+in-loop-from-slice-known2 c = in-loop (after-wide (after-wide2 (after-shared-slice-known5 c)))
 
 low : (c : tie.After-wide Inv-loop μ-loop) → c .wide .result < atomsOf (at-start-from-wide c .args .places .now)
 low c =

@@ -25,34 +25,32 @@ abbrev after-words-arg : tie.After-words-arg2 → tie.After-words-arg
 after-words-arg c = c .before
 
 abbrev at-start-from-words-arg2 : tie.After-words-arg2 → tie.Start
-at-start-from-words-arg2 c = at-start (after-shared-slice-known2 ((after-words-arg c)))
+at-start-from-words-arg2 c = at-start (after-shared-slice-known2 (after-words-arg c))
 
 abbrev after-words-arg2 : tie.After-words → tie.After-words-arg2
 after-words-arg2 c = c .before
-
-abbrev at-start-from-words : tie.After-words → tie.Start
-at-start-from-words c = at-start-from-words-arg2 (after-words-arg2 c)
 
 abbrev after-words : tie.After-slice-known2 → tie.After-words
 after-words c = c .before .before
 
 abbrev at-start-from-slice-known2 : tie.After-slice-known2 → tie.Start
-at-start-from-slice-known2 c = at-start-from-words (after-words c)
+at-start-from-slice-known2 c = at-start (after-shared-slice-known2 (after-words-arg (after-words-arg2 (after-words c))))
 
 abbrev after-slice-known2 : tie.After-lower-all-arg → tie.After-slice-known2
 after-slice-known2 c = c .before
 
 abbrev at-start-from-lower-all-arg : tie.After-lower-all-arg → tie.Start
-at-start-from-lower-all-arg c = at-start-from-slice-known2 (after-slice-known2 c)
+at-start-from-lower-all-arg c = at-start (after-shared-slice-known2 (after-words-arg (after-words-arg2 (after-words (after-slice-known2 c)))))
 
 abbrev after-lower-all-arg : tie.After-slice-known3 → tie.After-lower-all-arg
 after-lower-all-arg c = c .before .before .before
 
 abbrev after-words-from-slice-known3 : tie.After-slice-known3 → tie.After-words
-after-words-from-slice-known3 c = after-words (after-slice-known2 ((after-lower-all-arg c)))
+after-words-from-slice-known3 c = after-words (after-slice-known2 (after-lower-all-arg c))
 
 abbrev at-start-from-slice-known3 : tie.After-slice-known3 → tie.Start
-at-start-from-slice-known3 c = at-start-from-lower-all-arg (after-lower-all-arg c)
+at-start-from-slice-known3 c =
+    at-start (after-shared-slice-known2 (after-words-arg (after-words-arg2 (after-words (after-slice-known2 (after-lower-all-arg c))))))
 
 slice-aggregate-words : tie.Need-slice-aggregate-words
 slice-aggregate-words c =

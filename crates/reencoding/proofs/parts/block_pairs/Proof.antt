@@ -28,46 +28,43 @@ at-start c = c .before .before .before
 abbrev after-operators : tie.At-loop Inv-loop μ-loop → tie.After-operators Inv-loop μ-loop
 after-operators c = c .before
 
-abbrev at-loop-of-loop : tie.After-loop Inv-loop μ-loop → tie.At-loop Inv-loop μ-loop
-at-loop-of-loop c = c .before
+abbrev at-loop-of-after-loop : tie.After-loop Inv-loop μ-loop → tie.At-loop Inv-loop μ-loop
+at-loop-of-after-loop c = c .before
 
-abbrev at-loop-of-loop′ : tie.In-loop Inv-loop μ-loop → tie.At-loop Inv-loop μ-loop
-at-loop-of-loop′ c = c .before
+abbrev at-loop-of-in-loop : tie.In-loop Inv-loop μ-loop → tie.At-loop Inv-loop μ-loop
+at-loop-of-in-loop c = c .before
 
-abbrev at-start-from-loop : tie.In-loop Inv-loop μ-loop → tie.Start Inv-loop μ-loop
-at-start-from-loop c = at-start (after-operators ((at-loop-of-loop′ c)))
+abbrev at-start-from-after-loop : tie.After-loop Inv-loop μ-loop → tie.Start Inv-loop μ-loop
+at-start-from-after-loop c = at-start (after-operators (at-loop-of-after-loop c))
 
-abbrev at-start-from-loop′ : tie.After-loop Inv-loop μ-loop → tie.Start Inv-loop μ-loop
-at-start-from-loop′ c = at-start (after-operators ((at-loop-of-loop c)))
+abbrev at-start-from-in-loop : tie.In-loop Inv-loop μ-loop → tie.Start Inv-loop μ-loop
+at-start-from-in-loop c = at-start (after-operators (at-loop-of-in-loop c))
 
 abbrev in-loop : tie.After-block-size Inv-loop μ-loop → tie.In-loop Inv-loop μ-loop
 in-loop c = c .before
 
 abbrev at-start-from-block-size : tie.After-block-size Inv-loop μ-loop → tie.Start Inv-loop μ-loop
-at-start-from-block-size c = at-start-from-loop (in-loop c)
+at-start-from-block-size c = at-start (after-operators (at-loop-of-in-loop (in-loop c)))
 
 abbrev after-block-size : tie.After-pair-arg Inv-loop μ-loop → tie.After-block-size Inv-loop μ-loop
 after-block-size c = c .before
 
 abbrev at-start-from-pair-arg : tie.After-pair-arg Inv-loop μ-loop → tie.Start Inv-loop μ-loop
-at-start-from-pair-arg c = at-start-from-block-size (after-block-size c)
-
-abbrev at-loop-from-pair-arg : tie.After-pair-arg Inv-loop μ-loop → tie.At-loop Inv-loop μ-loop
-at-loop-from-pair-arg c = at-loop-of-loop′ (in-loop ((after-block-size c)))
+at-start-from-pair-arg c = at-start (after-operators (at-loop-of-in-loop (in-loop (after-block-size c))))
 
 abbrev after-pair-arg : tie.After-slice-known2 Inv-loop μ-loop → tie.After-pair-arg Inv-loop μ-loop
 after-pair-arg c = c .before .before .before
 
 abbrev at-loop-from-slice-known2 : tie.After-slice-known2 Inv-loop μ-loop → tie.At-loop Inv-loop μ-loop
-at-loop-from-slice-known2 c = at-loop-from-pair-arg (after-pair-arg c)
+at-loop-from-slice-known2 c = at-loop-of-in-loop (in-loop (after-block-size (after-pair-arg c)))
 
 abbrev at-start-from-slice-known2 : tie.After-slice-known2 Inv-loop μ-loop → tie.Start Inv-loop μ-loop
-at-start-from-slice-known2 c = at-start-from-pair-arg (after-pair-arg c)
+at-start-from-slice-known2 c = at-start (after-operators (at-loop-of-in-loop (in-loop (after-block-size (after-pair-arg c)))))
 
 abbrev in-loop-from-slice-known2 : tie.After-slice-known2 Inv-loop μ-loop → tie.In-loop Inv-loop μ-loop
-in-loop-from-slice-known2 c = in-loop (after-block-size ((after-pair-arg c)))
+in-loop-from-slice-known2 c = in-loop (after-block-size (after-pair-arg c))
 
-here : (c : tie.In-loop Inv-loop μ-loop) → c .before .loop .i < length (taskOf (at-start-from-loop c .args .image .now) .operators)
+here : (c : tie.In-loop Inv-loop μ-loop) → c .before .loop .i < length (taskOf (at-start-from-in-loop c .args .image .now) .operators)
 here c = omega (arith, c .loop-test .taken, c .before .before .operators .ensures .0)
 
 next :
@@ -90,7 +87,7 @@ loop-holds : tie.Need-loop-holds Inv-loop μ-loop
 loop-holds c = (omega arith, (refl, write-start))
 
 block-size-requires : tie.Need-block-size-requires Inv-loop μ-loop
-block-size-requires c κs = (at-start-from-loop c .pre .0, omega (arith, c .loop-test .taken, c .before .before .operators .ensures .0))
+block-size-requires c κs = (at-start-from-in-loop c .pre .0, omega (arith, c .loop-test .taken, c .before .before .operators .ensures .0))
 
 pair-requires : tie.Need-pair-requires Inv-loop μ-loop
 pair-requires c κs =
@@ -137,7 +134,7 @@ returns c =
     let l = c .before .loop in
     write-end
     (write-same
-    (pairs-end (at-start-from-loop′ c .args .image .now) (l .i) (l .offset)
+    (pairs-end (at-start-from-after-loop c .args .image .now) (l .i) (l .offset)
     (omega (arith, c .loop-test .left, c .before .before .operators .ensures .0)))
     (l .inv .1 .1))
 

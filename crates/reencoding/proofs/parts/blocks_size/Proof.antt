@@ -20,17 +20,17 @@ abbrev μ-loop : tie.MeasureT-loop
 abbrev at-start : tie.After-operators Inv-loop μ-loop → tie.Start Inv-loop μ-loop
 at-start c = c .before .before
 
-abbrev after-operators-of-loop : tie.After-loop Inv-loop μ-loop → tie.After-operators Inv-loop μ-loop
-after-operators-of-loop c = c .before .before
+abbrev after-operators-of-after-loop : tie.After-loop Inv-loop μ-loop → tie.After-operators Inv-loop μ-loop
+after-operators-of-after-loop c = c .before .before
 
-abbrev after-operators-of-loop′ : tie.In-loop Inv-loop μ-loop → tie.After-operators Inv-loop μ-loop
-after-operators-of-loop′ c = c .before .before
+abbrev after-operators-of-in-loop : tie.In-loop Inv-loop μ-loop → tie.After-operators Inv-loop μ-loop
+after-operators-of-in-loop c = c .before .before
 
 abbrev in-loop : tie.After-block-size Inv-loop μ-loop → tie.In-loop Inv-loop μ-loop
 in-loop c = c .before
 
 abbrev at-start-from-block-size : tie.After-block-size Inv-loop μ-loop → tie.Start Inv-loop μ-loop
-at-start-from-block-size c = at-start (after-operators-of-loop′ ((in-loop c)))
+at-start-from-block-size c = at-start (after-operators-of-in-loop (in-loop c))
 
 next :
     (c : tie.After-block-size Inv-loop μ-loop) → sizesLeft (at-start-from-block-size c .args .image .now) (c .before .before .loop .i) ≡
@@ -48,7 +48,7 @@ loop-holds : tie.Need-loop-holds Inv-loop μ-loop
 loop-holds c = omega arith
 
 block-size-requires : tie.Need-block-size-requires Inv-loop μ-loop
-block-size-requires c κs = (at-start (after-operators-of-loop′ c) .pre, omega (arith, c .loop-test .taken, c .before .before .operators .ensures .0))
+block-size-requires c κs = (at-start (after-operators-of-in-loop c) .pre, omega (arith, c .loop-test .taken, c .before .before .operators .ensures .0))
 
 add-size : tie.Need-add-size Inv-loop μ-loop
 add-size c = omega (arith, next c, c .before .before .loop .inv, sizes-most _ (at-start-from-block-size c .pre))
@@ -67,7 +67,7 @@ returns c =
     omega (
       arith,
       c .before .loop .inv,
-      sizes-end (at-start (after-operators-of-loop c) .args .image .now) (c .before .loop .i)
+      sizes-end (at-start (after-operators-of-after-loop c) .args .image .now) (c .before .loop .i)
           (omega (arith, c .loop-test .left, c .before .before .operators .ensures .0)),
     )
 

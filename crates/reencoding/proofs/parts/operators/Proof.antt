@@ -29,49 +29,41 @@ after-shared-slice-known c = c .before .before .before
 abbrev after-operators : tie.At-loop Inv-loop μ-loop → tie.After-operators Inv-loop μ-loop
 after-operators c = c .before
 
-abbrev at-start-from-loop′′ : tie.At-loop Inv-loop μ-loop → tie.Start Inv-loop μ-loop
-at-start-from-loop′′ c = at-start (after-shared-slice-known ((after-operators c)))
+abbrev at-loop-of-after-loop : tie.After-loop Inv-loop μ-loop → tie.At-loop Inv-loop μ-loop
+at-loop-of-after-loop c = c .before
 
-abbrev at-loop-of-loop : tie.After-loop Inv-loop μ-loop → tie.At-loop Inv-loop μ-loop
-at-loop-of-loop c = c .before
+abbrev at-loop-of-in-loop : tie.In-loop Inv-loop μ-loop → tie.At-loop Inv-loop μ-loop
+at-loop-of-in-loop c = c .before
 
-abbrev at-loop-of-loop′ : tie.In-loop Inv-loop μ-loop → tie.At-loop Inv-loop μ-loop
-at-loop-of-loop′ c = c .before
+abbrev at-start-from-after-loop : tie.After-loop Inv-loop μ-loop → tie.Start Inv-loop μ-loop
+at-start-from-after-loop c = at-start (after-shared-slice-known (after-operators (at-loop-of-after-loop c)))
 
-abbrev at-start-from-loop : tie.In-loop Inv-loop μ-loop → tie.Start Inv-loop μ-loop
-at-start-from-loop c = at-start-from-loop′′ (at-loop-of-loop′ c)
-
-abbrev at-start-from-loop′ : tie.After-loop Inv-loop μ-loop → tie.Start Inv-loop μ-loop
-at-start-from-loop′ c = at-start-from-loop′′ (at-loop-of-loop c)
+abbrev at-start-from-in-loop : tie.In-loop Inv-loop μ-loop → tie.Start Inv-loop μ-loop
+at-start-from-in-loop c = at-start (after-shared-slice-known (after-operators (at-loop-of-in-loop c)))
 
 abbrev in-loop : tie.After-operator-block Inv-loop μ-loop → tie.In-loop Inv-loop μ-loop
 in-loop c = c .before
-
-abbrev at-start-from-operator-block : tie.After-operator-block Inv-loop μ-loop → tie.Start Inv-loop μ-loop
-at-start-from-operator-block c = at-start-from-loop (in-loop c)
 
 abbrev after-operator-block : tie.After-operator-arg Inv-loop μ-loop → tie.After-operator-block Inv-loop μ-loop
 after-operator-block c = c .before
 
 abbrev at-start-from-operator-arg : tie.After-operator-arg Inv-loop μ-loop → tie.Start Inv-loop μ-loop
-at-start-from-operator-arg c = at-start-from-operator-block (after-operator-block c)
-
-abbrev at-loop-from-operator-arg : tie.After-operator-arg Inv-loop μ-loop → tie.At-loop Inv-loop μ-loop
-at-loop-from-operator-arg c = at-loop-of-loop′ (in-loop ((after-operator-block c)))
+at-start-from-operator-arg c = at-start (after-shared-slice-known (after-operators (at-loop-of-in-loop (in-loop (after-operator-block c)))))
 
 abbrev after-operator-arg : tie.After-slice-known2 Inv-loop μ-loop → tie.After-operator-arg Inv-loop μ-loop
 after-operator-arg c = c .before .before .before
 
 abbrev at-loop-from-slice-known2 : tie.After-slice-known2 Inv-loop μ-loop → tie.At-loop Inv-loop μ-loop
-at-loop-from-slice-known2 c = at-loop-from-operator-arg (after-operator-arg c)
+at-loop-from-slice-known2 c = at-loop-of-in-loop (in-loop (after-operator-block (after-operator-arg c)))
 
 abbrev at-start-from-slice-known2 : tie.After-slice-known2 Inv-loop μ-loop → tie.Start Inv-loop μ-loop
-at-start-from-slice-known2 c = at-start-from-operator-arg (after-operator-arg c)
+at-start-from-slice-known2 c =
+    at-start (after-shared-slice-known (after-operators (at-loop-of-in-loop (in-loop (after-operator-block (after-operator-arg c))))))
 
 abbrev in-loop-from-slice-known2 : tie.After-slice-known2 Inv-loop μ-loop → tie.In-loop Inv-loop μ-loop
-in-loop-from-slice-known2 c = in-loop (after-operator-block ((after-operator-arg c)))
+in-loop-from-slice-known2 c = in-loop (after-operator-block (after-operator-arg c))
 
-here : (c : tie.In-loop Inv-loop μ-loop) → c .before .loop .i < length (taskOf (at-start-from-loop c .args .image .now) .operators)
+here : (c : tie.In-loop Inv-loop μ-loop) → c .before .loop .i < length (taskOf (at-start-from-in-loop c .args .image .now) .operators)
 here c = omega (arith, c .loop-test .taken, c .before .before .operators .ensures .0)
 
 operators-requires : tie.Need-operators-requires Inv-loop μ-loop
@@ -81,7 +73,7 @@ loop-holds : tie.Need-loop-holds Inv-loop μ-loop
 loop-holds c = write-start
 
 operator-block-requires : tie.Need-operator-block-requires Inv-loop μ-loop
-operator-block-requires c κs = (at-start-from-loop c .pre .0, omega (arith, c .loop-test .taken, c .before .before .operators .ensures .0))
+operator-block-requires c κs = (at-start-from-in-loop c .pre .0, omega (arith, c .loop-test .taken, c .before .before .operators .ensures .0))
 
 operator-requires : tie.Need-operator-requires Inv-loop μ-loop
 operator-requires c κs =
@@ -119,7 +111,7 @@ returns c =
     let l = c .before .loop in
     write-end
     (write-same
-    (words-end (at-start-from-loop′ c .args .image .now) (l .i) (at-start-from-loop′ c .args .places .now)
+    (words-end (at-start-from-after-loop c .args .image .now) (l .i) (at-start-from-after-loop c .args .places .now)
     (omega (arith, c .loop-test .left, c .before .before .operators .ensures .0)))
     (l .inv))
 
