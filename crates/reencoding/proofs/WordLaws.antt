@@ -70,8 +70,8 @@ module _ (places ls : List ℕ) (i : ℕ) where
 
 -- ---- a row
 module _ (places : List ℕ) (e : ℕ) (cs : List ℕ) (right : rowRight (atomsOf places) (row e cs) ≡ true) where
-  pub row-inside : 2 * (e / 2) + 1 < length places
-  unfolding rowRight atomsOf
+  pub row-inside : 2 * atom e + 1 < length places
+  unfolding rowRight atomsOf atom
   row-inside =
       let N = length places / 2 in
       let k = ltb-true e (2 * N) (and-left (ltb e (2 * N)) (literalList N cs) right) in
@@ -82,13 +82,13 @@ module _ (places : List ℕ) (e : ℕ) (cs : List ℕ) (right : rowRight (atomsO
   row-conditions = list-below (atomsOf places) cs (and-right (ltb e (2 * atomsOf places)) (literalList (atomsOf places) cs) right)
 
 pub row-words :
-    (places : List ℕ) (e : ℕ) (cs : List ℕ)
-    → rowBy places (row e cs) ≡ e % 2 ∷ getD places (2 * (e / 2)) 0 ∷ getD places (2 * (e / 2) + 1) 0 ∷ countedBy places cs
-unfolding rowBy atom
-row-words places e cs = refl
+    (places : List ℕ) (e : ℕ) (cs : List ℕ) (a s : ℕ) → a ≡ atom e → s ≡ e % 2
+    → rowBy places (row e cs) ≡ s ∷ getD places (2 * a) 0 ∷ getD places (2 * a + 1) 0 ∷ countedBy places cs
+unfolding rowBy
+row-words places e cs a s ea es = rw (ea, es)
 
 pub row-length : (places : List ℕ) (e : ℕ) (cs : List ℕ) → length (rowBy places (row e cs)) ≡ 4 + 2 * length cs
-row-length places e cs = let a = counted-length places cs in ap length (row-words places e cs) ∙ omega arith
+row-length places e cs = let a = counted-length places cs in ap length (row-words places e cs (atom e) (e % 2) refl refl) ∙ omega arith
 
 pub counted-words : (places ls : List ℕ) → countedBy places ls ≡ length ls ∷ literalsBy places ls
 unfolding countedBy

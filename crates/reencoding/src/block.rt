@@ -54,12 +54,13 @@ fn counted(list: &[u16], places: &[u16], target: &mut [u16], at: usize) -> usize
 }
 
 // Writes a row: 0 for a set, 1 for a clear, variable and value of the effect's atom, and the conditions.
-fn row(effect: usize, conditions: &[u16], places: &[u16], target: &mut [u16], at: usize) -> usize
-    requires { ⌜ (Ready (now places) (rowBy (now places) (row effect (now conditions))) (now target) at) × (rowRight (atomsOf (now places)) (row effect (now conditions)) ≡ true) × (length (now conditions) < 65536) ⌝ }
-    ensures { λ r. ⌜ Wrote (now (target .entry)) at (rowBy (now (places .entry)) (row effect (now (conditions .entry)))) (now (target .exit)) r ⌝ }
+fn row(effect: Literal, conditions: &[u16], places: &[u16], target: &mut [u16], at: usize) -> usize
+    requires { ⌜ (Ready (now places) (rowBy (now places) (row (effect .code) (now conditions))) (now target) at) × (rowRight (atomsOf (now places)) (row (effect .code) (now conditions)) ≡ true) × (length (now conditions) < 65536) ⌝ }
+    ensures { λ r. ⌜ Wrote (now (target .entry)) at (rowBy (now (places .entry)) (row (effect .code) (now (conditions .entry)))) (now (target .exit)) r ⌝ }
 {
-    let a = effect / 2;
-    target[at] = (effect % 2) as u16;
+    let a = effect.atom();
+    let clears = sign(effect);
+    target[at] = clears;
     target[at + 1] = places[2 * a];
     target[at + 2] = places[2 * a + 1];
     counted(conditions, places, target, at + 3)
@@ -86,7 +87,14 @@ fn rows(
             from: start,
             end,
         } = task::block::row(block, next, left);
-        to = row(effect, &block[start..end], places, target, to);
+        let code = effect as u16;
+        to = row(
+            Literal { code: code },
+            &block[start..end],
+            places,
+            target,
+            to,
+        );
         next = end;
         left -= 1;
     }

@@ -45,6 +45,9 @@ loop-holds c =
 row-requires : tie.Need-row-requires Inv-loop μ-loop
 row-requires c κs = (c .before .loop .inv .0, omega arith)
 
+cast-code : tie.Need-cast-code Inv-loop μ-loop
+cast-code c = search needs
+
 mul-row : tie.Need-mul-row Inv-loop μ-loop
 mul-row c = omega (arith, c .row .ensures .low, c .row .ensures .high)
 
@@ -100,6 +103,7 @@ rows-spec =
     μ-loop
     loop-holds
     row-requires
+    cast-code
     mul-row
     sub-row
     part-row-start
