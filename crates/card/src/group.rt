@@ -1,8 +1,6 @@
 // The lines of groups, by the places of the atoms: two words of each, its variable and its value.
-ghost use mathlib.Core.Path.{_≡_};
 ghost use Prim.Native.Nat.{_+_, _*_, _≤_, _<_};
-ghost use lib.ListN.{length, getD};
-ghost use Rattle.definitions.specs.Lists.{each, below};
+ghost use lib.ListN.{length};
 ghost use Rattle.writing.specs.Writing.{Wrote};
 ghost use Rattle.card.specs.Text.{memberText, noneText, groupText, groupTexts, coverText};
 

@@ -1,12 +1,11 @@
 // The lines of the card but those of groups.
 use answer::Refusal;
 use literal::Literal;
-ghost use mathlib.Core.Path.{_≡_};
-ghost use mathlib.Core.List.{[], _∷_, _++_};
+ghost use mathlib.Core.List.{_∷_, _++_};
 ghost use Prim.Native.Nat.{_+_, _≤_, _<_};
 ghost use lib.ListN.{length};
 ghost use Rattle.definitions.specs.Lists.{each};
-ghost use Rattle.definitions.specs.Card.{decimal, clauseLine, refusedText, line};
+ghost use Rattle.definitions.specs.Card.{decimal, clauseLine, refusedText};
 ghost use Rattle.answer.specs.Answer.{placed};
 ghost use Rattle.clause.specs.Rows.{clausesOf};
 ghost use Rattle.writing.specs.Writing.{Wrote};

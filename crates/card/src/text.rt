@@ -1,7 +1,6 @@
 // Numbers and literals written into a lent buffer, from a place on. Each function gives the place after the bytes that it wrote.
 use literal::Literal;
 ghost use mathlib.Core.Path.{_≡_};
-ghost use mathlib.Core.List.{[], _∷_};
 ghost use Prim.Native.Nat.{_+_, _%_, _≤_, _<_};
 ghost use lib.ListN.{length, drop};
 ghost use Rattle.definitions.specs.Card.{decimal, literalText};

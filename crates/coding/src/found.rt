@@ -1,7 +1,7 @@
 // The values of the true atoms: for each variable 0 where no true atom of it is met, else the value of one, plus 1.
 ghost use mathlib.Core.Path.{_≡_};
 ghost use mathlib.Core.List.{map};
-ghost use Prim.Native.Nat.{_≤_, _<_};
+ghost use Prim.Native.Nat.{_<_};
 ghost use lib.ListN.{length, getD};
 ghost use Rattle.definitions.specs.Lists.{all, below};
 ghost use Rattle.definitions.specs.Literal.{mostAtoms};

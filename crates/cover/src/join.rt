@@ -1,8 +1,8 @@
 // The groups: in ascending order each atom joins the lowest group all of whose members are mutex with it, else opens the next.
 // Two words of `places` hold each atom's variable and value, `sizes` holds the number of members of each group.
 ghost use mathlib.Core.Path.{_≡_};
-ghost use Prim.Native.Nat.{ℕ, _*_, _+_, _≤_, _<_, max};
-ghost use lib.ListN.{length, getD, set, replicate};
+ghost use Prim.Native.Nat.{_*_, _+_, _≤_, _<_, max};
+ghost use lib.ListN.{length, replicate};
 ghost use Rattle.definitions.specs.Literal.{mostAtoms};
 ghost use Rattle.definitions.specs.Groups.{groupsBelow};
 ghost use Rattle.clause.specs.Rows.{clausesOf};

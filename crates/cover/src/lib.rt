@@ -1,7 +1,6 @@
 // Mutex groups of atoms by a clause set: the variables of a re-encoding, their values and domains.
-ghost use mathlib.Core.Path.{_≡_};
-ghost use Prim.Native.Nat.{ℕ, _+_, _*_, _≤_};
-ghost use lib.ListN.{length, getD};
+ghost use Prim.Native.Nat.{_+_, _*_, _≤_};
+ghost use lib.ListN.{length};
 ghost use Rattle.definitions.specs.Lists.{each, below};
 ghost use Rattle.clause.specs.Rows.{clausesOf, ClausesRead};
 ghost use Rattle.writing.specs.Writing.{Wrote};

@@ -1,8 +1,8 @@
 // The parts of the re-encoded image: their sizes, the directory, and the operators.
 ghost use mathlib.Core.Path.{_≡_};
 ghost use mathlib.Core.List.{[], _∷_, map};
-ghost use Prim.Native.Nat.{ℕ, _+_, _*_, _≤_, _<_};
-ghost use lib.ListN.{length, getD};
+ghost use Prim.Native.Nat.{_+_, _*_, _≤_, _<_};
+ghost use lib.ListN.{length};
 ghost use Rattle.definitions.specs.Literal.{mostAtoms};
 ghost use Rattle.definitions.specs.Image.{mostImage};
 ghost use Rattle.definitions.specs.FdrImage.{mostFdrImage};

@@ -1,9 +1,9 @@
 // States of a task: setting to the initial state, steps, goal tests and list runs (questions 1 to 7 and 18 to 21).
 ghost use mathlib.Core.Path.{_≡_};
 ghost use mathlib.Core.Bool.{true};
-ghost use Prim.Native.Nat.{_*_, _≤_};
+ghost use Prim.Native.Nat.{_*_};
 ghost use lib.ListN.{length, replicate};
-ghost use Rattle.definitions.specs.Answer.{verdict, finding, outcome, becomes};
+ghost use Rattle.definitions.specs.Answer.{outcome, becomes};
 ghost use Rattle.definitions.specs.Literal.{allTrue};
 ghost use Rattle.definitions.specs.Image.{initialState};
 ghost use Rattle.definitions.specs.StepLists.{runFrom};

@@ -1,6 +1,5 @@
 // Synthesis: rounds that test a set of clauses against itself and weaken those that fail, until none fails.
 ghost use mathlib.Core.Path.{_≡_};
-ghost use mathlib.Core.Bool.{true};
 ghost use mathlib.Core.List.{_++_};
 ghost use Prim.Native.Nat.{_-_, _*_, _≤_};
 ghost use lib.ListN.{length, take, drop, replicate};
@@ -10,7 +9,7 @@ ghost use Rattle.definitions.specs.Literal.{mostAtoms};
 ghost use Rattle.definitions.specs.Clauses.{width};
 ghost use Rattle.definitions.specs.Synthesis.{firstSet, rounds, rowsIn, bufferAfter, madeOf, synthesisCall};
 ghost use Rattle.clause.specs.Rows.{rowCount, clausesOf};
-ghost use Rattle.task.specs.Reads.{taskOf, Reads};
+ghost use Rattle.task.specs.Reads.{taskOf};
 ghost use Rattle.synthesis.specs.Answer.{synthesisAnswer};
 ghost use Rattle.synthesis.specs.Asked.{limitsRight, buffersRight, Asked, Checked};
 ghost use Rattle.synthesis.specs.Rounds.{Ready, Stepped, stepOf, Begun, ended};

@@ -2,7 +2,7 @@
 ghost use mathlib.Core.Path.{_≡_};
 ghost use mathlib.Core.Bool.{true, _&&_};
 ghost use Prim.Native.Nat.{_+_, _-_, _≤_, _<_};
-ghost use lib.ListN.{length, take, drop};
+ghost use lib.ListN.{length, drop};
 ghost use Rattle.definitions.specs.Answer.{verdict};
 ghost use Rattle.definitions.specs.Literal.{mostAtoms};
 ghost use Rattle.definitions.specs.Image.{rowRight, rowsOf, readOperator};
