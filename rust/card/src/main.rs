@@ -1,4 +1,4 @@
-//! The tool behind `./card`: prints the card of a task, by the proved card
+//! The tool that `./card` runs: prints the card of a task, by the proved card
 //! program, and its re-encoded image, by the proved library. The environment
 //! variable CARD_PROGRAM names the card program.
 

@@ -4,7 +4,7 @@ use reference::{agreement, checker, coding, fdr, groups, kept, reencoding};
 use reference::{state, synthesis, task, Reply};
 use std::fmt::Write;
 
-/// What a list holds behind its stored values.
+/// What a list holds after its stored values.
 pub const FILL: u16 = 7;
 
 /// A call by its number, with its two numbers and four lists; what these mean

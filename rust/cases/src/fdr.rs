@@ -115,7 +115,7 @@ fn random_atoms(rng: &mut Rng, source: &Fdr) -> Vec<u8> {
     }
 }
 
-/// A list of operators, most of which can be applied in turn.
+/// A list of operators, most of which can be applied one after the other.
 fn random_list(rng: &mut Rng, source: &Fdr, state: &[u16]) -> Vec<u16> {
     let mut walked = state.to_vec();
     let mut list = state::list(rng, source.spec.operators.len());

@@ -84,7 +84,7 @@ fn structured_cases() -> Vec<Case> {
     cases
 }
 
-/// Operators that can be applied in turn.
+/// Operators that can be applied one after the other.
 fn walk(rng: &mut Rng, image: &[u16], state: &[u8]) -> Vec<u16> {
     let mut walked = state.to_vec();
     let mut list = Vec::new();

@@ -21,7 +21,7 @@ impl Word for u16 {
     const ZERO: u16 = 0;
 }
 
-/// A buffer to lend, with guards before and behind it. Two of them are equal
+/// A buffer to lend, with guards before and after it. Two of them are equal
 /// only if the guards are, too.
 #[derive(Clone, PartialEq, Eq)]
 pub struct Guarded<T>(Vec<T>);
@@ -51,9 +51,9 @@ impl<T: Word> Guarded<T> {
 impl<T: Word> fmt::Debug for Guarded<T> {
     fn fmt(&self, f: &mut fmt::Formatter) -> fmt::Result {
         write!(f, "{:?}", self.lend())?;
-        let (before, behind) = (&self.0[..GUARD], &self.0[self.0.len() - GUARD..]);
-        if before.iter().chain(behind).any(|&word| word != T::GUARD) {
-            write!(f, " with guards changed to {before:?} and {behind:?}")?;
+        let (before, after) = (&self.0[..GUARD], &self.0[self.0.len() - GUARD..]);
+        if before.iter().chain(after).any(|&word| word != T::GUARD) {
+            write!(f, " with guards changed to {before:?} and {after:?}")?;
         }
         Ok(())
     }

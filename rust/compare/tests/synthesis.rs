@@ -43,7 +43,7 @@ fn random_limit(rng: &mut Rng, rounds: usize) -> u16 {
     }
 }
 
-/// A length of the clause buffer around the largest set, with odd words behind.
+/// A length of the clause buffer around the largest set, with odd words after it.
 fn random_words(rng: &mut Rng, atoms: usize, largest: usize) -> usize {
     let rows = match rng.below(12) {
         0 => rng.below(atoms + 1),

@@ -11,8 +11,8 @@ pub fn all() -> [Example; 5] {
 
 /// All pairs of different names, by the first.
 fn pairs<'a>(names: &'a [&'a str]) -> impl Iterator<Item = (&'a str, &'a str)> {
-    let behind = move |a: &'a str| names.iter().filter(move |&&b| b != a).map(move |&b| (a, b));
-    names.iter().flat_map(move |&a| behind(a))
+    let others = move |a: &'a str| names.iter().filter(move |&&b| b != a).map(move |&b| (a, b));
+    names.iter().flat_map(move |&a| others(a))
 }
 
 fn ring() -> Example {

@@ -1,4 +1,4 @@
-//! Images as text for people: decimal words parted by white space, with
+//! Images as text for people: decimal words separated by white space, with
 //! comments from '#' to the end of the line.
 
 use std::fmt;
@@ -51,7 +51,7 @@ pub fn parse_word(text: &str) -> Option<u16> {
     text.parse().ok().filter(|_| digits)
 }
 
-/// Words parted by one space, on a line.
+/// Words separated by one space, on a line.
 pub fn line(words: &[u16]) -> String {
     let fields: Vec<String> = words.iter().map(u16::to_string).collect();
     fields.join(" ") + "\n"

@@ -12,7 +12,7 @@ use crate::Rng;
 
 pub type Damage = fn(&mut Rng, &mut Vec<u16>);
 
-/// Damage that only needs a directory behind two numbers.
+/// Damage that only needs a directory after two numbers.
 pub const COMMON: &[Damage] = &[
     flipped_bits,
     truncated,
@@ -237,7 +237,7 @@ pub fn atom_twice(rng: &mut Rng, image: &mut Vec<u16>) {
     }
 }
 
-/// The place of a word of a list that has another word behind it.
+/// The place of a word of a list that has another word after it.
 fn neighbours(rng: &mut Rng, image: &[u16]) -> Option<usize> {
     let mut lists = layout(image).lists;
     lists.retain(|list| list.len() > 1);
@@ -283,9 +283,9 @@ pub fn count_off(rng: &mut Rng, image: &mut Vec<u16>) {
 pub fn count_past_the_end(rng: &mut Rng, image: &mut Vec<u16>) {
     let counts = layout(image).counts;
     if let Some(place) = rng.place(counts.len()) {
-        let behind = (image.len() - counts[place]) as u16;
+        let remaining = (image.len() - counts[place]) as u16;
         let more = rng.below(8) as u16;
-        image[counts[place]] = *rng.pick(&[behind, behind + more, 32768, 65535 - more]);
+        image[counts[place]] = *rng.pick(&[remaining, remaining + more, 32768, 65535 - more]);
     }
 }
 
@@ -353,7 +353,7 @@ impl Layout {
         Some(())
     }
 
-    /// A counted list at `place`, which moves behind it.
+    /// A counted list at `place`, which moves after it.
     fn add_list(&mut self, image: &[u16], block: &Range<usize>, place: &mut usize) -> Option<()> {
         let start = *place + 1;
         let end = start + usize::from(*image[..block.end].get(*place)?);

@@ -45,7 +45,7 @@ fn lines(found: Finding, clauses: &[Clause], groups: &[Group]) -> String {
     text
 }
 
-/// Fields parted by one space, ended by byte 10.
+/// Fields separated by one space, ended by byte 10.
 fn line(fields: impl Iterator<Item = String>) -> String {
     fields.collect::<Vec<_>>().join(" ") + "\n"
 }

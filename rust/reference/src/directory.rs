@@ -1,6 +1,6 @@
 //! The directory that stands at the head of both kinds of image.
 
-/// Whether the image's `pairs` pairs (offset, length) divide all words behind
+/// Whether the image's `pairs` pairs (offset, length) divide all words after
 /// the directory into parts that follow each other without a gap.
 pub fn is_right(image: &[u16], pairs: usize) -> bool {
     let start = 2 + 2 * pairs;

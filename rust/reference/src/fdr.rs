@@ -66,7 +66,7 @@ pub fn goal(image: &[u16], state: &[u16]) -> Answer<bool> {
     Ok(all_true(task.goal(), state))
 }
 
-/// Does the listed steps in turn and gives their number. Refused among 19 to
+/// Does the listed steps in their order and gives their number. Refused among 19 to
 /// 22, the first place is the number of steps taken, which are kept.
 pub fn run(image: &[u16], state: &mut [u16], list: &[u16]) -> Answer<usize> {
     let task = read(image)?;
@@ -294,18 +294,20 @@ impl<'a> Operator<'a> {
     fn read(block: &'a [u16]) -> Option<Operator<'a>> {
         let (precondition, rest) = split_counted(block, 2)?;
         let (&count, rows) = rest.split_first()?;
-        let mut behind = rows;
+        let mut remaining = rows;
         for _ in 0..count {
-            behind = split_row(behind)?.1;
+            remaining = split_row(remaining)?.1;
         }
-        behind.is_empty().then_some(Operator { precondition, rows })
+        remaining
+            .is_empty()
+            .then_some(Operator { precondition, rows })
     }
 
     fn rows(&self) -> impl Iterator<Item = Row<'a>> {
         let mut words = self.rows;
         std::iter::from_fn(move || {
-            let (row, behind) = split_row(words)?;
-            words = behind;
+            let (row, remaining) = split_row(words)?;
+            words = remaining;
             Some(row)
         })
     }
@@ -314,11 +316,11 @@ impl<'a> Operator<'a> {
 /// Takes one row from the front: kind, variable, value, counted conditions.
 fn split_row(words: &[u16]) -> Option<(Row<'_>, &[u16])> {
     let (&[kind, variable, value], rest) = words.split_first_chunk()?;
-    let (conditions, behind) = split_counted(rest, 2)?;
+    let (conditions, remaining) = split_counted(rest, 2)?;
     let effect = Effect {
         kind: Kind::read(kind)?,
         variable,
         value,
     };
-    Some((Row { effect, conditions }, behind))
+    Some((Row { effect, conditions }, remaining))
 }

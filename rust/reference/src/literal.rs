@@ -4,7 +4,7 @@
 #[derive(Clone, Copy, PartialEq, Eq, PartialOrd, Ord, Debug)]
 pub struct Literal(pub u16);
 
-/// The word that fills a clause row behind its literals.
+/// The word that fills a clause row after its literals.
 pub const FILL: u16 = u16::MAX;
 
 impl Literal {

@@ -7,7 +7,7 @@ use crate::literal::{literals, Literal};
 use crate::task::{Operator, Task};
 
 /// Writes the re-encoded image: the checker's questions, 16. The answer is its
-/// length; words behind it stay.
+/// length; words after it stay.
 pub fn reencode(
     image: &[u16],
     clauses: &[u16],

@@ -29,7 +29,7 @@ pub fn goal(image: &[u16], state: &[u8]) -> Answer<bool> {
     Ok(all_true(task.goal(), state))
 }
 
-/// Does the listed steps in turn and gives their number. Refused among 19 to
+/// Does the listed steps in their order and gives their number. Refused among 19 to
 /// 21, the first place is the number of steps taken, which are kept.
 pub fn run(image: &[u16], state: &mut [u8], list: &[u16]) -> Answer<usize> {
     let task = task::read(image)?;

@@ -27,7 +27,7 @@ pub struct Synthesis {
 }
 
 /// Fills the clause buffer with the set found: questions 1 to 7, 12 to 15.
-/// Refusals 14 and 15 zero the buffer; a finding zeroes what lies behind it.
+/// Refusals 14 and 15 zero the buffer; a finding zeroes what lies after it.
 pub fn synthesize(
     image: &[u16],
     n: u16,

@@ -100,11 +100,13 @@ impl<'a> Operator<'a> {
     fn read(block: &'a [u16]) -> Option<Operator<'a>> {
         let (precondition, rest) = split_counted(block, 1)?;
         let (&count, rows) = rest.split_first()?;
-        let mut behind = rows;
+        let mut remaining = rows;
         for _ in 0..count {
-            behind = split_row(behind)?.1;
+            remaining = split_row(remaining)?.1;
         }
-        behind.is_empty().then_some(Operator { precondition, rows })
+        remaining
+            .is_empty()
+            .then_some(Operator { precondition, rows })
     }
 
     /// Question 7.
@@ -118,8 +120,8 @@ impl<'a> Operator<'a> {
     pub fn rows(&self) -> impl Iterator<Item = Row<'a>> {
         let mut words = self.rows;
         std::iter::from_fn(move || {
-            let (row, behind) = split_row(words)?;
-            words = behind;
+            let (row, remaining) = split_row(words)?;
+            words = remaining;
             Some(row)
         })
     }
@@ -128,10 +130,10 @@ impl<'a> Operator<'a> {
 /// Takes one effect row from the front.
 fn split_row(words: &[u16]) -> Option<(Row<'_>, &[u16])> {
     let (&effect, rest) = words.split_first()?;
-    let (conditions, behind) = split_counted(rest, 1)?;
+    let (conditions, remaining) = split_counted(rest, 1)?;
     let row = Row {
         effect: Literal(effect),
         conditions,
     };
-    Some((row, behind))
+    Some((row, remaining))
 }

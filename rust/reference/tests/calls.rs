@@ -164,7 +164,7 @@ fn synthesis_questions() {
     assert_eq!(call(&RING, 1, 1, 12, 5), refusal(13, 0, 0));
 }
 
-/// The rows of a buffer count up to 10,000, its words behind them are zeroed.
+/// The rows of a buffer count up to 10,000, its words after them are zeroed.
 #[test]
 fn long_clause_buffer() {
     let (answer, rows) = synthesis(&RING, 3, 10, 30_050);
