@@ -10,7 +10,7 @@ pub struct Refusal {
     pub second: usize,
 }
 
-// The questions of document 01.
+// The questions of documents 01 and 02.
 impl Refusal {
     pub const IMAGE_SIZE: u16 = 1;
 
@@ -57,6 +57,12 @@ impl Refusal {
     pub const OMITTED_NONE: u16 = 22;
 
     pub const NOT_CODABLE: u16 = 23;
+
+    pub const TEXT_FORM: u16 = 24;
+
+    pub const TEXT_CLAUSE: u16 = 25;
+
+    pub const TEXT_ROOM: u16 = 26;
 }
 
 // The answer of a call whose finding holds nothing.

@@ -10,7 +10,8 @@ use lib.Dec.{eqb}
 use lib.ListN.{length, getD, length-append}
 use borrow.Author.Tests.{eq-eqb, ne-eqb, eqb-true, eqb-false}
 use Rattle.definitions.specs.Lists.{each, range, below, all}
-use Rattle.definitions.specs.Card.{decimal, noneWord, groupLine}
+use Rattle.definitions.specs.Text.{decimal}
+use Rattle.definitions.specs.Card.{noneWord, groupLine}
 use Rattle.definitions.specs.Groups.{mutex, join, groupsBelow, groups, noneOmitted, placeOf, Place}
 use Rattle.definitions.proofs.GroupLaws.{In, all-below, group-of}
 use Rattle.cover.specs.Join.{Joins, Placed, Grouped}

@@ -10,7 +10,8 @@ use lib.ListN.{length, getD, drop, drop-of-length-le, length-drop}
 use lib.Seq.{drop-drop, drop-cons}
 use borrow.Author.Tests.{eq-eqb, ne-eqb}
 use Rattle.definitions.specs.Lists.{each, range, below}
-use Rattle.definitions.specs.Card.{decimal, literalText, clauseLine, noneWord, wordsOf}
+use Rattle.definitions.specs.Text.{decimal}
+use Rattle.definitions.specs.Card.{literalText, clauseLine, noneWord, wordsOf}
 use Rattle.definitions.proofs.Walks.{left-here, below-left}
 use Rattle.clause.specs.Rows.{clausesOf, rowCount}
 use Rattle.clause.proofs.RowLaws.{clauses-left, clauses-done}

@@ -12,7 +12,8 @@ use Rattle.definitions.specs.Answer.{Refusal}
 use Rattle.definitions.specs.Literal.{atom, positive}
 use Rattle.definitions.specs.Clauses.{width, mostRows, clauseOf}
 use Rattle.definitions.specs.Groups.{mutex, join, groupsBelow, groups, noneOmitted}
-use Rattle.definitions.specs.Card.{digits, decimal, line, literalText, clauseLine, clausesWord, roundsWord, groupsWord, refusedWord}
+use Rattle.definitions.specs.Text.{digits, decimal, line}
+use Rattle.definitions.specs.Card.{literalText, clauseLine, clausesWord, roundsWord, groupsWord, refusedWord}
 use Rattle.definitions.specs.Card.{noneWord, groupLine, foundText, refusedText}
 use Rattle.definitions.proofs.GroupLaws.{In, all-below}
 use Rattle.card.specs.Text.{separator, fieldsFrom, findingOf}

@@ -11,7 +11,8 @@ use lib.Seq.{take-all, length-sets, drop-cons, getD-set-same, drop-set-lt}
 use borrow.Author.Tests.{eq-eqb, ne-eqb}
 use Rattle.definitions.specs.Answer.{Refusal}
 use Rattle.definitions.specs.Literal.{positive, atom}
-use Rattle.definitions.specs.Card.{digits, decimal, line, literalText, clauseLine, clausesWord, roundsWord, groupsWord, refusedWord, refusedText}
+use Rattle.definitions.specs.Text.{digits, decimal, line}
+use Rattle.definitions.specs.Card.{literalText, clauseLine, clausesWord, roundsWord, groupsWord, refusedWord, refusedText}
 use Rattle.card.specs.Text.{separator, fieldsFrom, signOf, countsLine, groupsLine}
 
 -- fields after the first are written alike

@@ -9,7 +9,8 @@ use Rattle.definitions.specs.Literal.{mostLiterals, positive}
 use Rattle.definitions.specs.Answer.{Answer, finding, refused}
 use Rattle.definitions.specs.Clauses.{width, mostRows}
 use Rattle.definitions.specs.Synthesis.{Found, synthesis}
-use Rattle.definitions.specs.Card.{decimal, line, clauseLine, clausesWord, roundsWord, groupsWord, noneWord, foundText, refusedText, mostInput}
+use Rattle.definitions.specs.Text.{decimal, line}
+use Rattle.definitions.specs.Card.{clauseLine, clausesWord, roundsWord, groupsWord, noneWord, foundText, refusedText, mostInput}
 
 -- what stands before field i of a line
 unfoldable pub separator : ℕ → List ℕ

@@ -3,7 +3,8 @@ use literal::Literal;
 ghost use mathlib.Core.Path.{_≡_};
 ghost use Prim.Native.Nat.{_+_, _%_, _≤_, _<_};
 ghost use lib.ListN.{length, drop};
-ghost use Rattle.definitions.specs.Card.{decimal, literalText};
+ghost use Rattle.definitions.specs.Text.{decimal};
+ghost use Rattle.definitions.specs.Card.{literalText};
 ghost use Rattle.writing.specs.Writing.{Wrote};
 ghost use Rattle.card.specs.Text.{separator, signOf};
 

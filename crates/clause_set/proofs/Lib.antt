@@ -2,7 +2,6 @@ pub mod Counting
 pub mod Parts
 pub mod Buffers
 pub mod PartRows
-pub mod Inserted
 pub mod Insertion
 pub mod Extended
 pub mod Pending

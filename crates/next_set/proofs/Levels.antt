@@ -22,7 +22,7 @@ use Rattle.clause_set.specs.Put.{blocked, put, putAll}
 use Rattle.clause_set.proofs.Counting.{Part, another, part-length}
 use Rattle.clause_set.proofs.Parts.{Blocking, blocked-of, blocked-not}
 use Rattle.clause_set.proofs.Insertion.{puts-none}
-use Rattle.clause_set.proofs.Inserted.{Goods, put-self, put-keeps, put-length}
+use Rattle.definitions.proofs.Inserted.{Goods, put-self, put-keeps, put-length}
 use Rattle.next_set.proofs.Undominated.{least-of, least-in, Below, below-least, up-distinct}
 
 good-ascending : (N n : ℕ) (f : List ℕ) → GoodClause N n f → ascending f ≡ true

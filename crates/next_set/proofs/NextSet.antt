@@ -28,7 +28,7 @@ use Rattle.clause_set.specs.Put.{putAll}
 use Rattle.next_set.specs.Build.{fitted, survivors, addedFor, addedBy, addedAt, addedFrom}
 use Rattle.clause_set.proofs.Counting.{Part, part-length}
 use Rattle.clause_set.proofs.Insertion.{puts-none, puts-append}
-use Rattle.clause_set.proofs.Inserted.{Goods, put-self, all-keeps}
+use Rattle.definitions.proofs.Inserted.{Goods, put-self, all-keeps}
 use Rattle.next_set.proofs.Undominated.{least-of, least-in, Antichain, up-distinct}
 use Rattle.next_set.proofs.Levels.{Stage, Grown, puts, next-stage}
 

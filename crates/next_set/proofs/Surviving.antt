@@ -26,7 +26,7 @@ use Rattle.clause.proofs.WordLaws.{row-at}
 use Rattle.clause_set.specs.Put.{putAll}
 use Rattle.definitions.specs.Literal.{mostAtoms}
 use Rattle.clause_set.specs.Held.{held, Room}
-use Rattle.clause_set.proofs.Inserted.{Goods}
+use Rattle.definitions.proofs.Inserted.{Goods}
 use Rattle.clause_set.proofs.Insertion.{room-of, held-of}
 use Rattle.task.specs.Reads.{taskOf}
 use Rattle.next_set.specs.Build.{failsBelow, survivors, addedFrom, fitted, rowsWithout, wordsWithout}

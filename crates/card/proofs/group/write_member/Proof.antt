@@ -2,7 +2,7 @@ use Prim.Native.Nat.{ℕ, _+_, _*_}
 use native.Mathlib.Omega.{arith}
 use mathlib.Core.Path.{_≡_}
 use mathlib.Core.List.{List, _++_}
-use Rattle.definitions.specs.Card.{decimal}
+use Rattle.definitions.specs.Text.{decimal}
 use Rattle.writing.proofs.Writes.{wrote-same, wrote-both, wrote-nothing, first-room, next-room}
 use Rattle.card.specs.Text.{separator, memberText}
 use Rattle.card.proofs.LineLaws.{member-not, member-there}

@@ -1,6 +1,6 @@
 use mathlib.Core.Path.{refl}
 use mathlib.Core.List.{_∷_, _++_}
-use Rattle.definitions.specs.Card.{decimal}
+use Rattle.definitions.specs.Text.{decimal}
 use Rattle.writing.proofs.Writes.{wrote-both, first-room, next-room}
 use borrow.Author.Needs.{needs}
 use Rattle.card.proofs.line.write_named.Statement.{statement}

@@ -1,7 +1,8 @@
 use Prim.Native.Nat.{ℕ, _+_, _≤_}
 use mathlib.Core.List.{List, [], _∷_, _++_}
 use lib.ListN.{length}
-use Rattle.definitions.specs.Card.{decimal, refusedWord, refusedText}
+use Rattle.definitions.specs.Text.{decimal}
+use Rattle.definitions.specs.Card.{refusedWord, refusedText}
 use Rattle.writing.specs.Writing.{Writing}
 use Rattle.writing.proofs.Writes.{write-start, write-same, write-part, write-last, part-room, word-room}
 use Rattle.answer.specs.Answer.{placed}

@@ -4,7 +4,7 @@ use mathlib.Core.Path.{_≡_, refl, sym, _∙_}
 use native.Mathlib.Omega.{arith}
 use borrow.Author.Needs.{needs}
 use lib.ListN.{length, drop, length-set}
-use Rattle.definitions.specs.Card.{digits, decimal}
+use Rattle.definitions.specs.Text.{digits, decimal}
 use Rattle.card.proofs.TextLaws.{digits-start, digits-last, digits-next, digits-end}
 use borrow.Author.Needs.{needs}
 use Rattle.card.proofs.text.fill_digits.Statement.{statement}

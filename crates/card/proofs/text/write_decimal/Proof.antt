@@ -2,7 +2,7 @@ use native.Mathlib.Omega.{arith}
 use Prim.Native.Nat.{_-_}
 use mathlib.Core.Path.{_≡_, ap, sym}
 use lib.ListN.{length, take, drop}
-use Rattle.definitions.specs.Card.{decimal}
+use Rattle.definitions.specs.Text.{decimal}
 use Rattle.writing.proofs.Writes.{wrote-same}
 use Rattle.card.proofs.TextLaws.{digits-cut}
 use borrow.Author.Needs.{needs}

@@ -4,7 +4,8 @@ use mathlib.Core.Path.{_≡_, sym, ap}
 use mathlib.Core.List.{List, [], _∷_, _++_}
 use lib.ListN.{length}
 use Rattle.definitions.specs.Literal.{atom}
-use Rattle.definitions.specs.Card.{decimal, literalText}
+use Rattle.definitions.specs.Text.{decimal}
+use Rattle.definitions.specs.Card.{literalText}
 use Rattle.writing.specs.Writing.{Writing}
 use Rattle.writing.proofs.Writes.{wrote-same, write-start, write-same, write-part, write-last, word-room, write-room}
 use Rattle.card.proofs.TextLaws.{literal-parts}

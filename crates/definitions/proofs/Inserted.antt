@@ -1,19 +1,19 @@
--- A set with one more clause. Assumes nothing.
+-- Clauses put into a set, and what is a member then. Assumes nothing.
+use mathlib.Core.Bool.{_&&_}
 use mathlib.Core.Logic.{_⊎_, inl, inr}
 use mathlib.Core.Path.{_≡_, refl, sym, _∙_, ap}
-use mathlib.Core.List.{List, [], _∷_, List·Memᴰ, List·Memᴰ·head, List·Memᴰ·tail, List·Memᴰ·not-nil, List·Memᴰ·cases-cons}
-use Prim.Native.Nat.{ℕ, zero, suc, _+_, _≤_, Ordering, Ordering·lt, Ordering·eq, Ordering·gt}
+use mathlib.Core.List.{List, [], _∷_, _++_, map, List·Memᴰ, List·Memᴰ·head, List·Memᴰ·tail, List·Memᴰ·not-nil, List·Memᴰ·cases-cons}
+use Prim.Native.Nat.{ℕ, suc, _-_, _*_, _≤_, Ordering, Ordering·lt, Ordering·eq, Ordering·gt}
 use native.Mathlib.Omega.{arith}
-use lib.Dec.{eqb}
-use lib.ListN.{length}
-use Rattle.definitions.specs.Literal.{mostAtoms}
-use Rattle.definitions.specs.Lists.{all, compareWords}
-use Rattle.definitions.specs.Clauses.{width, rowOf, clauseOf}
+use lib.ListN.{length, replicate}
+use Rattle.definitions.specs.Lists.{ascending, compareWords, isSame}
+use Rattle.definitions.specs.Literal.{mostAtoms, atom, fill, allBelow, literalList}
+use Rattle.definitions.specs.Clauses.{width, rowOf, clauseOf, GoodClause}
 use Rattle.definitions.specs.Synthesis.{insertClause, insertAll}
-use Rattle.definitions.proofs.ListLaws.{member-of}
-use Rattle.definitions.specs.Clauses.{GoodClause}
-use Rattle.clause.proofs.RowOrder.{same-row}
-use Rattle.clause.proofs.ClauseLaws.{list-below, row-back}
+use Rattle.definitions.proofs.ListLaws.{and-left, and-right}
+use Rattle.definitions.proofs.PlaceLaws.{same-words}
+use Rattle.definitions.proofs.SetLaws.{insertClause-of}
+use Rattle.definitions.proofs.Accepts.{clause-back}
 
 -- ---- a clause put into a set
 abbrev pub Goods : ℕ → List (List ℕ) → Type 0
@@ -21,10 +21,13 @@ Goods N C = (f : List ℕ) → List·Memᴰ f C → GoodClause N width f
 
 -- clauses with the same row are the same
 pub row-one : (N : ℕ) (f g : List ℕ) → N ≤ mostAtoms → GoodClause N width f → GoodClause N width g → compareWords (rowOf f) (rowOf g) ≡ Ordering·eq → f ≡ g
-row-one N f g few a b e =
-    sym (row-back N f few (list-below N f (a .list)))
-    ∙ ap clauseOf (same-row (rowOf f) (rowOf g) e)
-    ∙ row-back N g few (list-below N g (b .list))
+unfolding rowOf literalList isSame
+row-one N f g few a b e = sym (back f a) ∙ ap clauseOf (same-words (rowOf f) (rowOf g) (ap isSame e)) ∙ back g b
+  where
+    back : (f : List ℕ) → GoodClause N width f → clauseOf (f ++ replicate (width - length f) fill) ≡ f
+    back f a =
+        clause-back N f (width - length f) few
+        (and-right (ascending f) (allBelow (2 * N) f) (and-left (ascending f && allBelow (2 * N) f) (ascending (map atom f)) (a .list)))
 
 pub put-self : (N : ℕ) (f : List ℕ) (C : List (List ℕ)) → N ≤ mostAtoms → GoodClause N width f → Goods N C → List·Memᴰ f (insertClause f C)
 unfolding insertClause
@@ -69,3 +72,22 @@ pub all-keeps : (D C : List (List ℕ)) (h : List ℕ) → List·Memᴰ h C → 
 unfolding insertAll
 all-keeps [] C h m = m
 all-keeps (f ∷ D) C h m = all-keeps D (insertClause f C) h (put-keeps f C h m)
+
+-- every clause put in is there
+pub all-in :
+    (N : ℕ) (D C : List (List ℕ)) (g : List ℕ) → N ≤ mostAtoms → Goods N D → Goods N C → List·Memᴰ g D → List·Memᴰ g (insertAll D C)
+unfolding insertAll
+all-in N [] C g few d c m = absurd (List·Memᴰ·not-nil m)
+all-in N (f ∷ D) C g few d c m =
+    go (List·Memᴰ·cases-cons m) (λ k. all-in N D (insertClause f C) g few (λ h j. d h (List·Memᴰ·tail j)) more k)
+  where
+    more : Goods N (insertClause f C)
+    more h j = pick (insertClause-of f C j)
+      where
+        pick : (h ≡ f) ⊎ List·Memᴰ h C → GoodClause N width h
+        pick (inl e) = rw e (d f (List·Memᴰ·head refl))
+        pick (inr k) = c h k
+
+    go : (g ≡ f) ⊎ List·Memᴰ g D → (List·Memᴰ g D → List·Memᴰ g (insertAll D (insertClause f C))) → List·Memᴰ g (insertAll D (insertClause f C))
+    go (inl e) rec = rw e (all-keeps D (insertClause f C) f (put-self N f C few (d f (List·Memᴰ·head refl)) c))
+    go (inr k) rec = rec k
