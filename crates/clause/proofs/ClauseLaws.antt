@@ -159,7 +159,7 @@ module _ where
       go (inl e) rec = rw e first
       go (inr k) rec = row-trans (rowOf g) (rowOf y) (rowOf x) first (rec k)
 
-  later-up : (g : List ℕ) (D : List (List ℕ)) → upFrom g D ≡ true → up D ≡ true
+  pub later-up : (g : List ℕ) (D : List (List ℕ)) → upFrom g D ≡ true → up D ≡ true
   unfolding up upFrom
   later-up g [] h = refl
   later-up g (y ∷ D) h = and-right (rowLess (rowOf g) (rowOf y)) (upFrom y D) h

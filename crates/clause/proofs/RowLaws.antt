@@ -111,7 +111,7 @@ first-row : (v : List ℕ) → rowAt v 0 ≡ take width v
 unfolding rowAt
 first-row v = rw (mul-zero width)
 
-clauses-step : (v : List ℕ) → width ≤ length v → clausesOf v ≡ clauseOf (take width v) ∷ clausesOf (drop width v)
+pub clauses-step : (v : List ℕ) → width ≤ length v → clausesOf v ≡ clauseOf (take width v) ∷ clausesOf (drop width v)
 unfolding clausesOf
 clauses-step v h =
     ap (clausesIn v 0) (count-step v h)
