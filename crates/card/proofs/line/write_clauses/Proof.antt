@@ -7,9 +7,9 @@ use Rattle.definitions.specs.Lists.{each}
 use Rattle.definitions.specs.Clauses.{clauseOf, rowAt}
 use Rattle.definitions.specs.Card.{clauseLine}
 use Rattle.clause.specs.Rows.{clausesOf, rowCount}
+use Rattle.clause.proofs.RowLaws.{rows-next, rows-done}
 use Rattle.writing.specs.Writing.{Writing}
 use Rattle.writing.proofs.Writes.{write-start, write-same, write-part, write-end, part-room}
-use Rattle.card.proofs.LineLaws.{clauses-next, clauses-end}
 use borrow.Author.Needs.{needs}
 use Rattle.card.proofs.line.write_clauses.Statement.{statement}
 use Rattle.card.proofs.line.write_clauses.Tie as tie
@@ -46,7 +46,7 @@ left :
     (clauseLine (c .literals .result .now) ++ each clauseLine (drop (l .loop .i + 1) (clausesOf (rows l))))
 left c =
     let l = in-loop c .before in
-    write-same (clauses-next (rows l) (l .loop .i) (c .literals .result .now) (inside (in-loop c)) (clause c)) (l .loop .inv .1)
+    write-same (rows-next clauseLine (rows l) (l .loop .i) (c .literals .result .now) (inside (in-loop c)) (clause c)) (l .loop .inv .1)
 
 -- after its line
 abbrev listed : tie.After-slice-known2 Inv-loop μ-loop → tie.After-literals Inv-loop μ-loop
@@ -85,7 +85,7 @@ returns : tie.Need-returns Inv-loop μ-loop
 returns c =
     let l = c .before in
     let past : rowCount (rows l) ≤ l .loop .i = omega (arith, c .loop-test .left, l .before .rows .ensures) in
-    write-end (write-same (clauses-end (rows l) (l .loop .i) past) (l .loop .inv .1))
+    write-end (write-same (rows-done clauseLine (rows l) (l .loop .i) past) (l .loop .inv .1))
 
 pub write-clauses-spec : {M : Type 1} → statement M
 write-clauses-spec =

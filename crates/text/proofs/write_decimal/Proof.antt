@@ -4,10 +4,10 @@ use mathlib.Core.Path.{_≡_, ap, sym}
 use lib.ListN.{length, take, drop}
 use Rattle.definitions.specs.Text.{decimal}
 use Rattle.writing.proofs.Writes.{wrote-same}
-use Rattle.card.proofs.TextLaws.{digits-cut}
+use Rattle.text.proofs.Digits.{digits-cut}
 use borrow.Author.Needs.{needs}
-use Rattle.card.proofs.text.write_decimal.Statement.{statement}
-use Rattle.card.proofs.text.write_decimal.Tie as tie
+use Rattle.text.proofs.write_decimal.Statement.{statement}
+use Rattle.text.proofs.write_decimal.Tie as tie
 
 -- after the digits are made: they stand at the end of the room
 abbrev start : tie.After-fill-digits → tie.Start

@@ -1,8 +1,8 @@
 use mathlib.Core.Path.{sym, _∙_}
 use Rattle.card.proofs.TextLaws.{sign-plus, sign-minus}
 use borrow.Author.Needs.{needs}
-use Rattle.card.proofs.text.sign.Statement.{statement}
-use Rattle.card.proofs.text.sign.Tie as tie
+use Rattle.card.proofs.line.sign.Statement.{statement}
+use Rattle.card.proofs.line.sign.Tie as tie
 
 is-positive-requires : tie.Need-is-positive-requires
 is-positive-requires c κs = search needs

@@ -1,7 +1,7 @@
 use Rattle.writing.proofs.Writes.{wrote-both}
 use borrow.Author.Needs.{needs}
-use Rattle.card.proofs.line.write_number.Statement.{statement}
-use Rattle.card.proofs.line.write_number.Tie as tie
+use Rattle.text.proofs.write_number.Statement.{statement}
+use Rattle.text.proofs.write_number.Tie as tie
 
 abbrev spaced : tie.After-write-decimal → tie.After-out
 spaced c = c .before .before .before

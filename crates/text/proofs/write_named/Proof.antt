@@ -3,8 +3,8 @@ use mathlib.Core.List.{_∷_, _++_}
 use Rattle.definitions.specs.Text.{decimal}
 use Rattle.writing.proofs.Writes.{wrote-both, first-room, next-room}
 use borrow.Author.Needs.{needs}
-use Rattle.card.proofs.line.write_named.Statement.{statement}
-use Rattle.card.proofs.line.write_named.Tie as tie
+use Rattle.text.proofs.write_named.Statement.{statement}
+use Rattle.text.proofs.write_named.Tie as tie
 
 -- after the word
 abbrev lent : tie.After-bytes → tie.After-shared-slice-known

@@ -5,10 +5,10 @@ use native.Mathlib.Omega.{arith}
 use borrow.Author.Needs.{needs}
 use lib.ListN.{length, drop, length-set}
 use Rattle.definitions.specs.Text.{digits, decimal}
-use Rattle.card.proofs.TextLaws.{digits-start, digits-last, digits-next, digits-end}
+use Rattle.text.proofs.Digits.{digits-start, digits-last, digits-next, digits-end}
 use borrow.Author.Needs.{needs}
-use Rattle.card.proofs.text.fill_digits.Statement.{statement}
-use Rattle.card.proofs.text.fill_digits.Tie as tie
+use Rattle.text.proofs.fill_digits.Statement.{statement}
+use Rattle.text.proofs.fill_digits.Tie as tie
 
 abbrev Inv-loop : tie.InvT-loop
 Inv-loop room₀ number left₀ i₀ room left i = (i ≤ 20) × (length room ≡ 20) × (decimal number ≡ digits i left (drop i room))

@@ -10,8 +10,8 @@ use Rattle.writing.specs.Writing.{Writing}
 use Rattle.writing.proofs.Writes.{wrote-same, write-start, write-same, write-part, write-last, word-room, write-room}
 use Rattle.card.proofs.TextLaws.{literal-parts}
 use borrow.Author.Needs.{needs}
-use Rattle.card.proofs.text.write_literal.Statement.{statement}
-use Rattle.card.proofs.text.write_literal.Tie as tie
+use Rattle.card.proofs.line.write_literal.Statement.{statement}
+use Rattle.card.proofs.line.write_literal.Tie as tie
 
 -- the sign is known: both parts are left
 abbrev start : tie.After-sign → tie.Start

@@ -2,10 +2,10 @@ use native.Mathlib.Omega.{arith}
 use mathlib.Core.Path.{_≡_, ap}
 use lib.ListN.{length}
 use Rattle.writing.proofs.Writes.{wrote-same, wrote-nothing}
-use Rattle.card.proofs.TextLaws.{separator-first, separator-next}
+use Rattle.text.proofs.Lines.{separator-first, separator-next}
 use borrow.Author.Needs.{needs}
-use Rattle.card.proofs.text.separate.Statement.{statement}
-use Rattle.card.proofs.text.separate.Tie as tie
+use Rattle.text.proofs.separate.Statement.{statement}
+use Rattle.text.proofs.separate.Tie as tie
 
 -- where the field is not the first
 abbrev start : tie.Else1 → tie.Start

@@ -1,12 +1,11 @@
-// Numbers and literals written into a lent buffer, from a place on. Each function gives the place after the bytes that it wrote.
-use literal::Literal;
+// Numbers and fields of lines as bytes, written into a lent buffer from a place on. Each function that writes gives the place after the bytes that it wrote.
 ghost use mathlib.Core.Path.{_≡_};
+ghost use mathlib.Core.List.{_∷_, _++_};
 ghost use Prim.Native.Nat.{_+_, _%_, _≤_, _<_};
 ghost use lib.ListN.{length, drop};
 ghost use Rattle.definitions.specs.Text.{decimal};
-ghost use Rattle.definitions.specs.Card.{literalText};
 ghost use Rattle.writing.specs.Writing.{Wrote};
-ghost use Rattle.card.specs.Text.{separator, signOf};
+ghost use Rattle.text.specs.Fields.{separator};
 
 // Writes what stands before field `i` of a line: a space, but nothing before the first.
 pub fn separate(out: &mut [u8], at: usize, i: usize) -> usize
@@ -44,6 +43,15 @@ fn fill_digits(room: &mut [u8], number: usize) -> usize
     i
 }
 
+// The number of bytes of a number in decimal.
+pub fn decimal_length(number: usize) -> usize
+    ensures { λ r. ⌜ r ≡ length (decimal number) ⌝ }
+{
+    let mut room = [0u8; 20];
+    let first = fill_digits(&mut room, number);
+    20 - first
+}
+
 // Writes a number in decimal.
 pub fn write_decimal(out: &mut [u8], at: usize, number: usize) -> usize
     requires { ⌜ at + length (decimal number) ≤ length (now out) ⌝ }
@@ -54,18 +62,20 @@ pub fn write_decimal(out: &mut [u8], at: usize, number: usize) -> usize
     writing::bytes(&room[first..], out, at)
 }
 
-// The sign of a literal.
-fn sign(l: Literal) -> u8
-    ensures { λ r. ⌜ r ≡ signOf (l .code) ⌝ }
+// Writes a number as a field after another.
+pub fn write_number(out: &mut [u8], at: usize, number: usize) -> usize
+    requires { ⌜ at + length (32 ∷ decimal number) ≤ length (now out) ⌝ }
+    ensures { λ r. ⌜ Wrote (now (out .entry)) at (32 ∷ decimal number) (now (out .exit)) r ⌝ }
 {
-    if l.is_positive() { b'+' } else { b'-' }
+    let to = writing::byte(b' ', out, at);
+    write_decimal(out, to, number)
 }
 
-// Writes a literal: its sign and atom.
-pub fn write_literal(out: &mut [u8], at: usize, l: Literal) -> usize
-    requires { ⌜ at + length (literalText (l .code)) ≤ length (now out) ⌝ }
-    ensures { λ r. ⌜ Wrote (now (out .entry)) at (literalText (l .code)) (now (out .exit)) r ⌝ }
+// Writes a word, and a number as the field after it.
+pub fn write_named(out: &mut [u8], at: usize, word: &[u8], number: usize) -> usize
+    requires { ⌜ at + length (now word ++ (32 ∷ decimal number)) ≤ length (now out) ⌝ }
+    ensures { λ r. ⌜ Wrote (now (out .entry)) at (now (word .entry) ++ (32 ∷ decimal number)) (now (out .exit)) r ⌝ }
 {
-    let to = writing::byte(sign(l), out, at);
-    write_decimal(out, to, l.atom())
+    let to = writing::bytes(word, out, at);
+    write_number(out, to, number)
 }
