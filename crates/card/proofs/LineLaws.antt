@@ -5,7 +5,7 @@ use Prim.Native.Nat.{ℕ, _+_, _-_, _*_, _/_, _≤_, _<_}
 use native.Mathlib.Omega.{arith}
 use lib.ListN.{length, getD, drop}
 use borrow.Author.Tests.{eq-eqb, ne-eqb}
-use Rattle.definitions.specs.Lists.{each, range, below}
+use Rattle.definitions.specs.Lists.{each, range}
 use Rattle.definitions.specs.Text.{decimal}
 use Rattle.definitions.specs.Card.{literalText, clauseLine, noneWord}
 use Rattle.definitions.proofs.Walks.{below-left}

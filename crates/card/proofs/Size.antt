@@ -8,8 +8,8 @@ use native.Mathlib.Nat.{mul-le-mul-left}
 use lib.ListN.{length, length-append}
 use Rattle.definitions.specs.Lists.{each, all}
 use Rattle.definitions.specs.Answer.{Refusal}
-use Rattle.definitions.specs.Literal.{atom, positive}
-use Rattle.definitions.specs.Clauses.{width, mostRows, clauseOf}
+use Rattle.definitions.specs.Literal.{atom}
+use Rattle.definitions.specs.Clauses.{width, mostRows}
 use Rattle.definitions.specs.Groups.{mutex, join, groupsBelow, groups, noneOmitted}
 use Rattle.definitions.specs.Text.{decimal, line}
 use Rattle.definitions.specs.Card.{literalText, clauseLine, clausesWord, roundsWord, groupsWord, refusedWord}

@@ -1,7 +1,7 @@
 -- Laws of literals and of the lines of numbers, by their parts. Assumes nothing.
 use mathlib.Core.Path.{_≡_}
-use mathlib.Core.Bool.{Bool, true, false}
-use mathlib.Core.List.{List, [], _∷_, _++_, append-assoc}
+use mathlib.Core.Bool.{true, false}
+use mathlib.Core.List.{[], _∷_, _++_, append-assoc}
 use Prim.Native.Nat.{ℕ}
 use Rattle.definitions.specs.Answer.{Refusal}
 use Rattle.definitions.specs.Literal.{positive, atom}

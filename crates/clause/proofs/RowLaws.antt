@@ -1,13 +1,13 @@
 -- Laws of rows and of the clauses of clause words, for the walks and for callers. Assumes nothing.
 use mathlib.Core.Path.{_≡_, refl, sym, _∙_, ap}
-use mathlib.Core.List.{List, [], _∷_, _++_, List·Memᴰ}
+use mathlib.Core.List.{List, [], _∷_, List·Memᴰ}
 use Prim.Native.Nat.{ℕ, zero, suc, _+_, _-_, _*_, _≤_, _<_}
 use native.Mathlib.Nat.{mul-suc, mul-zero}
 use native.Mathlib.Numerals.{add-one}
 use native.Mathlib.Omega.{arith}
 use lib.ListN.{length, getD, take, drop, length-take, length-drop, drop-of-length-le}
 use lib.Seq.{drop-cons, drop-drop}
-use Rattle.definitions.specs.Lists.{each, range, below}
+use Rattle.definitions.specs.Lists.{range, below}
 use Rattle.definitions.specs.Clauses.{width, clauseOf, rowAt}
 use Rattle.definitions.proofs.ListLaws.{map-in, map-of}
 use Rattle.definitions.proofs.Walks.{below-in}
@@ -70,16 +70,6 @@ module _ (w : List ℕ) (i : ℕ) where
 
   pub clauses-done : rowCount w ≤ i → drop i (clausesOf w) ≡ []
   clauses-done h = drop-of-length-le (clausesOf w) {i = i} (rw clauses-length h)
-
--- what f gives of each row's clause, row after row
-module _ {A : Type 0} (f : List ℕ → List A) (w : List ℕ) (i : ℕ) where
-  pub rows-next : (x : List ℕ) → i < rowCount w → x ≡ clauseOf (rowAt w i) → each f (drop i (clausesOf w)) ≡ f x ++ each f (drop (i + 1) (clausesOf w))
-  unfolding each
-  rows-next x h e = rw (clauses-left w i h, e)
-
-  pub rows-done : rowCount w ≤ i → each f (drop i (clausesOf w)) ≡ []
-  unfolding each
-  rows-done h = rw (clauses-done w i h)
 
 -- the row of a clause
 pub record Placed (w f : List ℕ) : Type 0 where

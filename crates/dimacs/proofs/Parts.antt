@@ -2,7 +2,7 @@
 use mathlib.Core.Path.{_≡_, refl, sym, _∙_, ap}
 use mathlib.Core.Bool.{Bool, true, false}
 use mathlib.Core.List.{List, [], _∷_, _++_, map, append-assoc, List·Memᴰ}
-use Prim.Native.Nat.{ℕ, zero, suc, _+_, _*_, _/_, _≤_, _<_}
+use Prim.Native.Nat.{ℕ, suc, _+_, _*_, _≤_, _<_}
 use native.Mathlib.Omega.{arith}
 use native.Mathlib.Nat.{mul-le-mul-left}
 use lib.ListN.{length, getD, drop, length-append}
@@ -12,18 +12,11 @@ use Rattle.definitions.specs.Clauses.{width, mostRows, clauseOf, rowAt}
 use Rattle.definitions.specs.Text.{digits, decimal, line}
 use Rattle.definitions.specs.Dimacs.{headBytes, literalWord, rowFields, dimacsText}
 use Rattle.clause.specs.Rows.{rowCount, clausesOf}
-use Rattle.clause.proofs.RowLaws.{row-length, clauses-length, rows-next, rows-done, Placed, clause-of}
+use Rattle.clause.proofs.RowLaws.{row-length, clauses-length, clause-of}
 use Rattle.clause.proofs.ClauseLaws.{clause-short}
 use Rattle.text.proofs.Lines.{line-more, each-next, each-end}
 use Rattle.text.proofs.Size.{decimal-most, each-size}
 use Rattle.dimacs.specs.Write.{minusOf, literalField, rowLine, headLine}
-
--- bytes that are added up, part after part
-sum-next : (n whole : ℕ) (left part rest : List ℕ) → left ≡ part ++ rest → whole ≡ n + length left → whole ≡ n + length part + length rest
-sum-next n whole left part rest e h = let a = ap length e in let b = length-append part rest in omega arith
-
-sum-end : (n whole : ℕ) (left : List ℕ) → left ≡ [] → whole ≡ n + length left → n ≡ whole
-sum-end n whole left e h = let a = ap length e in omega arith
 
 -- ---- literals
 pub atom-low : (l : ℕ) → atom l ≤ l
@@ -67,10 +60,14 @@ minus-size l = go (positive l) refl
     go true e = rw (minus-none l e) (omega arith)
     go false e = rw (minus-one l e) (omega arith)
 
-field-size : (l : ℕ) → length (literalField l) ≤ 22
+-- with its space
+pub field-bytes : (l d : ℕ) → d ≡ length (literalWord l) → d + 1 ≡ length (literalField l)
 unfolding literalField
+field-bytes l d e = let a = length-append (literalWord l) (32 ∷ []) in omega arith
+
+field-size : (l : ℕ) → length (literalField l) ≤ 22
 field-size l =
-    let a = length-append (literalWord l) (32 ∷ []) in
+    let a = field-bytes l (length (literalWord l)) refl in
     let b = ap length (literal-parts l) in
     let c = length-append (minusOf l) (decimal (atom l + 1)) in
     let d = minus-size l in
@@ -109,21 +106,6 @@ module _ (f : List ℕ) (i : ℕ) where
 pub row-bytes : (f : List ℕ) → length (rowLine f) ≡ 2 + length (each literalField f)
 row-bytes f = let e = ap length (row-parts f) in let a = length-append (each literalField f) (48 ∷ 10 ∷ []) in omega arith
 
--- counted so far, and left from literal i on
-module _ (f : List ℕ) (i n : ℕ) where
-  pub row-sum :
-      (d : ℕ) → d ≡ length (literalWord (getD f i 0)) → i < length f → length (rowLine f) ≡ n + length (each literalField (drop i f))
-      → length (rowLine f) ≡ n + (d + 1) + length (each literalField (drop (i + 1) f))
-  unfolding literalField
-  row-sum d e h s =
-      let l = getD f i 0 in
-      let p = sum-next n (length (rowLine f)) _ (literalField l) _ (each-next literalField f i 0 l refl h) s in
-      let q = length-append (literalWord l) (32 ∷ []) in
-      omega arith
-
-  pub row-sum-end : length f ≤ i → length (rowLine f) ≡ n + length (each literalField (drop i f)) → n ≡ length (rowLine f)
-  row-sum-end h s = sum-end n (length (rowLine f)) _ (each-end literalField f i h) s
-
 pub row-size : (f : List ℕ) → length f ≤ width → length (rowLine f) ≤ 22 * width + 2
 row-size f h =
     let a = row-bytes f in
@@ -145,21 +127,6 @@ module _ (w : List ℕ) where
       let b = clauses-length w in
       let c = mul-le-mul-left (22 * width + 2) few in
       omega (arith, ap (λ (k : ℕ). (22 * width + 2) * k) b)
-
-  -- counted so far, and left from row i on
-  module _ (i n : ℕ) where
-    pub rows-sum :
-        (f : List ℕ) (d : ℕ) → d ≡ length (rowLine f) → i < rowCount w → f ≡ clauseOf (rowAt w i)
-        → length (each rowLine (clausesOf w)) ≡ n + length (each rowLine (drop i (clausesOf w)))
-        → length (each rowLine (clausesOf w)) ≡ n + d + length (each rowLine (drop (i + 1) (clausesOf w)))
-    rows-sum f d e h c s =
-        let p = sum-next n (length (each rowLine (clausesOf w))) _ (rowLine f) _ (rows-next rowLine w i f h c) s in
-        omega arith
-
-    pub rows-sum-end :
-        rowCount w ≤ i → length (each rowLine (clausesOf w)) ≡ n + length (each rowLine (drop i (clausesOf w)))
-        → n ≡ length (each rowLine (clausesOf w))
-    rows-sum-end h s = sum-end n (length (each rowLine (clausesOf w))) _ (rows-done rowLine w i h) s
 
 -- ---- the header and the text
 pub head-parts : (N k : ℕ) → headLine N k ≡ (headBytes ++ (32 ∷ decimal N)) ++ ((32 ∷ decimal k) ++ (10 ∷ []))

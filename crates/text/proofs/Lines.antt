@@ -3,7 +3,8 @@ use mathlib.Core.Path.{_≡_, refl, _∙_, ap}
 use mathlib.Core.List.{List, [], _∷_, _++_, map}
 use Prim.Native.Nat.{ℕ, zero, suc, _+_, _≤_, _<_}
 use native.Mathlib.Numerals.{add-one}
-use lib.ListN.{length, getD, drop, drop-of-length-le}
+use native.Mathlib.Omega.{arith}
+use lib.ListN.{length, getD, drop, length-append, drop-of-length-le}
 use Rattle.definitions.specs.Lists.{each}
 use Rattle.definitions.specs.Text.{line}
 use Rattle.definitions.proofs.Walks.{left-here}
@@ -58,3 +59,16 @@ module _ {A : Type 0} (f : A → List ℕ) (xs : List A) (i : ℕ) where
   pub each-end : length xs ≤ i → each f (drop i xs) ≡ []
   unfolding each
   each-end h = rw (drop-of-length-le xs {i = i} h)
+
+  -- their bytes added up: n so far, and those from element i on
+  module _ (whole n : ℕ) (so-far : whole ≡ n + length (each f (drop i xs))) where
+    pub sum-next :
+        (d x : A) → x ≡ getD xs i d → i < length xs → (bytes : ℕ) → bytes ≡ length (f x)
+        → whole ≡ n + bytes + length (each f (drop (i + 1) xs))
+    sum-next d x e h bytes q =
+        let a = ap length (each-next d x e h) in
+        let b = length-append (f x) (each f (drop (i + 1) xs)) in
+        omega arith
+
+    pub sum-end : length xs ≤ i → n ≡ whole
+    sum-end h = let a = ap length (each-end h) in omega arith

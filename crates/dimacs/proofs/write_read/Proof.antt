@@ -1,5 +1,4 @@
 -- `dimacs::write_read`: the bytes of the text are known before it is written.
-use mathlib.Core.Path.{_≡_}
 use Rattle.answer.proofs.Laws.{outcome-of}
 use Rattle.clause.proofs.ReadLaws.{read-count}
 use Rattle.dimacs.proofs.Calls.{text-not, text-done}

@@ -1,6 +1,6 @@
 -- The digits from place i on stand there; those of what is left of the number go before them.
-use Prim.Native.Nat.{ℕ, _≤_, _-_, _+_, _/_}
-use mathlib.Core.Path.{_≡_, refl, sym, _∙_}
+use Prim.Native.Nat.{_≤_, _-_}
+use mathlib.Core.Path.{_≡_, sym, _∙_}
 use native.Mathlib.Omega.{arith}
 use borrow.Author.Needs.{needs}
 use lib.ListN.{length, drop, length-set}

@@ -1,5 +1,5 @@
 use native.Mathlib.Omega.{arith}
-use mathlib.Core.Path.{_≡_, ap}
+use mathlib.Core.Path.{ap}
 use lib.ListN.{length}
 use Rattle.writing.proofs.Writes.{wrote-same, wrote-nothing}
 use Rattle.text.proofs.Lines.{separator-first, separator-next}

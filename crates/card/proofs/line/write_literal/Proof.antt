@@ -1,13 +1,9 @@
-use native.Mathlib.Omega.{arith}
-use Prim.Native.Nat.{ℕ, _+_, _≤_}
-use mathlib.Core.Path.{_≡_, sym, ap}
-use mathlib.Core.List.{List, [], _∷_, _++_}
-use lib.ListN.{length}
+use mathlib.Core.List.{_∷_}
 use Rattle.definitions.specs.Literal.{atom}
 use Rattle.definitions.specs.Text.{decimal}
 use Rattle.definitions.specs.Card.{literalText}
 use Rattle.writing.specs.Writing.{Writing}
-use Rattle.writing.proofs.Writes.{wrote-same, write-start, write-same, write-part, write-last, word-room, write-room}
+use Rattle.writing.proofs.Writes.{write-start, write-same, write-part, write-last, word-room, write-room}
 use Rattle.card.proofs.TextLaws.{literal-parts}
 use borrow.Author.Needs.{needs}
 use Rattle.card.proofs.line.write_literal.Statement.{statement}

@@ -1,7 +1,6 @@
 -- `dimacs::line::write_head`: the word and the number of atoms, the number of rows, the line's end.
-use Prim.Native.Nat.{ℕ, _+_, _≤_}
+use Prim.Native.Nat.{ℕ, _+_}
 use mathlib.Core.List.{List, [], _∷_, _++_}
-use lib.ListN.{length}
 use Rattle.definitions.specs.Text.{decimal}
 use Rattle.definitions.specs.Dimacs.{headBytes}
 use Rattle.writing.specs.Writing.{Writing}

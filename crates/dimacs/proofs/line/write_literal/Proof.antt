@@ -1,8 +1,6 @@
 -- `dimacs::line::write_literal`: the minus, if there is one, and the variable.
-use Prim.Native.Nat.{ℕ, _+_, _≤_}
-use mathlib.Core.Path.{_≡_, sym}
-use mathlib.Core.List.{List, _++_}
-use lib.ListN.{length}
+use Prim.Native.Nat.{ℕ, _+_}
+use mathlib.Core.List.{List}
 use Rattle.definitions.specs.Literal.{atom}
 use Rattle.definitions.specs.Text.{decimal}
 use Rattle.definitions.specs.Dimacs.{literalWord}

@@ -6,8 +6,9 @@ use mathlib.Core.List.{List}
 use lib.ListN.{length, getD, drop}
 use Rattle.definitions.specs.Lists.{each}
 use Rattle.definitions.specs.Clauses.{width}
+use Rattle.text.proofs.Lines.{sum-next, sum-end}
 use Rattle.dimacs.specs.Write.{literalField, rowLine}
-use Rattle.dimacs.proofs.Parts.{row-bytes, row-sum, row-sum-end, row-size}
+use Rattle.dimacs.proofs.Parts.{field-bytes, row-bytes, row-size}
 use borrow.Author.Needs.{needs}
 use Rattle.dimacs.proofs.size.row_length.Statement.{statement}
 use Rattle.dimacs.proofs.size.row_length.Tie as tie
@@ -36,7 +37,9 @@ next :
     length (rowLine (literals l)) ≡ l .loop .sum + (c .literal-length .result + 1) + length (each literalField (drop (l .loop .i + 1) (literals l)))
 next c =
     let l = at c in
-    row-sum (literals l) (l .loop .i) (l .loop .sum) (c .literal-length .result) (c .literal-length .ensures) (in-loop c .loop-test .taken) (l .loop .inv .1)
+    let x = getD (literals l) (l .loop .i) 0 in
+    sum-next literalField (literals l) (l .loop .i) _ (l .loop .sum) (l .loop .inv .1) 0 x refl (in-loop c .loop-test .taken) _
+    (field-bytes x (c .literal-length .result) (c .literal-length .ensures))
 
 low : (c : tie.After-literal-length Inv-loop μ-loop) → length (rowLine (literals (at c))) < 1000
 unfolding width
@@ -70,7 +73,7 @@ loop-again : tie.Need-loop-again Inv-loop μ-loop
 loop-again c = (omega arith, next c)
 
 returns : tie.Need-returns Inv-loop μ-loop
-returns c = let l = c .before in row-sum-end (literals l) (l .loop .i) (l .loop .sum) (c .loop-test .left) (l .loop .inv .1)
+returns c = let l = c .before in sum-end literalField (literals l) (l .loop .i) _ (l .loop .sum) (l .loop .inv .1) (c .loop-test .left)
 
 pub row-length-spec : {M : Type 1} → statement M
 row-length-spec =
