@@ -24,7 +24,7 @@ use Rattle.definitions.proofs.Accepts.{Finish, synthesis-accepted}
 use Rattle.answer.specs.Answer.{refusalAt}
 use Rattle.clause.specs.Rows.{clausesOf, rowCount, ClausesRead}
 use Rattle.clause.proofs.RowLaws.{clauses-length}
-use Rattle.clause.proofs.ReadLaws.{read-are, read-of, read-whole, read-few}
+use Rattle.clause.proofs.ReadLaws.{read-are, read-of, read-whole, read-count}
 use Rattle.clause.proofs.ReadLaws as reading
 use Rattle.clause.proofs.ClauseLaws.{clause-good, clause-below}
 use Rattle.writing.specs.Writing.{Wrote}
@@ -35,11 +35,7 @@ use Rattle.card.proofs.Size.{refusal-size, found-size}
 
 -- ---- room for the text of clauses that are read
 read-rows : (N : ℕ) (w : List ℕ) → ClausesRead N w → length (clausesOf w) ≤ mostRows
-unfolding rowCount width
-read-rows N w c =
-    let e = clauses-length w in
-    let f = read-few N w c in
-    omega arith
+read-rows N w c = rw (clauses-length w) (read-count N w c)
 
 pub read-size : (N : ℕ) (w : List ℕ) (r : ℕ) → ClausesRead N w → N ≤ mostAtoms → length (foundText N (findingOf (clausesOf w) r)) ≤ mostText
 read-size N w r c few =

@@ -18,8 +18,9 @@ use Rattle.cover.specs.Join.{Joins, Placed, Grouped}
 use Rattle.cover.specs.Cover.{Covered}
 use Rattle.cover.proofs.Joining.{join-there, join-else, join-count, place-old, place-new}
 use Rattle.cover.proofs.Covering.{each-by}
-use Rattle.card.specs.Text.{separator, fieldsFrom, memberText, noneText, groupText, groupTexts}
-use Rattle.card.proofs.TextLaws.{line-fields}
+use Rattle.text.specs.Fields.{separator, fieldsFrom}
+use Rattle.text.proofs.Lines.{line-fields}
+use Rattle.card.specs.Text.{memberText, noneText, groupText, groupTexts}
 
 -- ---- the atoms of a line, from field i on
 unfoldable membersFrom : ℕ → List ℕ → List ℕ

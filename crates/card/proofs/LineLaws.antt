@@ -1,49 +1,23 @@
--- Laws of lines and words that are written part after part. Assumes nothing.
-use mathlib.Core.Path.{_≡_, refl, sym, _∙_, ap}
-use mathlib.Core.Bool.{Bool, true, false, cond}
+-- Laws of lines that are written part after part. Assumes nothing.
+use mathlib.Core.Path.{_≡_, _∙_, ap}
 use mathlib.Core.List.{List, [], _∷_, _++_, map, append-assoc}
-use Prim.Native.Nat.{ℕ, zero, suc, _+_, _-_, _*_, _/_, _≤_, _<_}
-use native.Mathlib.Numerals.{add-one}
+use Prim.Native.Nat.{ℕ, _+_, _-_, _*_, _/_, _≤_, _<_}
 use native.Mathlib.Omega.{arith}
-use lib.Dec.{eqb}
-use lib.ListN.{length, getD, drop, drop-of-length-le, length-drop}
-use lib.Seq.{drop-drop, drop-cons}
+use lib.ListN.{length, getD, drop}
 use borrow.Author.Tests.{eq-eqb, ne-eqb}
-use Rattle.definitions.specs.Lists.{each, range, below}
+use Rattle.definitions.specs.Lists.{each, range}
 use Rattle.definitions.specs.Text.{decimal}
-use Rattle.definitions.specs.Card.{literalText, clauseLine, noneWord, wordsOf}
-use Rattle.definitions.proofs.Walks.{left-here, below-left}
-use Rattle.clause.specs.Rows.{clausesOf, rowCount}
-use Rattle.clause.proofs.RowLaws.{clauses-left, clauses-done}
-use Rattle.definitions.specs.Clauses.{clauseOf, rowAt}
+use Rattle.definitions.specs.Card.{literalText, clauseLine, noneWord}
+use Rattle.definitions.proofs.Walks.{below-left}
 use Rattle.writing.proofs.Ranges.{range-each, range-each-end}
-use Rattle.card.specs.Text.{separator, fieldsFrom, memberText, noneText, groupText, groupTexts}
-use Rattle.card.proofs.TextLaws.{line-fields}
+use Rattle.text.specs.Fields.{separator, fieldsFrom}
+use Rattle.text.proofs.Lines.{line-fields}
+use Rattle.card.specs.Text.{memberText, noneText, groupText, groupTexts}
 
 -- ---- clauses
 pub clause-start : (ls : List ℕ) → clauseLine ls ≡ fieldsFrom 0 (map literalText (drop 0 ls))
 unfolding clauseLine
 clause-start ls = line-fields (map literalText ls)
-
-pub fields-next :
-    (ls : List ℕ) (i l : ℕ) → l ≡ getD ls i 0 → i < length ls
-    → fieldsFrom i (map literalText (drop i ls)) ≡ separator i ++ (literalText l ++ fieldsFrom (i + 1) (map literalText (drop (i + 1) ls)))
-unfolding fieldsFrom
-fields-next ls i l e h = rw (left-here ls i 0 l e h, add-one)
-
-pub fields-end : (ls : List ℕ) (i : ℕ) → length ls ≤ i → fieldsFrom i (map literalText (drop i ls)) ≡ 10 ∷ []
-unfolding fieldsFrom
-fields-end ls i h = rw (drop-of-length-le ls {i = i} h)
-
-pub clauses-next :
-    (w : List ℕ) (i : ℕ) (f : List ℕ) → i < rowCount w → f ≡ clauseOf (rowAt w i)
-    → each clauseLine (drop i (clausesOf w)) ≡ clauseLine f ++ each clauseLine (drop (i + 1) (clausesOf w))
-unfolding each
-clauses-next w i f h e = rw (clauses-left w i h, e)
-
-pub clauses-end : (w : List ℕ) (i : ℕ) → rowCount w ≤ i → each clauseLine (drop i (clausesOf w)) ≡ []
-unfolding each
-clauses-end w i h = rw (clauses-done w i h)
 
 -- ---- groups
 pub none-omitted : (n : ℕ) → n ≡ 0 → noneText n ≡ []

@@ -1,7 +1,7 @@
 -- The lines of the card, field by field as they are written. Assumes nothing.
 use mathlib.Core.Bool.{Bool, cond, _&&_}
 use mathlib.Core.List.{List, [], _∷_, _++_}
-use Prim.Native.Nat.{ℕ, zero, suc, _+_, _*_, _/_, _%_}
+use Prim.Native.Nat.{ℕ, _+_, _*_, _/_, _%_}
 use lib.Dec.{eqb, leb}
 use lib.ListN.{length, getD, drop}
 use Rattle.definitions.specs.Lists.{each, below}
@@ -10,17 +10,8 @@ use Rattle.definitions.specs.Answer.{Answer, finding, refused}
 use Rattle.definitions.specs.Clauses.{width, mostRows}
 use Rattle.definitions.specs.Synthesis.{Found, synthesis}
 use Rattle.definitions.specs.Text.{decimal, line}
+use Rattle.text.specs.Fields.{separator}
 use Rattle.definitions.specs.Card.{clauseLine, clausesWord, roundsWord, groupsWord, noneWord, foundText, refusedText, mostInput}
-
--- what stands before field i of a line
-unfoldable pub separator : ℕ → List ℕ
-separator zero = []
-separator (suc i) = 32 ∷ []
-
--- the fields of a line from field i on, and the line's end
-unfoldable pub fieldsFrom : ℕ → List (List ℕ) → List ℕ
-fieldsFrom i [] = 10 ∷ []
-fieldsFrom i (x ∷ xs) = separator i ++ (x ++ fieldsFrom (suc i) xs)
 
 -- the sign of a literal
 unfoldable pub signOf : ℕ → ℕ

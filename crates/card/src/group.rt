@@ -14,8 +14,8 @@ fn write_member(out: &mut [u8], at: usize, places: &[u16], v: usize, a: usize) -
         return at;
     }
     let value = literal::wide(places[2 * a + 1]);
-    let to = super::text::separate(out, at, value);
-    super::text::write_decimal(out, to, a)
+    let to = text::separate(out, at, value);
+    text::write_decimal(out, to, a)
 }
 
 // Writes "none" after the atoms if it is a value of the group.

@@ -14,8 +14,7 @@ use synthesis::Synthesis;
 
 pub mod found; // found.rt: the text of a finding
 pub mod group; // group.rt: the lines of groups
-pub mod line; // line.rt: the lines of counts, clauses and refusals
-pub mod text; // text.rt: writing of numbers, literals and words into a lent buffer
+pub mod line; // line.rt: literals, and the lines of counts, clauses and refusals
 
 // The most bytes of a text: a line of at most 6 bytes for each literal and one more for each of the most rows; of 5 bytes for
 // each atom and 6 for each group; 128 for the lines of numbers, or the line of a refusal.

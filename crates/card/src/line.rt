@@ -1,33 +1,30 @@
 // The lines of the card but those of groups.
 use answer::Refusal;
 use literal::Literal;
-ghost use mathlib.Core.List.{_∷_, _++_};
-ghost use Prim.Native.Nat.{_+_, _≤_, _<_};
+ghost use mathlib.Core.Path.{_≡_};
+ghost use Prim.Native.Nat.{_+_, _≤_};
 ghost use lib.ListN.{length};
 ghost use Rattle.definitions.specs.Lists.{each};
-ghost use Rattle.definitions.specs.Text.{decimal};
-ghost use Rattle.definitions.specs.Card.{clauseLine, refusedText};
+ghost use Rattle.definitions.specs.Card.{literalText, clauseLine, refusedText};
 ghost use Rattle.answer.specs.Answer.{placed};
 ghost use Rattle.clause.specs.Rows.{clausesOf};
 ghost use Rattle.writing.specs.Writing.{Wrote};
-ghost use Rattle.card.specs.Text.{countsLine, setText, groupsLine};
+ghost use Rattle.card.specs.Text.{signOf, countsLine, setText, groupsLine};
 
-// Writes a number as a field after another.
-fn write_number(out: &mut [u8], at: usize, number: usize) -> usize
-    requires { ⌜ at + length (32 ∷ decimal number) ≤ length (now out) ⌝ }
-    ensures { λ r. ⌜ Wrote (now (out .entry)) at (32 ∷ decimal number) (now (out .exit)) r ⌝ }
+// The sign of a literal.
+fn sign(l: Literal) -> u8
+    ensures { λ r. ⌜ r ≡ signOf (l .code) ⌝ }
 {
-    let to = writing::byte(b' ', out, at);
-    super::text::write_decimal(out, to, number)
+    if l.is_positive() { b'+' } else { b'-' }
 }
 
-// Writes a word, and a number as the field after it.
-fn write_named(out: &mut [u8], at: usize, word: &[u8], number: usize) -> usize
-    requires { ⌜ at + length (now word ++ (32 ∷ decimal number)) ≤ length (now out) ⌝ }
-    ensures { λ r. ⌜ Wrote (now (out .entry)) at (now (word .entry) ++ (32 ∷ decimal number)) (now (out .exit)) r ⌝ }
+// Writes a literal: its sign and atom.
+fn write_literal(out: &mut [u8], at: usize, l: Literal) -> usize
+    requires { ⌜ at + length (literalText (l .code)) ≤ length (now out) ⌝ }
+    ensures { λ r. ⌜ Wrote (now (out .entry)) at (literalText (l .code)) (now (out .exit)) r ⌝ }
 {
-    let to = writing::bytes(word, out, at);
-    write_number(out, to, number)
+    let to = writing::byte(sign(l), out, at);
+    text::write_decimal(out, to, l.atom())
 }
 
 // Writes the line of a clause.
@@ -39,8 +36,8 @@ fn write_clause(out: &mut [u8], at: usize, literals: &[u16]) -> usize
     let mut i: usize = 0;
     while i < literals.len() {
         let l = literals[i];
-        to = super::text::separate(out, to, i);
-        to = super::text::write_literal(out, to, Literal { code: l });
+        to = text::separate(out, to, i);
+        to = write_literal(out, to, Literal { code: l });
         i += 1;
     }
     writing::byte(b'\n', out, to)
@@ -68,9 +65,9 @@ pub fn write_refusal(out: &mut [u8], at: usize, f: Refusal) -> usize
     ensures { λ r. ⌜ Wrote (now (out .entry)) at (refusedText (placed f)) (now (out .exit)) r ⌝ }
 {
     let number = literal::wide(f.number);
-    let first = write_named(out, at, b"refused", number);
-    let second = write_number(out, first, f.first);
-    let end = write_number(out, second, f.second);
+    let first = text::write_named(out, at, b"refused", number);
+    let second = text::write_number(out, first, f.first);
+    let end = text::write_number(out, second, f.second);
     writing::byte(b'\n', out, end)
 }
 
@@ -79,8 +76,8 @@ fn write_counts(out: &mut [u8], at: usize, clauses: usize, rounds: usize) -> usi
     requires { ⌜ at + length (countsLine clauses rounds) ≤ length (now out) ⌝ }
     ensures { λ r. ⌜ Wrote (now (out .entry)) at (countsLine clauses rounds) (now (out .exit)) r ⌝ }
 {
-    let next = write_named(out, at, b"clauses", clauses);
-    let end = write_named(out, next, b" rounds", rounds);
+    let next = text::write_named(out, at, b"clauses", clauses);
+    let end = text::write_named(out, next, b" rounds", rounds);
     writing::byte(b'\n', out, end)
 }
 
@@ -98,6 +95,6 @@ pub fn write_count(out: &mut [u8], at: usize, groups: usize) -> usize
     requires { ⌜ at + length (groupsLine groups) ≤ length (now out) ⌝ }
     ensures { λ r. ⌜ Wrote (now (out .entry)) at (groupsLine groups) (now (out .exit)) r ⌝ }
 {
-    let end = write_named(out, at, b"groups", groups);
+    let end = text::write_named(out, at, b"groups", groups);
     writing::byte(b'\n', out, end)
 }

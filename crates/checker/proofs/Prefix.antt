@@ -5,10 +5,10 @@ use Prim.Native.Nat.{ℕ, _+_, _*_, _≤_, _<_}
 use native.Mathlib.Omega.{arith}
 use lib.ListN.{length, take, drop, take-append-drop, length-append, length-drop}
 use lib.Seq.{length-take-le, take-append-le, drop-append-le, getD-take, ext-getD}
-use Rattle.definitions.specs.Clauses.{width, mostRows, clauseOf, clauseRight, rowAt}
+use Rattle.definitions.specs.Clauses.{width, clauseOf, clauseRight, rowAt}
 use Rattle.clause.specs.Rows.{rowCount, clausesOf, ClausesRead}
 use Rattle.clause.proofs.RowLaws.{clauses-length, clauses-at}
-use Rattle.clause.proofs.ReadLaws.{read-right, read-few}
+use Rattle.clause.proofs.ReadLaws.{read-right}
 use Rattle.definitions.specs.Image.{Operator}
 use Rattle.judge.specs.Judging.{failFlags}
 use Rattle.judge.specs.Promise.{Judged}
@@ -68,13 +68,6 @@ module _ (w : List ℕ) (low : ℕ) (inside : low ≤ rowCount w) where
       (atoms i : ℕ) (C : List (List ℕ)) (o o′ : Operator) (s : List ℕ) → FirstFlag s i
       → s ≡ failFlags atoms C o (clausesOf (take (width * low) w)) → o ≡ o′ → FirstFlag (failFlags atoms C o′ (take low (clausesOf w))) i
   prefix-first atoms i C o o′ s first f eo = subst (λ (l : List ℕ). FirstFlag l i) (f ∙ rw (prefix-clauses, eo)) first
-
--- clauses that are read have no more rows than a buffer of flags
-pub few-rows : (atoms : ℕ) (w : List ℕ) (k : ℕ) → ClausesRead atoms w → k ≡ mostRows → rowCount w ≤ k
-unfolding rowCount width
-few-rows atoms w k read h =
-    let few = read-few atoms w read in
-    omega arith
 
 -- a buffer whose first part was lent and came back
 pub part-kept :

@@ -86,6 +86,10 @@ module _ (N : ℕ) (w : List ℕ) (read : ClausesRead N w) where
   pub read-few : length w ≤ width * mostRows
   read-few = read-rows N w (clausesOf w) (read .read) .1
 
+  pub read-count : rowCount w ≤ mostRows
+  unfolding rowCount width
+  read-count = let few = read-few in omega arith
+
   row-right : (i : ℕ) → i < rowCount w → (clauseRight N (rowAt w i) && aboveLast w i) ≡ true
   row-right i h = rows-right N w 0 (rowCount w) (clausesOf w) (read-rows N w (clausesOf w) (read .read) .2) i (omega arith) (omega arith)
 

@@ -34,7 +34,7 @@ module _ (w c : List ℕ) (marks : ℕ) (old : List ℕ) where
 module _ (N : ℕ) (C : List (List ℕ)) (ps ss ns : List ℕ) (n : ℕ) (cov : Covered N C ps ss ns n) (old : List ℕ) where
   pub groups-not : length old < 2 * n + 2 * N → outcome (refused (refusalAt 16 0 0)) old ≡ written old (groupsAnswer N C (length old))
   unfolding groupsAnswer
-  groups-not h = fits-not (length (groups N C)) (groupWords N C) old (let e = words-length N C ps ss ns n cov in omega arith)
+  groups-not h = fits-not 16 (length (groups N C)) (groupWords N C) old (let e = words-length N C ps ss ns n cov in omega arith)
 
   pub groups-done :
       2 * n + 2 * N ≤ length old → {new : List ℕ} {end : ℕ} → Wrote old 0 (coverWords ps ss ns n) new end
@@ -43,4 +43,4 @@ module _ (N : ℕ) (C : List (List ℕ)) (ps ss ns : List ℕ) (n : ℕ) (cov : 
   groups-done h {new = new} w =
       let e = words-length N C ps ss ns n cov in
       ap (λ (k : ℕ). outcome (finding k) new) (cov .grouped .count)
-      ∙ fits-done (length (groups N C)) (groupWords N C) old (omega arith) (wrote-same (words-are N C ps ss ns n cov) w)
+      ∙ fits-done 16 (length (groups N C)) (groupWords N C) old (omega arith) (wrote-same (words-are N C ps ss ns n cov) w)

@@ -254,7 +254,7 @@ module _ (w : List ℕ) (rd : Reads w) (C : List (List ℕ)) (ps ss ns : List �
   module _ (old : List ℕ) (size : ℕ) (es : size ≡ imageSize n t) where
     pub encode-not : length old < size → outcome (refused (refusalAt 16 0 0)) old ≡ written old (encodeAnswer t C (length old))
     unfolding encodeAnswer
-    encode-not h = fits-not (length (encodedImage t C)) (encodedImage t C) old (let a = ap length image-is in let b = image-length in omega arith)
+    encode-not h = fits-not 16 (length (encodedImage t C)) (encodedImage t C) old (let a = ap length image-is in let b = image-length in omega arith)
 
     pub encode-done :
         size ≤ length old → (new : List ℕ) (end : ℕ) → Wrote old 0 (imageBy t ps ss ns n) new end
@@ -265,7 +265,7 @@ module _ (w : List ℕ) (rd : Reads w) (C : List (List ℕ)) (ps ss ns : List �
         let b = image-length in
         let e : size ≡ length (encodedImage t C) = omega arith in
         ap (λ (k : ℕ). outcome (finding k) new) e
-        ∙ fits-done (length (encodedImage t C)) (encodedImage t C) old (omega arith) (wrote-same image-is wrote)
+        ∙ fits-done 16 (length (encodedImage t C)) (encodedImage t C) old (omega arith) (wrote-same image-is wrote)
 
 -- ---- the call
 module _ (w c : List ℕ) (marks : ℕ) (old : List ℕ) where

@@ -1,4 +1,4 @@
--- Question 16, and words written at the front of a target that is long enough. Assumes nothing.
+-- A target that is too short, and words written at the front of one that is long enough. Assumes nothing.
 use mathlib.Core.Path.{_≡_, ap}
 use mathlib.Core.List.{List}
 use Prim.Native.Nat.{ℕ, _≤_, _<_}
@@ -10,11 +10,12 @@ use Rattle.definitions.specs.Groups.{Written, written}
 use Rattle.writing.specs.Writing.{Wrote}
 use Rattle.writing.proofs.Writes.{wrote-front}
 
-module _ (count : ℕ) (ws old : List ℕ) where
+-- question q asks that the words fit; the finding is a number
+module _ (q count : ℕ) (ws old : List ℕ) where
   abbrev pub fits : Answer Written
-  fits = ask 16 (leb (length ws) (length old)) >>= λ _. finding (record { count = count; words = ws })
+  fits = ask q (leb (length ws) (length old)) >>= λ _. finding (record { count = count; words = ws })
 
-  pub fits-not : length old < length ws → outcome (refused (record { number = 16; first = 0; second = 0 })) old ≡ written old fits
+  pub fits-not : length old < length ws → outcome (refused (record { number = q; first = 0; second = 0 })) old ≡ written old fits
   unfolding written ask askAt _>>=_ outcome
   fits-not h = rw (lt-leb (length ws) (length old) h)
 

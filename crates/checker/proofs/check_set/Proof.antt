@@ -8,7 +8,7 @@ use lib.ListN.{length}
 use Rattle.answer.specs.Answer.{placed, verdictAnswer}
 use Rattle.judge.specs.Promise.{Read}
 use Rattle.checker.specs.Search.{Reading}
-use Rattle.checker.proofs.Prefix.{few-rows}
+use Rattle.clause.proofs.ReadLaws.{read-count}
 use Rattle.checker.proofs.Checking.{check-initial, check-kept, read-both}
 use borrow.Author.Needs.{needs}
 use Rattle.checker.proofs.check_set.Statement.{statement}
@@ -78,7 +78,7 @@ slice-aggregate-check-kept c = search needs
 check-kept-requires : tie.Need-check-kept-requires
 check-kept-requires c κs =
     let d = initial-of (holds-of c) .before in
-    (read d, omega (arith, reading d .marked, d .atoms .ensures .0), few-rows _ _ _ (read d .clauses) (c .before .before .flags-room .ensures))
+    (read d, omega (arith, reading d .marked, d .atoms .ensures .0), omega (arith, read-count _ _ (read d .clauses), c .before .before .flags-room .ensures))
 
 same-length : tie.Need-same-length
 same-length c = search needs

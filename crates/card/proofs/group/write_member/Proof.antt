@@ -4,7 +4,8 @@ use mathlib.Core.Path.{_≡_}
 use mathlib.Core.List.{List, _++_}
 use Rattle.definitions.specs.Text.{decimal}
 use Rattle.writing.proofs.Writes.{wrote-same, wrote-both, wrote-nothing, first-room, next-room}
-use Rattle.card.specs.Text.{separator, memberText}
+use Rattle.text.specs.Fields.{separator}
+use Rattle.card.specs.Text.{memberText}
 use Rattle.card.proofs.LineLaws.{member-not, member-there}
 use borrow.Author.Needs.{needs}
 use Rattle.card.proofs.group.write_member.Statement.{statement}

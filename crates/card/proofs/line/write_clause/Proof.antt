@@ -1,13 +1,14 @@
 use Prim.Native.Nat.{ℕ, _+_, _-_, _≤_}
 use native.Mathlib.Omega.{arith}
-use mathlib.Core.Path.{_≡_, refl, _∙_}
+use mathlib.Core.Path.{refl, _∙_}
 use mathlib.Core.List.{List, [], _∷_, _++_, map}
 use lib.ListN.{length, getD, drop}
 use Rattle.definitions.specs.Card.{literalText, clauseLine}
 use Rattle.writing.specs.Writing.{Writing}
 use Rattle.writing.proofs.Writes.{write-start, write-same, write-part, write-last, part-room, word-room}
-use Rattle.card.specs.Text.{separator, fieldsFrom}
-use Rattle.card.proofs.LineLaws.{clause-start, fields-next, fields-end}
+use Rattle.text.specs.Fields.{separator, fieldsFrom}
+use Rattle.text.proofs.Lines.{fields-next, fields-end}
+use Rattle.card.proofs.LineLaws.{clause-start}
 use borrow.Author.Needs.{needs}
 use Rattle.card.proofs.line.write_clause.Statement.{statement}
 use Rattle.card.proofs.line.write_clause.Tie as tie
@@ -35,7 +36,7 @@ others l = fieldsFrom (l .loop .i + 1) (map literalText (drop (l .loop .i + 1) (
 field :
     (t : tie.In-loop Inv-loop μ-loop) → let l = t .before in
     Left l (l .loop .out) (l .loop .to) (separator (l .loop .i) ++ (literalText (literal l) ++ others l))
-field t = let l = t .before in write-same (fields-next _ (l .loop .i) (literal l) refl (t .loop-test .taken)) (l .loop .inv .1)
+field t = let l = t .before in write-same (fields-next literalText _ (l .loop .i) 0 (literal l) refl (t .loop-test .taken)) (l .loop .inv .1)
 
 -- after what stands before the literal
 abbrev in-loop : tie.After-separate Inv-loop μ-loop → tie.In-loop Inv-loop μ-loop
@@ -51,7 +52,7 @@ after c = c .before .before .before
 
 -- after the last literal
 end : (c : tie.After-loop Inv-loop μ-loop) → let l = c .before in Left l (l .loop .out) (l .loop .to) (10 ∷ [])
-end c = let l = c .before in write-same (fields-end (start l .args .literals .now) (l .loop .i) (c .loop-test .left)) (l .loop .inv .1)
+end c = let l = c .before in write-same (fields-end literalText (start l .args .literals .now) (l .loop .i) (c .loop-test .left)) (l .loop .inv .1)
 
 loop-holds : tie.Need-loop-holds Inv-loop μ-loop
 loop-holds c = (omega arith, write-same (clause-start _) write-start)

@@ -1,22 +1,20 @@
-use Prim.Native.Nat.{ℕ, _+_, _-_, _≤_, _<_}
+-- `card::line::write_clauses`: the lines of the rows from i on are left to be written.
+use Prim.Native.Nat.{ℕ, _-_, _<_}
 use native.Mathlib.Omega.{arith}
-use mathlib.Core.Path.{_≡_, _∙_, ap}
-use mathlib.Core.List.{List, _++_}
-use lib.ListN.{drop}
-use Rattle.definitions.specs.Lists.{each}
-use Rattle.definitions.specs.Clauses.{clauseOf, rowAt}
-use Rattle.definitions.specs.Card.{clauseLine}
+use mathlib.Core.Path.{_≡_, sym, _∙_, ap}
+use mathlib.Core.List.{List, []}
+use lib.ListN.{length, getD}
+use Rattle.definitions.specs.Clauses.{clauseOf}
 use Rattle.clause.specs.Rows.{clausesOf, rowCount}
-use Rattle.writing.specs.Writing.{Writing}
-use Rattle.writing.proofs.Writes.{write-start, write-same, write-part, write-end, part-room}
-use Rattle.card.proofs.LineLaws.{clauses-next, clauses-end}
+use Rattle.clause.proofs.RowLaws.{clauses-length, clauses-at}
+use Rattle.text.proofs.Listing.{Listing, list-start, list-room, list-next, list-done}
+use Rattle.definitions.specs.Card.{clauseLine}
 use borrow.Author.Needs.{needs}
 use Rattle.card.proofs.line.write_clauses.Statement.{statement}
 use Rattle.card.proofs.line.write_clauses.Tie as tie
 
 abbrev Inv-loop : tie.InvT-loop
-Inv-loop out₀ at clauses count to₀ i₀ out to i =
-    (i ≤ rowCount clauses) × Writing out₀ at (each clauseLine (clausesOf clauses)) out to (each clauseLine (drop i (clausesOf clauses)))
+Inv-loop out₀ at clauses count to₀ i₀ out to i = Listing clauseLine (clausesOf clauses) out₀ at out to i
 
 abbrev μ-loop : tie.MeasureT-loop
 μ-loop out₀ at clauses count to₀ i₀ out to i = rowCount clauses - i
@@ -27,26 +25,26 @@ lent c = c .before .before
 abbrev start : tie.At-loop Inv-loop μ-loop → tie.Start Inv-loop μ-loop
 start c = lent c .before .before
 
-abbrev rows : tie.At-loop Inv-loop μ-loop → List ℕ
-rows l = start l .args .clauses .now
+abbrev words : tie.At-loop Inv-loop μ-loop → List ℕ
+words l = start l .args .clauses .now
 
-inside : (t : tie.In-loop Inv-loop μ-loop) → t .before .loop .i < rowCount (rows (t .before))
+counted : (l : tie.At-loop Inv-loop μ-loop) → l .before .rows .result ≡ length (clausesOf (words l))
+counted l = l .before .rows .ensures ∙ sym (clauses-length (words l))
+
+inside : (t : tie.In-loop Inv-loop μ-loop) → t .before .loop .i < rowCount (words (t .before))
 inside t = omega (arith, t .loop-test .taken, t .before .before .rows .ensures)
 
--- the clause of row i, and what is left to be written at it
+more : (t : tie.In-loop Inv-loop μ-loop) → t .before .loop .i < length (clausesOf (words (t .before)))
+more t = omega (arith, t .loop-test .taken, counted (t .before))
+
+-- the clause of row i
 abbrev in-loop : tie.After-literals Inv-loop μ-loop → tie.In-loop Inv-loop μ-loop
 in-loop c = c .before .before .before
 
-clause : (c : tie.After-literals Inv-loop μ-loop) → let l = in-loop c .before in c .literals .result .now ≡ clauseOf (rowAt (rows l) (l .loop .i))
-clause c = c .literals .ensures ∙ ap clauseOf (c .before .before .row .ensures)
-
-left :
-    (c : tie.After-literals Inv-loop μ-loop) → let l = in-loop c .before in
-    Writing (start l .args .out .now) (start l .args .at) (each clauseLine (clausesOf (rows l))) (l .loop .out) (l .loop .to)
-    (clauseLine (c .literals .result .now) ++ each clauseLine (drop (l .loop .i + 1) (clausesOf (rows l))))
-left c =
+clause : (c : tie.After-literals Inv-loop μ-loop) → let l = in-loop c .before in c .literals .result .now ≡ getD (clausesOf (words l)) (l .loop .i) []
+clause c =
     let l = in-loop c .before in
-    write-same (clauses-next (rows l) (l .loop .i) (c .literals .result .now) (inside (in-loop c)) (clause c)) (l .loop .inv .1)
+    c .literals .ensures ∙ ap clauseOf (c .before .before .row .ensures) ∙ sym (clauses-at (words l) (l .loop .i) (inside (in-loop c)))
 
 -- after its line
 abbrev listed : tie.After-slice-known2 Inv-loop μ-loop → tie.After-literals Inv-loop μ-loop
@@ -56,7 +54,7 @@ rows-requires : tie.Need-rows-requires Inv-loop μ-loop
 rows-requires c κs = search needs
 
 loop-holds : tie.Need-loop-holds Inv-loop μ-loop
-loop-holds c = (omega arith, write-start)
+loop-holds c = list-start
 
 row-requires : tie.Need-row-requires Inv-loop μ-loop
 row-requires c κs = inside c
@@ -65,7 +63,7 @@ literals-requires : tie.Need-literals-requires Inv-loop μ-loop
 literals-requires c κs = search needs
 
 write-clause-requires : tie.Need-write-clause-requires Inv-loop μ-loop
-write-clause-requires c κs = part-room (clauseLine (c .literals .result .now)) _ (left c) (start (in-loop c .before) .pre)
+write-clause-requires c κs = let t = in-loop c in list-room (t .before .loop .inv) [] _ (clause c) (more t) (start (t .before) .pre)
 
 add-i : tie.Need-add-i Inv-loop μ-loop
 add-i c = omega (arith, in-loop (listed c) .before .before .rows .ensures)
@@ -75,17 +73,15 @@ loop-less c = let h = inside (in-loop (listed c)) in omega arith
 
 loop-again : tie.Need-loop-again Inv-loop μ-loop
 loop-again c =
-    let h = inside (in-loop (listed c)) in
-    (omega arith, write-part (left (listed c)) (c .before .before .write-clause .ensures))
+    let d = listed c in
+    let t = in-loop d in
+    list-next (t .before .loop .inv) [] _ (clause d) (more t) (c .before .before .write-clause .ensures)
 
 same-length : tie.Need-same-length Inv-loop μ-loop
-same-length c = c .before .loop .inv .1 .size
+same-length c = c .before .loop .inv .left .size
 
 returns : tie.Need-returns Inv-loop μ-loop
-returns c =
-    let l = c .before in
-    let past : rowCount (rows l) ≤ l .loop .i = omega (arith, c .loop-test .left, l .before .rows .ensures) in
-    write-end (write-same (clauses-end (rows l) (l .loop .i) past) (l .loop .inv .1))
+returns c = let l = c .before in list-done (l .loop .inv) (omega (arith, c .loop-test .left, counted l))
 
 pub write-clauses-spec : {M : Type 1} → statement M
 write-clauses-spec =
