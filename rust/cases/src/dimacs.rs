@@ -57,8 +57,11 @@ const WRONG: &[&str] = &[
     "p cnf 3 1\n1-2 0",
     "p cnf 2 1\n1 0",
     "p cnf 4 1\n1 0",
+    "p cnf -3 1\n1 0",
     "p cnf 3 0\n1 0",
     "p cnf 3 2\n1 0",
+    "p cnf 3 -1\n1 0",
+    "p cnf 3 1\n1 2 0\n2 1 0",
     "p cnf 3 1\n1",
     "p cnf 3 1\n1 0 2",
     "p cnf 3 1\n4 0",
@@ -155,6 +158,9 @@ fn fixed_cases() -> Vec<Case> {
     for room in 0..=7 {
         cases.push(read_case(&three, b"p cnf 3 3 3 0 1 0 3 0", room));
     }
+    // 24 and 25 come before 26.
+    cases.push(read_case(&three, b"p cnf 3 2 1 0 4 0", 0));
+    cases.push(read_case(&three, b"p cnf 3 2 1 0 0", 0));
     cases
 }
 
