@@ -7,6 +7,7 @@
 
 mod agreement;
 mod checker;
+mod dimacs;
 mod fdr;
 mod synthesis;
 mod task;
@@ -21,4 +22,5 @@ fn main() {
     synthesis::run(&bench);
     fdr::run(&bench);
     agreement::run(&bench);
+    dimacs::run(&bench);
 }

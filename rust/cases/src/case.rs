@@ -1,6 +1,6 @@
 //! One case: a call with what it is given, and the line that belongs to it.
 
-use reference::{agreement, checker, coding, fdr, groups, kept, reencoding};
+use reference::{agreement, checker, coding, dimacs, fdr, groups, kept, reencoding};
 use reference::{state, synthesis, task, Reply};
 use std::fmt::Write;
 
@@ -62,6 +62,8 @@ impl Case {
             14 => coding::encode(image, small, list).into(),
             15 => coding::decode(image, list, small).into(),
             16 => agreement::agree(image, list, other, small).into(),
+            17 => dimacs::write(image, list, small).into(),
+            18 => dimacs::read(image, small, list).into(),
             call => unreachable!("no call has the number {call}"),
         }
     }
@@ -72,8 +74,8 @@ impl Case {
         let reply = after.answer();
         let mut line = format!("{} {} {} ", reply.number, reply.first, reply.second);
         match self.call {
-            1 | 2 | 4 | 15 => add_list(&mut line, &after.small),
-            7 | 10 | 11 | 13 | 14 => add_list(&mut line, &after.list),
+            1 | 2 | 4 | 15 | 17 => add_list(&mut line, &after.small),
+            7 | 10 | 11 | 13 | 14 | 18 => add_list(&mut line, &after.list),
             8 | 9 => add_list(&mut line, &after.other),
             _ => {}
         }

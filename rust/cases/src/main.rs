@@ -1,12 +1,13 @@
 //! Writes the input and the expected output of the proved test programs, by
 //! the reference: `cases CRATES_FOLDER` makes the files stdin and stdout of
-//! task_cases, clause_cases, fdr_cases and agreement_cases there. The format is
-//! that of crates/cases/src/lib.rt.
+//! task_cases, clause_cases, fdr_cases, agreement_cases and dimacs_cases there.
+//! The format is that of crates/cases/src/lib.rt.
 
 mod agreement;
 mod case;
 mod clause;
 mod collection;
+mod dimacs;
 mod fdr;
 mod task;
 
@@ -19,11 +20,12 @@ type AddCases = fn(&mut Collection);
 fn main() {
     let folder = env::args().nth(1).expect("usage: cases CRATES_FOLDER");
     let folder = Path::new(&folder);
-    let programs: [(&str, AddCases); 4] = [
+    let programs: [(&str, AddCases); 5] = [
         ("task_cases", task::add_cases),
         ("clause_cases", clause::add_cases),
         ("fdr_cases", fdr::add_cases),
         ("agreement_cases", agreement::add_cases),
+        ("dimacs_cases", dimacs::add_cases),
     ];
     for (name, add_cases) in programs {
         let mut collection = Collection::default();

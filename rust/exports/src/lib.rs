@@ -510,9 +510,70 @@ mod agreement {
     }
 }
 
+/// Clauses to and from DIMACS CNF.
+mod dimacs {
+    use super::{reply, Reply};
+
+    extern "C" {
+        fn kb_write_dimacs(
+            image: *const u16,
+            image_length: usize,
+            clauses: *const u16,
+            clauses_length: usize,
+            text: *mut u8,
+            text_length: usize,
+            first: *mut u64,
+            second: *mut u64,
+        ) -> u32;
+        fn kb_read_dimacs(
+            image: *const u16,
+            image_length: usize,
+            text: *const u8,
+            text_length: usize,
+            clauses: *mut u16,
+            clauses_length: usize,
+            first: *mut u64,
+            second: *mut u64,
+        ) -> u32;
+    }
+
+    pub fn write_dimacs(image: &[u16], clauses: &[u16], text: &mut [u8]) -> Reply {
+        // Safety: every pointer comes with the length of its slice.
+        reply(|first, second| unsafe {
+            kb_write_dimacs(
+                image.as_ptr(),
+                image.len(),
+                clauses.as_ptr(),
+                clauses.len(),
+                text.as_mut_ptr(),
+                text.len(),
+                first,
+                second,
+            )
+        })
+    }
+
+    pub fn read_dimacs(image: &[u16], text: &[u8], clauses: &mut [u16]) -> Reply {
+        // Safety: every pointer comes with the length of its slice.
+        reply(|first, second| unsafe {
+            kb_read_dimacs(
+                image.as_ptr(),
+                image.len(),
+                text.as_ptr(),
+                text.len(),
+                clauses.as_mut_ptr(),
+                clauses.len(),
+                first,
+                second,
+            )
+        })
+    }
+}
+
 pub use agreement::*;
 pub use checker::*;
 pub use coding::*;
+pub use dimacs::*;
 pub use fdr::*;
 pub use synthesis::*;
 pub use task::*;

@@ -1,9 +1,10 @@
 //! Deterministic inputs for tests and benchmarks: tasks, states, operator
-//! lists, clause rows and re-encoded images, valid and damaged. Everything
+//! lists, clause rows, re-encoded images and texts, valid and damaged. Everything
 //! comes from a fixed seed, so a run can be repeated exactly.
 
 pub mod clauses;
 pub mod damage;
+pub mod dimacs;
 pub mod fdr;
 pub mod fixed;
 pub mod random;

@@ -1,8 +1,9 @@
 //! An independent implementation of document 01, "Ground invariants and
-//! finite-domain cards", written from that document alone.
+//! finite-domain cards", and of document 02, "Further change requests", §1,
+//! written from these documents alone.
 //!
-//! Every public call works on lent slices as the C interface does and asks
-//! document 01's questions in their order; the first "no" is the refusal.
+//! Every public call works on lent slices as the C interface does and asks the
+//! documents' questions in their order; the first "no" is the refusal.
 
 pub mod agreement;
 pub mod answer;
@@ -11,6 +12,7 @@ pub mod checker;
 pub mod clause;
 pub mod closure;
 pub mod coding;
+pub mod dimacs;
 mod directory;
 pub mod fdr;
 pub mod groups;

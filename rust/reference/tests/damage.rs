@@ -2,9 +2,11 @@
 //! kind of damage is refused often, and every number of reading occurs.
 
 use inputs::damage::{self, COMMON, LISTS};
+use inputs::dimacs::damage::{BYTES, CLAUSES, TEXT};
+use inputs::dimacs::{self, Source, Text};
 use inputs::fdr::{self, SPEC};
-use inputs::{random, structured, Rng};
-use reference::{fdr as model, task};
+use inputs::{clauses, random, structured, Rng};
+use reference::{fdr as model, task, Reply};
 
 #[test]
 fn valid_tasks_are_accepted() {
@@ -75,4 +77,82 @@ fn wrapping_lengths_wrap() {
         let refusal = task::read(&image).expect_err("the sums do not wrap");
         assert_eq!(refusal.number, 3);
     }
+}
+
+/// Reads a text for a task of so many atoms into the most rows.
+fn read_text(atoms: usize, text: &[u8]) -> (u32, Vec<u16>) {
+    let image = inputs::task::lay_out(atoms as u16, 0, &[vec![], vec![]]);
+    let mut rows = vec![0; 30_000];
+    let reply: Reply = reference::dimacs::read(&image, text, &mut rows).into();
+    let count = if reply.number == 0 { reply.first } else { 0 };
+    rows.truncate(3 * count as usize);
+    (reply.number, rows)
+}
+
+#[test]
+fn right_texts_are_read() {
+    let rng = &mut Rng::new(12);
+    for _ in 0..5_000 {
+        let Source { atoms, rows, .. } = dimacs::source(rng);
+        let expected = (0, clauses::words(&rows));
+        let text = dimacs::right(rng, atoms, &rows);
+        assert_eq!(read_text(atoms, &text), expected, "{text:?}");
+        let text = dimacs::written(atoms, &rows);
+        assert_eq!(read_text(atoms, &text), expected, "{text:?}");
+    }
+}
+
+#[test]
+fn each_damage_to_clauses_is_refused() {
+    let rng = &mut Rng::new(13);
+    for (number, damage) in CLAUSES.iter().enumerate() {
+        for _ in 0..300 {
+            let Source { atoms, rows, .. } = dimacs::source(rng);
+            let mut proposal = dimacs::proposal(rng, &rows);
+            damage(rng, atoms, &mut proposal);
+            let text = Text::new(atoms, &proposal).odd(rng);
+            assert_eq!(read_text(atoms, &text).0, 25, "damage {number}: {text:?}");
+        }
+    }
+}
+
+#[test]
+fn each_damage_to_a_text_is_refused() {
+    let rng = &mut Rng::new(14);
+    for (number, damage) in TEXT.iter().enumerate() {
+        for _ in 0..300 {
+            let Source { atoms, rows, .. } = dimacs::source(rng);
+            let mut text = Text::new(atoms, &dimacs::proposal(rng, &rows));
+            damage(rng, &mut text);
+            let text = text.odd(rng);
+            assert_eq!(read_text(atoms, &text).0, 24, "damage {number}: {text:?}");
+        }
+    }
+}
+
+#[test]
+fn each_damage_to_bytes_is_refused_at_times() {
+    let rng = &mut Rng::new(15);
+    for (number, damage) in BYTES.iter().enumerate() {
+        let mut refused = 0;
+        for _ in 0..300 {
+            let Source { atoms, rows, .. } = dimacs::source(rng);
+            let mut text = Text::new(atoms, &dimacs::proposal(rng, &rows)).odd(rng);
+            damage(rng, &mut text);
+            refused += usize::from(read_text(atoms, &text).0 > 0);
+        }
+        assert!(refused >= 60, "damage {number}: {refused} of 300");
+    }
+}
+
+#[test]
+fn texts_of_any_kind_get_each_answer() {
+    let rng = &mut Rng::new(16);
+    let mut counts = [0; 26];
+    for _ in 0..5_000 {
+        let Source { atoms, rows, .. } = dimacs::source(rng);
+        let text = dimacs::any(rng, atoms, &rows);
+        counts[read_text(atoms, &text).0 as usize] += 1;
+    }
+    assert!([0, 24, 25].iter().all(|&number| counts[number] > 500));
 }
