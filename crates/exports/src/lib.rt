@@ -11,6 +11,7 @@ ghost use Rattle.definitions.specs.Groups.{written, groupsCall};
 ghost use Rattle.definitions.specs.Encoding.{encodeCall};
 ghost use Rattle.definitions.specs.Coding.{toAtomsCall, fromAtomsCall};
 ghost use Rattle.definitions.specs.FdrStep.{stepFdr, goalFdr, startFdr, runFdr};
+ghost use Rattle.definitions.specs.Dimacs.{writeDimacs, readDimacs};
 ghost use Rattle.agreement.specs.Compared.{comparison, demanded};
 ghost use Rattle.exports.specs.Returned.{returned, returnedVerdict, returnedTest, returnedCount, returnedMade};
 
@@ -263,4 +264,32 @@ pub extern "C" fn kb_agree(
     ensures { λ r. ⌜ (returned r (now (first .exit)) (now (second .exit)) ≡ returnedTest (comparison (now (image .entry)) (now (clauses .entry)) (length (now (marks .entry))) (now (list .entry)))) × (returned r (now (first .exit)) (now (second .exit)) ≡ returnedTest (demanded (check (now (image .entry)) (now (clauses .entry)) (length (now (marks .entry)))))) ⌝ }
 {
     numbers::test(agreement::agree(image, clauses, list, marks), first, second)
+}
+
+// Writes clauses as a DIMACS text: 1 to 9, then 26. `first` is its number of bytes.
+#[no_mangle]
+pub extern "C" fn kb_write_dimacs(
+    image: &[u16],
+    clauses: &[u16],
+    text: &mut [u8],
+    first: &mut u64,
+    second: &mut u64,
+) -> u32
+    ensures { λ r. ⌜ (returned r (now (first .exit)) (now (second .exit)) ≡ returnedCount (written (now (text .entry)) (writeDimacs (now (image .entry)) (now (clauses .entry)) (length (now (text .entry)))) .answer)) × (now (text .exit) ≡ written (now (text .entry)) (writeDimacs (now (image .entry)) (now (clauses .entry)) (length (now (text .entry)))) .lent) ⌝ }
+{
+    numbers::count(dimacs::write(image, clauses, text), first, second)
+}
+
+// Reads a DIMACS text into clause rows: 1 to 7, then 24 to 26. `first` is the number of rows.
+#[no_mangle]
+pub extern "C" fn kb_read_dimacs(
+    image: &[u16],
+    text: &[u8],
+    clauses: &mut [u16],
+    first: &mut u64,
+    second: &mut u64,
+) -> u32
+    ensures { λ r. ⌜ (returned r (now (first .exit)) (now (second .exit)) ≡ returnedCount (written (now (clauses .entry)) (readDimacs (now (image .entry)) (now (text .entry)) (length (now (clauses .entry)))) .answer)) × (now (clauses .exit) ≡ written (now (clauses .entry)) (readDimacs (now (image .entry)) (now (text .entry)) (length (now (clauses .entry)))) .lent) ⌝ }
+{
+    numbers::count(dimacs::read(image, text, clauses), first, second)
 }
