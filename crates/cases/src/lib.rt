@@ -1,8 +1,8 @@
 // The test programs over the C interface: `run` runs the calls on the cases of standard input, and writes what each answers.
 // A case is little-endian words: the call, two numbers, for each of four lists its length and how many of its first values are
 // stored, then the stored values of the lists. The lists are an image, two more lists of words, and a list of bytes (a word for
-// each byte). A value that is not stored is 7. The calls and their numbers stand in `task_call` (0 to 4), `clause_call` (5 to 9)
-// and `fdr_call` (10 to 16). A line has the returned number, both values or places, and the list that was lent to be changed (not
+// each byte). A value that is not stored is 7. The calls and their numbers stand in `task_call` (0 to 4), `clause_call` (5 to 9),
+// `fdr_call` (10 to 16) and `dimacs_call` (17 and 18). A line has the returned number, both values or places, and the list that was lent to be changed (not
 // marks and work, which may hold anything), after a bar.
 //
 // Only `run` is public. The other functions of this file call the C interface, whose contracts stand in `exports`, and write:
@@ -60,8 +60,8 @@ fn write_bytes(list: &[u8]) {
 // The list that call `which` was lent to be changed.
 fn write_lent(which: u16, list: &[u16], other: &[u16], small: &[u8]) {
     match which {
-        1 | 2 | 4 | 15 => write_bytes(small),
-        7 | 10 | 11 | 13 | 14 => write_words(list),
+        1 | 2 | 4 | 15 | 17 => write_bytes(small),
+        7 | 10 | 11 | 13 | 14 | 18 => write_words(list),
         8 | 9 => write_words(other),
         _ => {}
     }
@@ -133,6 +133,21 @@ fn fdr_call(
     }
 }
 
+// On DIMACS texts: 17 writing, 18 reading. `small` is the text, `list` the clause rows.
+fn dimacs_call(
+    which: u16,
+    image: &[u16],
+    list: &mut [u16],
+    small: &mut [u8],
+    first: &mut u64,
+    second: &mut u64,
+) -> u32 {
+    match which {
+        17 => exports::kb_write_dimacs(image, list, small, first, second),
+        _ => exports::kb_read_dimacs(image, small, list, first, second),
+    }
+}
+
 fn call(
     which: u16,
     x: u16,
@@ -150,7 +165,10 @@ fn call(
     if which < 10 {
         return clause_call(which, x, y, image, list, other, small, first, second);
     }
-    fdr_call(which, x, image, list, other, small, first, second)
+    if which < 17 {
+        return fdr_call(which, x, image, list, other, small, first, second);
+    }
+    dimacs_call(which, image, list, small, first, second)
 }
 
 // ---- The cases
