@@ -19,6 +19,8 @@ use Rattle.definitions.proofs.ListLaws.{getD-mem}
 use Rattle.definitions.proofs.OrderLaws.{up, upFrom, same-self}
 use Rattle.definitions.specs.Clauses.{GoodClause}
 use Rattle.definitions.proofs.Accepts as accepts
+use Rattle.definitions.proofs.RowsRead.{right-row}
+use Rattle.definitions.proofs.RowsRead as rows-read
 use Rattle.definitions.proofs.Accepts.{clause-back}
 use Rattle.clause.specs.Rows.{rowCount, clausesIn, clausesOf, RightRows}
 use Rattle.clause.specs.Search.{Sought, isThere}
@@ -41,49 +43,8 @@ pub low-at : (n : ℕ) (ls : List ℕ) (i : ℕ) → allBelow n ls ≡ true → 
 low-at n ls i h low = below-at n ls h (getD ls i 0) (getD-mem ls i 0 low)
 
 -- ---- a right row and its clause
-module _ (N : ℕ) (row : List ℕ) (right : clauseRight N row ≡ true) where
-  -- the row is that of its clause
-  pub right-row : rowOf (clauseOf row) ≡ row
-  unfolding clauseRight
-  right-row =
-      sym
-      (same-words row (rowOf (clauseOf row))
-      (and-right (not (empty (clauseOf row)) && literalList N (clauseOf row)) (isSame (compareWords row (rowOf (clauseOf row)))) right))
-
-  pub right-list : literalList N (clauseOf row) ≡ true
-  unfolding clauseRight
-  right-list =
-      and-right (not (empty (clauseOf row))) (literalList N (clauseOf row))
-      (and-left (not (empty (clauseOf row)) && literalList N (clauseOf row)) (isSame (compareWords row (rowOf (clauseOf row)))) right)
-
-  pub right-some : 1 ≤ length (clauseOf row)
-  unfolding clauseRight empty
-  right-some =
-      go (clauseOf row)
-      (and-left (not (empty (clauseOf row))) (literalList N (clauseOf row))
-      (and-left (not (empty (clauseOf row)) && literalList N (clauseOf row)) (isSame (compareWords row (rowOf (clauseOf row)))) right))
-    where
-      go : (f : List ℕ) → not (empty f) ≡ true → 1 ≤ length f
-      go [] h = absurd (false≢true h)
-      go (x ∷ f) h = omega arith
-
-pub clause-short : (row : List ℕ) → length (clauseOf row) ≤ length row
-unfolding clauseOf
-clause-short [] = omega arith
-clause-short (x ∷ row) = go (eqb x fill) refl (clause-short row)
-  where
-    go : (b : Bool) → eqb x fill ≡ b → length (clauseOf row) ≤ length row → length (clauseOf (x ∷ row)) ≤ suc (length row)
-    go true e rec = rw (e, clauseOf) (omega arith)
-    go false e rec = rw (e, clauseOf) (omega arith)
-
--- 1 to `width` literals as a literal list
 pub right-good : (N : ℕ) (row : List ℕ) → length row ≡ width → clauseRight N row ≡ true → GoodClause N width (clauseOf row)
-right-good N row wide right =
-    record {
-      list = right-list N row right;
-      some-literal = right-some N row right;
-      most = (let h = clause-short row in omega arith);
-    }
+right-good N row wide right = rows-read.right-good N row (omega arith) right
 
 module _ (N : ℕ) (f : List ℕ) (few : N ≤ mostAtoms) where
   -- the clause of the row of a clause

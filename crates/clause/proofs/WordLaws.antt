@@ -21,7 +21,7 @@ use Rattle.answer.proofs.Laws.{verdict-finding}
 use Rattle.clause.specs.Rows.{rowCount, clausesIn, clausesOf, ClausesRead, ClauseRead, RightRows}
 use Rattle.clause.proofs.RowLaws.{in-none, in-step, clauses-at}
 use Rattle.clause.proofs.ReadLaws.{read-of, read-are}
-use Rattle.clause.proofs.ClauseLaws.{right-row}
+use Rattle.definitions.proofs.RowsRead.{right-row}
 
 whole-length : (w : List ℕ) → length w % width ≡ 0 → length w ≤ width * rowCount w
 unfolding rowCount width

@@ -22,7 +22,8 @@ use Rattle.definitions.proofs.GroupLaws.{In, in-mem, mem-in}
 use Rattle.definitions.proofs.PlaceLaws as places
 use Rattle.clause.specs.Rows.{rowCount, clausesOf, ClausesRead, RightRows}
 use Rattle.clause.proofs.ReadLaws.{read-right}
-use Rattle.clause.proofs.ClauseLaws.{right-some, right-list, list-below, clause-below}
+use Rattle.definitions.proofs.RowsRead.{right-some, right-list}
+use Rattle.clause.proofs.ClauseLaws.{list-below, clause-below}
 use Rattle.cover.specs.Join.{Placed, Grouped}
 use Rattle.cover.specs.None.{inGroup, liesIn, Within}
 use Rattle.cover.specs.Cover.{Room, Covered}

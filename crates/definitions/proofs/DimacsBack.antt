@@ -22,6 +22,7 @@ use Rattle.definitions.proofs.ListLaws.{and-left, and-right, and-both, 
 use Rattle.definitions.proofs.LiteralLaws.{Shape, is, isnt, shape}
 use Rattle.definitions.specs.Clauses.{GoodClause}
 use Rattle.definitions.proofs.AnswerLaws.{same-finding, bind-of}
+use Rattle.definitions.proofs.LiteralLaws.{list-low}
 use Rattle.definitions.proofs.ReadLaws.{read-right, ReadRight}
 use Rattle.definitions.proofs.RowsRead.{RightSet, rows-right}
 use Rattle.definitions.proofs.Accepts.{words-length}
@@ -200,10 +201,6 @@ module _ (N : ℕ) (few : N ≤ 1024) where
     text-clauses = ap (λ ns. map (map literalOf) (ended (split isZero (drop 2 ns)))) text-numbers ∙ ap (map (map literalOf)) parts ∙ set-clauses C
 
 -- ---- a right clause set
-good-low : (N : ℕ) (f : List ℕ) → GoodClause N width f → allBelow (2 * N) f ≡ true
-unfolding literalList
-good-low N f g = and-right (ascending f) (allBelow (2 * N) f) (and-left (ascending f && allBelow (2 * N) f) (ascending (map atom f)) (g .list))
-
 good-ascends : (N : ℕ) (f : List ℕ) → GoodClause N width f → ascending f ≡ true
 unfolding literalList
 good-ascends N f g = and-left (ascending f) (allBelow (2 * N) f) (and-left (ascending f && allBelow (2 * N) f) (ascending (map atom f)) (g .list))
@@ -238,14 +235,14 @@ written-read w t C target read right room =
     few = read-right w t read .few
 
     low : (f : List ℕ) → List·Memᴰ f C → allBelow (2 * t .atoms) f ≡ true
-    low f m = good-low (t .atoms) f (right .clauses f m)
+    low f m = list-low (t .atoms) f (right .clauses f m .list)
 
 -- a text is written of one right set only
 pub written-once : (N : ℕ) (C D : List (List ℕ)) → N ≤ 1024 → RightSet N C → RightSet N D → dimacsText N C ≡ dimacsText N D → C ≡ D
 written-once N C D few c d e =
-    sym (text-clauses N few C (λ f m. good-low N f (c .clauses f m)) (c .rows))
+    sym (text-clauses N few C (λ f m. list-low N f (c .clauses f m .list)) (c .rows))
     ∙ ap clausesIn e
-    ∙ text-clauses N few D (λ f m. good-low N f (d .clauses f m)) (d .rows)
+    ∙ text-clauses N few D (λ f m. list-low N f (d .clauses f m .list)) (d .rows)
 
 -- ---- both calls
 again :

@@ -1,30 +1,28 @@
 -- Whatever reading a text finds passes questions 8 and 9: it is the distinct clauses of the text. Assumes nothing.
 use mathlib.Core.Bool.{Bool, true, false, _&&_, cond, false≢true}
 use mathlib.Core.Logic.{_⊎_, inl, inr}
-use mathlib.Core.Path.{_≡_, refl, sym, _∙_, ap, subst}
-use mathlib.Core.List.{List, [], _∷_, _++_, map, List·Memᴰ, List·Memᴰ·head, List·Memᴰ·tail, List·Memᴰ·not-nil, List·Memᴰ·cases-cons}
-use Prim.Native.Nat.{ℕ, _+_, _-_, _*_, _≤_, _<_, Ordering, Ordering·lt, Ordering·eq, Ordering·gt}
+use mathlib.Core.Path.{_≡_, refl, sym, ap, subst}
+use mathlib.Core.List.{List, [], _∷_, map, List·Memᴰ, List·Memᴰ·not-nil}
+use Prim.Native.Nat.{ℕ, _+_, _-_, _*_, _≤_, _<_}
 use native.Mathlib.Omega.{arith}
 use lib.Dec.{ltb, leb}
-use lib.ListN.{length, drop, replicate}
+use lib.ListN.{length, drop}
 use borrow.Author.Tests.{eqb-false, leb-true, lt-ltb}
-use Rattle.definitions.specs.Lists.{all, ascending, compareWords, isSame}
+use Rattle.definitions.specs.Lists.{all}
 use Rattle.definitions.specs.Answer.{finding, askAt, ask, _>>=_}
-use Rattle.definitions.specs.Literal.{atom, fill, allBelow, literalList}
+use Rattle.definitions.specs.Literal.{allBelow}
 use Rattle.definitions.specs.Image.{Task, readTask}
-use Rattle.definitions.specs.Clauses.{width, mostRows, rowOf, clauseOf, clauseWords, readClauses}
-use Rattle.definitions.specs.Synthesis.{insertClause, insertAll}
+use Rattle.definitions.specs.Clauses.{width, mostRows, clauseWords, readClauses}
 use Rattle.definitions.specs.Groups.{Written}
 use Rattle.definitions.specs.Dimacs.{split, ended, allEnded, Number, headed, isNumber, wordsIn, numbersIn, isZero, isThe, literalOf}
 use Rattle.definitions.specs.Dimacs.{saysClauses, isDimacs, clausesIn, fitsRow, sorted, distinct, readDimacs}
 use Rattle.definitions.proofs.ListLaws.{and-left, and-right, and-both, all-at, map-in, map-of, Origin}
-use Rattle.definitions.proofs.SetLaws.{insertClause-of, insertAll-of}
+use Rattle.definitions.proofs.SetLaws.{insertAll-of}
 use Rattle.definitions.proofs.OrderLaws.{up, insertAll-up}
-use Rattle.definitions.proofs.PlaceLaws.{same-words}
 use Rattle.definitions.specs.Clauses.{GoodClause}
 use Rattle.definitions.proofs.AnswerLaws.{same-finding, bind-of, ask-of}
 use Rattle.definitions.proofs.ReadLaws.{read-right, ReadRight}
-use Rattle.definitions.proofs.Accepts.{clause-back, read-back}
+use Rattle.definitions.proofs.Accepts.{read-back}
 use Rattle.definitions.proofs.DimacsLaws.{split-all, ended-all}
 use Rattle.definitions.proofs.DimacsRows.{good-sorted}
 use Rattle.definitions.proofs.Inserted.{all-in}

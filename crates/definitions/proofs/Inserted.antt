@@ -1,16 +1,15 @@
 -- Clauses put into a set, and what is a member then. Assumes nothing.
-use mathlib.Core.Bool.{_&&_}
 use mathlib.Core.Logic.{_⊎_, inl, inr}
 use mathlib.Core.Path.{_≡_, refl, sym, _∙_, ap}
-use mathlib.Core.List.{List, [], _∷_, _++_, map, List·Memᴰ, List·Memᴰ·head, List·Memᴰ·tail, List·Memᴰ·not-nil, List·Memᴰ·cases-cons}
-use Prim.Native.Nat.{ℕ, suc, _-_, _*_, _≤_, Ordering, Ordering·lt, Ordering·eq, Ordering·gt}
+use mathlib.Core.List.{List, [], _∷_, _++_, List·Memᴰ, List·Memᴰ·head, List·Memᴰ·tail, List·Memᴰ·not-nil, List·Memᴰ·cases-cons}
+use Prim.Native.Nat.{ℕ, suc, _-_, _≤_, Ordering, Ordering·lt, Ordering·eq, Ordering·gt}
 use native.Mathlib.Omega.{arith}
 use lib.ListN.{length, replicate}
-use Rattle.definitions.specs.Lists.{ascending, compareWords, isSame}
-use Rattle.definitions.specs.Literal.{mostAtoms, atom, fill, allBelow, literalList}
+use Rattle.definitions.specs.Lists.{compareWords, isSame}
+use Rattle.definitions.specs.Literal.{mostAtoms, fill}
 use Rattle.definitions.specs.Clauses.{width, rowOf, clauseOf, GoodClause}
 use Rattle.definitions.specs.Synthesis.{insertClause, insertAll}
-use Rattle.definitions.proofs.ListLaws.{and-left, and-right}
+use Rattle.definitions.proofs.LiteralLaws.{list-low}
 use Rattle.definitions.proofs.PlaceLaws.{same-words}
 use Rattle.definitions.proofs.SetLaws.{insertClause-of}
 use Rattle.definitions.proofs.Accepts.{clause-back}
@@ -21,13 +20,11 @@ Goods N C = (f : List ℕ) → List·Memᴰ f C → GoodClause N width f
 
 -- clauses with the same row are the same
 pub row-one : (N : ℕ) (f g : List ℕ) → N ≤ mostAtoms → GoodClause N width f → GoodClause N width g → compareWords (rowOf f) (rowOf g) ≡ Ordering·eq → f ≡ g
-unfolding rowOf literalList isSame
+unfolding rowOf isSame
 row-one N f g few a b e = sym (back f a) ∙ ap clauseOf (same-words (rowOf f) (rowOf g) (ap isSame e)) ∙ back g b
   where
     back : (f : List ℕ) → GoodClause N width f → clauseOf (f ++ replicate (width - length f) fill) ≡ f
-    back f a =
-        clause-back N f (width - length f) few
-        (and-right (ascending f) (allBelow (2 * N) f) (and-left (ascending f && allBelow (2 * N) f) (ascending (map atom f)) (a .list)))
+    back f a = clause-back N f (width - length f) few (list-low N f (a .list))
 
 pub put-self : (N : ℕ) (f : List ℕ) (C : List (List ℕ)) → N ≤ mostAtoms → GoodClause N width f → Goods N C → List·Memᴰ f (insertClause f C)
 unfolding insertClause

@@ -26,37 +26,52 @@ pub record RightSet (N : ℕ) (C : List (List ℕ)) : Type 0 where
   pub order : up C ≡ true
   pub rows : length C ≤ mostRows
 
-shorter : (row : List ℕ) → length (clauseOf row) ≤ length row
+-- ---- a right row and its clause
+module _ (N : ℕ) (row : List ℕ) (right : clauseRight N row ≡ true) where
+  -- the row is that of its clause
+  pub right-row : rowOf (clauseOf row) ≡ row
+  unfolding clauseRight
+  right-row =
+      sym
+      (same-words row (rowOf (clauseOf row))
+      (and-right (not (empty (clauseOf row)) && literalList N (clauseOf row)) (isSame (compareWords row (rowOf (clauseOf row)))) right))
+
+  pub right-list : literalList N (clauseOf row) ≡ true
+  unfolding clauseRight
+  right-list =
+      and-right (not (empty (clauseOf row))) (literalList N (clauseOf row))
+      (and-left (not (empty (clauseOf row)) && literalList N (clauseOf row)) (isSame (compareWords row (rowOf (clauseOf row)))) right)
+
+  pub right-some : 1 ≤ length (clauseOf row)
+  unfolding clauseRight empty
+  right-some =
+      go (clauseOf row)
+      (and-left (not (empty (clauseOf row))) (literalList N (clauseOf row))
+      (and-left (not (empty (clauseOf row)) && literalList N (clauseOf row)) (isSame (compareWords row (rowOf (clauseOf row)))) right))
+    where
+      go : (f : List ℕ) → not (empty f) ≡ true → 1 ≤ length f
+      go [] h = absurd (false≢true h)
+      go (x ∷ f) h = omega arith
+
+pub clause-short : (row : List ℕ) → length (clauseOf row) ≤ length row
 unfolding clauseOf
-shorter [] = omega arith
-shorter (x ∷ row) = go (eqb x fill) refl (shorter row)
+clause-short [] = omega arith
+clause-short (x ∷ row) = go (eqb x fill) refl (clause-short row)
   where
     go : (b : Bool) → eqb x fill ≡ b → length (clauseOf row) ≤ length row → length (clauseOf (x ∷ row)) ≤ suc (length row)
-    go true e h = rw (e, clauseOf) (omega arith)
-    go false e h = rw (e, clauseOf) (omega arith)
+    go true e rec = rw (e, clauseOf) (omega arith)
+    go false e rec = rw (e, clauseOf) (omega arith)
 
-right-good : (N : ℕ) (row : List ℕ) → length row ≤ width → clauseRight N row ≡ true → GoodClause N width (clauseOf row)
-unfolding clauseRight
-right-good N row short h =
+-- 1 to `width` literals as a literal list
+pub right-good : (N : ℕ) (row : List ℕ) → length row ≤ width → clauseRight N row ≡ true → GoodClause N width (clauseOf row)
+right-good N row short right =
     record {
-      list = and-right (not (empty (clauseOf row))) (literalList N (clauseOf row)) both;
-      some-literal = some (clauseOf row) (and-left (not (empty (clauseOf row))) (literalList N (clauseOf row)) both);
-      most = let k = shorter row in omega arith;
+      list = right-list N row right;
+      some-literal = right-some N row right;
+      most = (let h = clause-short row in omega arith);
     }
-  where
-    both : (not (empty (clauseOf row)) && literalList N (clauseOf row)) ≡ true
-    both = and-left (not (empty (clauseOf row)) && literalList N (clauseOf row)) (isSame (compareWords row (rowOf (clauseOf row)))) h
 
-    some : (f : List ℕ) → not (empty f) ≡ true → 1 ≤ length f
-    some [] k = absurd (false≢true (unfold empty in k))
-    some (x ∷ f) k = omega arith
-
-right-row : (N : ℕ) (row : List ℕ) → clauseRight N row ≡ true → row ≡ rowOf (clauseOf row)
-unfolding clauseRight
-right-row N row h =
-    same-words row (rowOf (clauseOf row))
-    (and-right (not (empty (clauseOf row)) && literalList N (clauseOf row)) (isSame (compareWords row (rowOf (clauseOf row)))) h)
-
+-- ---- rows one after the other
 module _ (N : ℕ) (w : List ℕ) where
   row-short : (i : ℕ) → length (rowAt w i) ≤ width
   unfolding rowAt
@@ -113,7 +128,7 @@ module _ (N : ℕ) (w : List ℕ) where
   rows-from zero i f C s e = rw (← same-finding [] C e)
   rows-from (suc k) i f C s e =
       let r = row-read (suc i) k C e in
-      let t = right-row N (rowAt w (suc i)) (r .right) in
+      let t = sym (right-row N (rowAt w (suc i)) (r .right)) in
       rw (r .same)
       (and-both (rw (s, t) at (r .high)) (rows-from k (suc i) (clauseOf (rowAt w (suc i))) (r .others) t (r .behind)))
 
@@ -122,7 +137,7 @@ module _ (N : ℕ) (w : List ℕ) where
   rows-up zero i C e = rw (← same-finding [] C e)
   rows-up (suc k) i C e =
       let r = row-read i k C e in
-      rw (r .same) (rows-from k i (clauseOf (rowAt w i)) (r .others) (right-row N (rowAt w i) (r .right)) (r .behind))
+      rw (r .same) (rows-from k i (clauseOf (rowAt w i)) (r .others) (sym (right-row N (rowAt w i) (r .right))) (r .behind))
 
   rows-words : (k i : ℕ) (C : List (List ℕ)) → readRows N w i k ≡ finding C → clauseWords C ≡ take (width * k) (drop (width * i) w)
   unfolding readRows clauseWords each
@@ -130,7 +145,7 @@ module _ (N : ℕ) (w : List ℕ) where
   rows-words (suc k) i C e =
       let r = row-read i k C e in
       rw (r .same)
-      (ap₂ (λ x y. x ++ y) (sym (right-row N (rowAt w i) (r .right))) (rows-words k (suc i) (r .others) (r .behind)) ∙ sym onward)
+      (ap₂ (λ x y. x ++ y) (right-row N (rowAt w i) (r .right)) (rows-words k (suc i) (r .others) (r .behind)) ∙ sym onward)
     where
       onward : take (width * suc k) (drop (width * i) w) ≡ rowAt w i ++ take (width * k) (drop (width * suc i) w)
       onward =

@@ -13,7 +13,7 @@ use Rattle.definitions.specs.Text.{digits, decimal, line}
 use Rattle.definitions.specs.Dimacs.{headBytes, literalWord, rowFields, dimacsText}
 use Rattle.clause.specs.Rows.{rowCount, clausesOf}
 use Rattle.clause.proofs.RowLaws.{row-length, clauses-length, clause-of}
-use Rattle.clause.proofs.ClauseLaws.{clause-short}
+use Rattle.definitions.proofs.RowsRead.{clause-short}
 use Rattle.text.proofs.Lines.{line-more, each-next, each-end}
 use Rattle.text.proofs.Size.{decimal-most, each-size}
 use Rattle.dimacs.specs.Write.{minusOf, literalField, rowLine, headLine}

@@ -12,9 +12,9 @@ use Rattle.definitions.specs.Lists.{all}
 use Rattle.definitions.specs.Answer.{Refusal, finding, refused, outcome, verdict, ask, askAt, _>>=_}
 use Rattle.definitions.specs.Literal.{mostAtoms}
 use Rattle.definitions.specs.Image.{readTask}
-use Rattle.definitions.specs.Clauses.{width, mostRows, clauseWords}
+use Rattle.definitions.specs.Clauses.{width, mostRows}
 use Rattle.definitions.specs.Groups.{written}
-use Rattle.definitions.specs.Dimacs.{tokens, wordsIn, isDimacs, clausesIn, fitsRow, distinct, readDimacs}
+use Rattle.definitions.specs.Dimacs.{isDimacs, fitsRow, distinct, readDimacs}
 use Rattle.definitions.proofs.DimacsClauses.{Left, left-most, form-left, clausesSaid, clauses-said}
 use Rattle.answer.specs.Answer.{refusalAt}
 use Rattle.answer.proofs.Laws.{verdict-refused}

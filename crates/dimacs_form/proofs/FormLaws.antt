@@ -1,5 +1,5 @@
 -- Question 24, number by number. Assumes nothing.
-use mathlib.Core.Bool.{Bool, true, false, not, _&&_, cond, false≢true}
+use mathlib.Core.Bool.{Bool, true, false, _&&_, cond, false≢true}
 use mathlib.Core.Logic.{_⊎_, inl, inr}
 use mathlib.Core.Path.{_≡_, refl, sym, _∙_, ap}
 use mathlib.Core.List.{List, [], _∷_}
@@ -11,7 +11,7 @@ use lib.Seq.{drop-drop, getD-take}
 use borrow.Author.Tests.{leb-true, leb-false, le-leb, lt-leb, eqb-true, eqb-false, eq-eqb, ne-eqb}
 use Rattle.definitions.specs.Lists.{compareWords, isSame}
 use Rattle.definitions.specs.Literal.{mostAtoms}
-use Rattle.definitions.specs.Dimacs.{headBytes, behindComments, blank, tokens, wordsIn, isDimacs, isNumber, numberIn, isZero}
+use Rattle.definitions.specs.Dimacs.{headBytes, behindComments, blank, tokens, wordsIn, isDimacs, numberIn, isZero}
 use Rattle.definitions.proofs.ListLaws.{decide}
 use Rattle.definitions.proofs.PlaceLaws.{same-words}
 use Rattle.definitions.proofs.DimacsPlaces.{over-at}

@@ -11,7 +11,7 @@ use lib.Seq.{drop-cons, take-all}
 use borrow.Author.Tests.{leb-true, le-leb, eqb-true, eq-eqb, ne-eqb}
 use Rattle.definitions.specs.Lists.{all, empty}
 use Rattle.definitions.specs.Dimacs.{isDigit, isNumeral, valueBehind, isNumber, numberIn, tokens}
-use Rattle.definitions.proofs.ListLaws.{and-left, and-right, and-both}
+use Rattle.definitions.proofs.ListLaws.{and-left, and-right}
 use Rattle.definitions.proofs.DimacsNumbers.{value-held}
 use Rattle.definitions.proofs.DimacsPlaces.{between}
 use Rattle.dimacs_form.specs.Places.{WordAt, Skipped}

@@ -2,9 +2,9 @@
 use mathlib.Core.Bool.{Bool, true, false, _&&_}
 use mathlib.Core.Path.{_≡_}
 use mathlib.Core.List.{List, _∷_}
-use Prim.Native.Nat.{ℕ, _≤_, _<_, min}
+use Prim.Native.Nat.{ℕ, _<_, min}
 use lib.Dec.{leb}
-use lib.ListN.{length, getD, drop}
+use lib.ListN.{getD, drop}
 use Rattle.definitions.specs.Dimacs.{tokens, isNumeral, valueBehind, isNumber, numberIn}
 use Rattle.dimacs_form.specs.Places.{Place}
 use Rattle.dimacs_form.specs.declared.number.Digits as digits

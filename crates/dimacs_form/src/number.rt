@@ -1,11 +1,10 @@
 // A word as a number: 0, or a minus or none and digits, the first of them not 0.
 ghost use mathlib.Core.Bool.{true, _&&_};
 ghost use mathlib.Core.Path.{_≡_};
-ghost use mathlib.Core.List.{List};
-ghost use Prim.Native.Nat.{ℕ, _+_, _-_, _*_, _≤_, _<_, min};
+ghost use Prim.Native.Nat.{ℕ, _+_, _-_, _*_, _<_, min};
 ghost use lib.Dec.{eqb};
 ghost use lib.ListN.{length, getD};
-ghost use Rattle.definitions.specs.Dimacs.{isDigit, isNumeral};
+ghost use Rattle.definitions.specs.Dimacs.{isDigit};
 ghost use Rattle.dimacs_form.specs.Places.{Place};
 ghost use Rattle.dimacs_form.specs.Numbers.{mostSize, begins, DigitsOf, signedOf, Judged, Scanned};
 

@@ -1,16 +1,16 @@
 -- The clauses of a text read one by one, their rows stored. Assumes nothing.
-use mathlib.Core.Bool.{true, false, _&&_, false≢true}
+use mathlib.Core.Bool.{true, false}
 use mathlib.Core.Path.{_≡_, refl, sym, _∙_, ap, subst}
 use mathlib.Core.List.{List, [], _∷_, _++_, map, map-append, append-assoc, append-nil}
-use Prim.Native.Nat.{ℕ, _*_, _≤_, _<_}
+use Prim.Native.Nat.{ℕ, _≤_, _<_}
 use native.Mathlib.Nat.{mul-zero}
 use native.Mathlib.Omega.{arith}
-use lib.ListN.{length, take, drop}
+use lib.ListN.{length, take}
 use Rattle.definitions.specs.Lists.{all}
 use Rattle.definitions.specs.Literal.{mostAtoms}
-use Rattle.definitions.specs.Clauses.{width, mostRows, rowOf, clauseOf, GoodClause}
+use Rattle.definitions.specs.Clauses.{width, mostRows, clauseOf, GoodClause}
 use Rattle.definitions.specs.Synthesis.{insertAll}
-use Rattle.definitions.specs.Dimacs.{tokens, fitsRow, sorted, distinct}
+use Rattle.definitions.specs.Dimacs.{fitsRow, sorted, distinct}
 use Rattle.definitions.proofs.ListLaws.{and-both}
 use Rattle.definitions.proofs.DimacsNumbers.{all-append}
 use Rattle.definitions.proofs.DimacsPlaces.{over-at}

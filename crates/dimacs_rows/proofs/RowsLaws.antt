@@ -1,8 +1,7 @@
 -- Rows stored one after the other, and the set that they make. Assumes nothing.
-use mathlib.Core.Bool.{true}
 use mathlib.Core.Path.{_≡_, refl, sym, _∙_, ap, subst}
 use mathlib.Core.List.{List, [], _∷_, _++_}
-use Prim.Native.Nat.{ℕ, suc, _+_, _-_, _*_, _≤_, _<_}
+use Prim.Native.Nat.{ℕ, _+_, _-_, _*_, _≤_, _<_}
 use native.Mathlib.Nat.{mul-suc, mul-zero}
 use native.Mathlib.Omega.{arith}
 use lib.ListN.{length, take, drop, length-append}
@@ -24,7 +23,6 @@ use Rattle.row_sort.proofs.SetWords.{rows-of, clauses-append, one-clause, sorta
 use Rattle.dimacs_rows.specs.Rows.{mostStored, Rows, Fit, Makes, Stores}
 use Rattle.dimacs_rows.specs.Collected.{Set, Comes}
 use Rattle.dimacs_rows.specs.declared.rows.Stored as stores
-use Rattle.dimacs_rows.specs.declared.Collected as collections
 
 -- nothing is stored
 pub none-rows : (w : List ℕ) → Rows w 0
@@ -125,7 +123,13 @@ module _ (old new : List ℕ) (k : ℕ) (s : Sorted old new k) where
 module _ (row old mid : List ℕ) (k n : ℕ) (s : Sorted (take (width * n) old) mid k) where
   pub stored-full : (new : List ℕ) → mostRows < k → Stores row old (stores.the-variants.Rows n) new stores.the-variants.Full
   stored-full new h =
-      record { fit = tt; makes = λ E e. more-full E (clauseOf row) (subst (λ (z : List (List ℕ)). mostRows < length z) e (sorted-many (take (width * n) old) mid k s h)) }
+      record {
+        fit = tt;
+        makes = λ E e. more-full E (clauseOf row) (subst (λ (z : List (List ℕ)). mostRows < length z) e many);
+      }
+    where
+      many : mostRows < length (insertAll (clausesOf (take (width * n) old)) [])
+      many = sorted-many (take (width * n) old) mid k s h
 
   pub stored-sorted :
       (new : List ℕ) (r : stores.Stored) → Stores row mid (stores.the-variants.Rows k) new r → Stores row old (stores.the-variants.Rows n) new r

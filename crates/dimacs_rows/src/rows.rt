@@ -1,6 +1,6 @@
 // Rows stored in a buffer in the order of the text. Where the buffer is full, equal ones become one.
 ghost use mathlib.Core.Path.{_≡_};
-ghost use Prim.Native.Nat.{_*_, _≤_, _<_};
+ghost use Prim.Native.Nat.{_*_, _<_};
 ghost use lib.ListN.{length};
 ghost use Rattle.definitions.specs.Clauses.{width};
 ghost use Rattle.clause_set.specs.Held.{ClauseRow};

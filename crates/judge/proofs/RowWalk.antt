@@ -14,7 +14,7 @@ use Rattle.definitions.proofs.ListLaws.{decide, never, any-in}
 use Rattle.definitions.proofs.LiteralLaws.{list-low}
 use Rattle.clause.specs.Rows.{rowCount, clausesOf}
 use Rattle.clause.proofs.RowLaws.{clause-of, clauses-length}
-use Rattle.clause.proofs.ClauseLaws.{right-list}
+use Rattle.definitions.proofs.RowsRead.{right-list}
 use Rattle.judge.specs.Judging.{guaranteedFlags, lacksOther, violates, someViolates, failFlags, flagMore}
 use Rattle.judge.specs.Promise.{Judged}
 use Rattle.judge.proofs.Violations.{violates-none, violates-passed, violates-lacking}

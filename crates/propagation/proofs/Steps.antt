@@ -11,7 +11,7 @@ use Rattle.definitions.specs.Clauses.{width, clauseOf, clauseRight}
 use Rattle.definitions.specs.Closure.{has, forces}
 use Rattle.clause.specs.Rows.{clauseAt, clausesOf, clausesFrom}
 use Rattle.clause.proofs.RowLaws.{from-start, from-next, from-end}
-use Rattle.clause.proofs.ClauseLaws.{right-some}
+use Rattle.definitions.proofs.RowsRead.{right-some}
 use Rattle.propagation.specs.declared.Pass.{Pass}
 use Rattle.propagation.specs.declared.Pass.the-variants.{Same, Grown, Contradictory}
 use Rattle.propagation.specs.Walk.{In, ClosedAt, Clash, zeros, Sound, Reached, Passed}

@@ -1,6 +1,5 @@
 -- `dimacs::read`: the image is read first, then the text.
-use mathlib.Core.List.{List}
-use mathlib.Core.Path.{_≡_, ap, sym, _∙_}
+use mathlib.Core.Path.{ap, sym, _∙_}
 use Rattle.answer.specs.Answer.{placed, verdictAnswer}
 use Rattle.task.specs.Reads.{Reads}
 use Rattle.task.proofs.Questions.{reads}

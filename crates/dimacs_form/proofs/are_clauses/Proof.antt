@@ -1,5 +1,5 @@
 -- `dimacs_form::are_clauses`: the test of all words is that of the words that are left, with the clauses counted so far.
-use mathlib.Core.Bool.{true, _&&_}
+use mathlib.Core.Bool.{true}
 use mathlib.Core.Path.{_≡_, refl, sym, _∙_, ap, subst}
 use Prim.Native.Nat.{ℕ, _-_, _<_, min}
 use native.Mathlib.Omega.{arith}

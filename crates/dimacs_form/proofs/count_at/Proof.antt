@@ -1,5 +1,5 @@
 -- `dimacs_form::count_at`: by the word at the place.
-use mathlib.Core.Path.{sym, _∙_, subst}
+use mathlib.Core.Path.{sym, subst}
 use Rattle.dimacs_form.specs.Numbers.{Scanned}
 use Rattle.dimacs_form.specs.Form.{Counts}
 use Rattle.dimacs_form.specs.declared.number.Word.{Word}

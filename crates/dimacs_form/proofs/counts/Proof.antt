@@ -1,5 +1,5 @@
 -- `dimacs_form::counts`: N, then the number of clauses, then these.
-use mathlib.Core.Path.{sym, _∙_, subst}
+use mathlib.Core.Path.{subst}
 use native.Mathlib.Omega.{arith}
 use borrow.Author.Tests.{not-true, not-false}
 use Rattle.dimacs_form.specs.Form.{CountAt, Counts}

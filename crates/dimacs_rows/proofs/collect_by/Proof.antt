@@ -1,11 +1,10 @@
 -- `dimacs_rows::collect_by`: the clauses before a place are read, and their rows stored (`Collecting`).
-use mathlib.Core.Path.{_≡_, refl, sym, _∙_, subst}
-use Prim.Native.Nat.{_-_, _≤_, _<_}
+use mathlib.Core.Path.{_≡_, refl, _∙_, subst}
+use Prim.Native.Nat.{_-_}
 use native.Mathlib.Omega.{arith}
 use lib.ListN.{length}
-use Rattle.definitions.specs.Clauses.{width}
 use Rattle.dimacs_rows.specs.Reading.{RowRead, ClauseRead}
-use Rattle.dimacs_rows.specs.Rows.{mostStored, Buffers}
+use Rattle.dimacs_rows.specs.Rows.{Buffers}
 use Rattle.dimacs_rows.specs.declared.reading.Reading.{Reading}
 use Rattle.dimacs_rows.proofs.CollectLaws.{Collecting, collecting-start, row-right, collecting-next, collecting-unfit, collecting-end}
 use borrow.Author.Needs.{needs}
@@ -13,12 +12,16 @@ use Rattle.dimacs_rows.proofs.collect_by.Statement.{statement}
 use Rattle.dimacs_rows.proofs.collect_by.Tie as tie
 
 abbrev Inv-loop : tie.InvT-loop
-Inv-loop text from row₀ rows₀ work₀ at₀ stored₀ row rows work at stored = Collecting text from at rows stored × (length row ≡ length row₀) × (length rows ≡ length rows₀) × (length work ≡ length work₀)
+Inv-loop text from row₀ rows₀ work₀ at₀ stored₀ row rows work at stored =
+    Collecting text from at rows stored × (length row ≡ length row₀) × (length rows ≡ length rows₀) × (length work ≡ length work₀)
 
 abbrev μ-loop : tie.MeasureT-loop
 μ-loop text from row₀ rows₀ work₀ at₀ stored₀ row rows work at stored = length text - at
 
--- the start, from the head of the loop
+-- the start, before the loop and from its head
+abbrev buffered : tie.After-slice-known3 Inv-loop μ-loop → tie.After-shared-slice-known Inv-loop μ-loop
+buffered c = c .before .before .before
+
 abbrev lent : tie.At-loop Inv-loop μ-loop → tie.After-slice-known2 Inv-loop μ-loop
 lent c = c .before .before
 
@@ -69,7 +72,7 @@ buffers h =
 
 loop-holds : tie.Need-loop-holds Inv-loop μ-loop
 loop-holds c =
-    let s = c .before .before .before .before in
+    let s = buffered c .before in
     (collecting-start (s .args .text .now) (s .args .from) (s .args .rows .now) (s .pre .0), refl, refl, refl)
 
 read-clause-requires : tie.Need-read-clause-requires Inv-loop μ-loop
@@ -98,7 +101,8 @@ returns c =
     let d = read (c .before .before) in
     let h = head d in
     let s = start h .args in
-    let no = subst (λ (r : Reading). ClauseRead (s .text .now) (h .loop .at) (d .read-clause .last .1 .1 .0) r) (c .enum-told .given .1) (d .read-clause .ensures) in
+    let row = d .read-clause .last .1 .1 .0 in
+    let no = subst (λ (r : Reading). ClauseRead (s .text .now) (h .loop .at) row r) (c .enum-told .given .1) (d .read-clause .ensures) in
     collecting-unfit (s .text .now) (s .from) (h .loop .at) (h .loop .rows) (h .loop .stored) (h .loop .inv .0) no
 
 store-requires : tie.Need-store-requires Inv-loop μ-loop

@@ -1,12 +1,11 @@
 -- `dimacs_rows::finish`: the rows are sorted, and counted.
 use Prim.Native.Nat.{ℕ, _*_, _≤_}
-use mathlib.Core.Path.{_≡_, sym, _∙_, ap, subst}
-use mathlib.Core.List.{List}
+use mathlib.Core.Path.{sym, subst}
 use native.Mathlib.Omega.{arith}
-use lib.ListN.{length, take}
+use lib.ListN.{length}
 use lib.Seq.{length-take-le}
 use Rattle.definitions.specs.Clauses.{width, mostRows}
-use Rattle.dimacs_rows.specs.Rows.{mostStored, Rows, Fit, Makes}
+use Rattle.dimacs_rows.specs.Rows.{Rows, Fit, Makes}
 use Rattle.dimacs_rows.specs.declared.rows.Stored.{Stored}
 use Rattle.dimacs_rows.proofs.RowsLaws.{comes-full, comes-rows}
 use borrow.Author.Needs.{needs}

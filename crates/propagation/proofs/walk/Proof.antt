@@ -13,7 +13,8 @@ use Rattle.definitions.specs.Clauses.{width, clauseRight}
 use Rattle.clause.specs.Rows.{clauseAt, RightRows}
 use Rattle.clause.proofs.Rest.{row-fits, start-right}
 use Rattle.clause.proofs.ReadLaws.{read-right}
-use Rattle.clause.proofs.ClauseLaws.{right-row, clause-below}
+use Rattle.definitions.proofs.RowsRead.{right-row}
+use Rattle.clause.proofs.ClauseLaws.{clause-below}
 use Rattle.propagation.specs.declared.Pass.{Pass}
 use Rattle.propagation.specs.declared.Scan.{Scan}
 use Rattle.propagation.specs.declared.Scan.the-variants as scan

@@ -1,9 +1,7 @@
 -- `dimacs::rows::read_rows`: by what the clauses come to.
-use Prim.Native.Nat.{ℕ, _*_, _≤_}
-use mathlib.Core.List.{List}
-use mathlib.Core.Path.{_≡_, sym, subst}
+use Prim.Native.Nat.{ℕ}
+use mathlib.Core.Path.{_≡_, subst}
 use native.Mathlib.Omega.{arith}
-use lib.ListN.{length}
 use Rattle.definitions.specs.Clauses.{width, mostRows}
 use Rattle.answer.proofs.Laws.{outcome-of}
 use Rattle.dimacs_rows.specs.Reading.{clausesAt}

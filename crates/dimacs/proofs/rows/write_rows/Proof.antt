@@ -1,8 +1,7 @@
 -- `dimacs::rows::write_rows`: the rows do not fit, or are written.
-use Prim.Native.Nat.{_*_, _≤_}
+use Prim.Native.Nat.{_*_}
 use mathlib.Core.Path.{sym}
 use native.Mathlib.Omega.{arith}
-use lib.ListN.{length}
 use lib.Seq.{length-take-le}
 use Rattle.definitions.specs.Clauses.{width}
 use Rattle.answer.proofs.Laws.{outcome-of}

@@ -1,9 +1,9 @@
 -- `dimacs_form::header::is_headed`: five bytes, and a blank.
 use mathlib.Core.Path.{sym, _∙_, ap}
-use Prim.Native.Nat.{_+_, _-_, _≤_}
+use Prim.Native.Nat.{_-_}
 use native.Mathlib.Omega.{arith}
 use borrow.Author.Tests.{not-true, not-false}
-use lib.ListN.{length, getD, take, drop, length-drop}
+use lib.ListN.{length, take, drop, length-drop}
 use lib.Seq.{take-all, getD-drop}
 use Rattle.definitions.specs.Lists.{compareWords, isSame}
 use Rattle.definitions.specs.Dimacs.{headBytes, blank}

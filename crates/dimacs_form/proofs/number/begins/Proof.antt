@@ -1,5 +1,4 @@
 -- `dimacs_form::number::begins`: the first byte is between 1 and 9.
-use mathlib.Core.Path.{sym}
 use native.Mathlib.Omega.{arith}
 use borrow.Author.Tests.{le-leb, lt-leb}
 use lib.ListN.{getD, List·getD-eq-default}

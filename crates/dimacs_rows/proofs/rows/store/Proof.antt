@@ -1,5 +1,5 @@
 -- `dimacs_rows::rows::store`: full stays full; else the row is written, after sorting where there is no room.
-use Prim.Native.Nat.{ℕ, _≤_}
+use Prim.Native.Nat.{ℕ}
 use mathlib.Core.Path.{_≡_, sym, _∙_, ap, subst}
 use native.Mathlib.Omega.{arith}
 use Rattle.definitions.specs.Clauses.{mostRows}

@@ -1,9 +1,9 @@
 -- `dimacs_rows::rows::store_sorted`: the rows are sorted; then there are too many, or there is room.
 use Prim.Native.Nat.{ℕ, _*_}
-use mathlib.Core.Path.{_≡_, sym, _∙_, ap, subst}
+use mathlib.Core.Path.{_≡_, sym, subst}
 use mathlib.Core.List.{List}
 use native.Mathlib.Omega.{arith}
-use lib.ListN.{length, take}
+use lib.ListN.{take}
 use lib.Seq.{take-all}
 use Rattle.definitions.specs.Clauses.{width, mostRows}
 use Rattle.row_sort.specs.Sorted.{Sortable, Sorted}

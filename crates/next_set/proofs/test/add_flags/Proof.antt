@@ -9,7 +9,7 @@ use Rattle.definitions.specs.Closure.{bit}
 use Rattle.definitions.specs.Clauses.{width, clauseOf, rowAt}
 use Rattle.clause.specs.Rows.{rowCount, clausesOf}
 use Rattle.clause.proofs.RowLaws.{row-length, clauses-at, clauses-length}
-use Rattle.clause.proofs.ClauseLaws.{clause-short}
+use Rattle.definitions.proofs.RowsRead.{clause-short}
 use Rattle.next_set.proofs.Flags.{flags-length}
 use Rattle.next_set.proofs.Noting.{Adding, adding-start, adding-pass, adding-put, adding-end}
 use borrow.Author.Needs.{needs}
