@@ -15,7 +15,8 @@ use Rattle.definitions.specs.Image.{readTask}
 use Rattle.definitions.specs.Clauses.{width, mostRows}
 use Rattle.definitions.specs.Groups.{written}
 use Rattle.definitions.specs.Dimacs.{isDimacs, fitsRow, distinct, readDimacs}
-use Rattle.definitions.proofs.DimacsClauses.{Left, left-most, form-left, clausesSaid, clauses-said}
+use Rattle.dimacs_rows.specs.Clauses.{Left, clausesSaid}
+use Rattle.dimacs_rows.proofs.Clauses.{left-most, form-left, clauses-said}
 use Rattle.answer.specs.Answer.{refusalAt}
 use Rattle.answer.proofs.Laws.{verdict-refused}
 use Rattle.task.specs.Reads.{taskOf, Reads}

@@ -14,8 +14,9 @@ use Rattle.definitions.specs.Literal.{mostAtoms}
 use Rattle.definitions.specs.Dimacs.{headBytes, behindComments, blank, tokens, wordsIn, isDimacs, numberIn, isZero}
 use Rattle.definitions.proofs.ListLaws.{decide}
 use Rattle.definitions.proofs.PlaceLaws.{same-words}
-use Rattle.definitions.proofs.DimacsPlaces.{over-at}
-use Rattle.definitions.proofs.DimacsWalk.{headedBytes, tailFrom, countFirst, wordsSay, form-walk}
+use Rattle.dimacs_form.proofs.PlaceLaws.{over-at}
+use Rattle.dimacs_form.specs.Walk.{headedBytes, tailFrom, countFirst, wordsSay}
+use Rattle.dimacs_form.proofs.Walk.{form-walk}
 use Rattle.dimacs_form.specs.Places.{Place, Skipped}
 use Rattle.dimacs_form.specs.Numbers.{mostSize, OtherAt, NumberAt}
 use Rattle.dimacs_form.specs.Form.{plainOf, CountAt, Counts, SaysAt, Says, FormAt, Formed}

@@ -1,2 +1,4 @@
+pub mod PlaceLaws
 pub mod NumberLaws
+pub mod Walk
 pub mod FormLaws

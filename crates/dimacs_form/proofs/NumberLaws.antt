@@ -13,7 +13,7 @@ use Rattle.definitions.specs.Lists.{all, empty}
 use Rattle.definitions.specs.Dimacs.{isDigit, isNumeral, valueBehind, isNumber, numberIn, tokens}
 use Rattle.definitions.proofs.ListLaws.{and-left, and-right}
 use Rattle.definitions.proofs.DimacsNumbers.{value-held}
-use Rattle.definitions.proofs.DimacsPlaces.{between}
+use Rattle.dimacs_form.specs.Places.{between}
 use Rattle.dimacs_form.specs.Places.{WordAt, Skipped}
 use Rattle.dimacs_form.specs.Numbers.{mostSize, begins, DigitsOf, signedOf, IsNumber, Judged, NumberAt, OtherAt, Scanned}
 use Rattle.dimacs_form.specs.declared.number.Digits as digits

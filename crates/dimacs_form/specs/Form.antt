@@ -5,7 +5,7 @@ use mathlib.Core.List.{List}
 use Prim.Native.Nat.{ℕ, _<_, min}
 use lib.ListN.{drop}
 use Rattle.definitions.specs.Dimacs.{tokens, wordsIn, isDimacs}
-use Rattle.definitions.proofs.DimacsWalk.{countFirst, wordsSay}
+use Rattle.dimacs_form.specs.Walk.{countFirst, wordsSay}
 use Rattle.dimacs_form.specs.Places.{Place}
 use Rattle.dimacs_form.specs.Numbers.{mostSize}
 use Rattle.dimacs_form.specs.declared.number.Number.{Number}

@@ -1,3 +1,4 @@
 pub mod Places
+pub mod Walk
 pub mod Numbers
 pub mod Form

@@ -6,7 +6,7 @@ ghost use lib.Dec.{eqb};
 ghost use lib.ListN.{length, take, drop};
 ghost use Rattle.definitions.specs.Lists.{compareWords, isSame};
 ghost use Rattle.definitions.specs.Dimacs.{headBytes, behindComments};
-ghost use Rattle.definitions.proofs.DimacsWalk.{headedBytes};
+ghost use Rattle.dimacs_form.specs.Walk.{headedBytes};
 
 // Whether a byte begins a line that is no comment.
 fn stops(inside: bool, b: u8) -> bool

@@ -5,7 +5,7 @@ ghost use Prim.Native.Nat.{ℕ, _+_, _<_, _≤_, min};
 ghost use lib.ListN.{drop};
 ghost use Rattle.definitions.specs.Literal.{mostAtoms};
 ghost use Rattle.definitions.specs.Dimacs.{tokens};
-ghost use Rattle.definitions.proofs.DimacsWalk.{tailFrom};
+ghost use Rattle.dimacs_form.specs.Walk.{tailFrom};
 ghost use Rattle.dimacs_form.specs.Places.{Place};
 ghost use Rattle.dimacs_form.specs.Numbers.{mostSize};
 ghost use Rattle.dimacs_form.specs.Form.{plainOf, Counts, Says, Formed};

@@ -13,9 +13,10 @@ use Rattle.definitions.specs.Synthesis.{insertAll}
 use Rattle.definitions.specs.Dimacs.{fitsRow, sorted, distinct}
 use Rattle.definitions.proofs.ListLaws.{and-both}
 use Rattle.definitions.proofs.DimacsNumbers.{all-append}
-use Rattle.definitions.proofs.DimacsPlaces.{over-at}
+use Rattle.dimacs_form.proofs.PlaceLaws.{over-at}
 use Rattle.definitions.proofs.DimacsRows.{good-sorted}
-use Rattle.definitions.proofs.DimacsClauses.{clausesSaid, none-said}
+use Rattle.dimacs_rows.specs.Clauses.{clausesSaid}
+use Rattle.dimacs_rows.proofs.Clauses.{none-said}
 use Rattle.definitions.proofs.Accepts.{row-length}
 use Rattle.clause.specs.Rows.{clausesOf}
 use Rattle.clause.proofs.RowLaws.{clauses-none}

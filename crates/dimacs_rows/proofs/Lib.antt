@@ -1,3 +1,4 @@
+pub mod Clauses
 pub mod ReadingLaws
 pub mod RowsLaws
 pub mod CollectLaws

@@ -9,7 +9,7 @@ use lib.Seq.{length-take-le, take-at, take-append-le}
 use Rattle.definitions.specs.Literal.{mostAtoms}
 use Rattle.definitions.specs.Clauses.{width, mostRows, clauseOf, clauseWords}
 use Rattle.definitions.specs.Synthesis.{insertAll}
-use Rattle.definitions.proofs.DimacsWalk.{rows-longer}
+use Rattle.definitions.proofs.MergeLaws.{rows-longer}
 use Rattle.definitions.proofs.OrderLaws.{up, insertAll-up}
 use Rattle.definitions.proofs.MergeLaws.{merge-none, insertAll-append}
 use Rattle.clause.specs.Rows.{rowCount, clausesOf, RightRows}

@@ -1,3 +1,4 @@
+pub mod Clauses
 pub mod Reading
 pub mod Rows
 pub mod Collected

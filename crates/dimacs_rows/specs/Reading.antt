@@ -10,7 +10,7 @@ use Rattle.definitions.specs.Literal.{mostAtoms, mostLiterals, fill, atom, allB
 use Rattle.definitions.specs.Clauses.{width, rowOf}
 use Rattle.definitions.specs.Synthesis.{insertLiteral}
 use Rattle.definitions.specs.Dimacs.{tokens, fitsRow, sorted}
-use Rattle.definitions.proofs.DimacsClauses.{Left, clausesSaid}
+use Rattle.dimacs_rows.specs.Clauses.{Left, clausesSaid}
 use Rattle.dimacs_form.specs.Places.{Place}
 use Rattle.dimacs_rows.specs.declared.reading.Reading as readings
 

@@ -7,7 +7,7 @@ use borrow.Author.Tests.{eq-eqb, ne-eqb}
 use lib.Dec.{eqb}
 use lib.ListN.{length, drop}
 use Rattle.definitions.specs.Dimacs.{tokens}
-use Rattle.definitions.proofs.DimacsWalk.{tailFrom}
+use Rattle.dimacs_form.specs.Walk.{tailFrom}
 use Rattle.dimacs_form.specs.Places.{Place}
 use Rattle.dimacs_form.specs.Numbers.{mostSize, Scanned, NumberAt}
 use Rattle.dimacs_form.specs.declared.number.Word.{Word}

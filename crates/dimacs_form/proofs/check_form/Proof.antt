@@ -5,7 +5,7 @@ use mathlib.Core.Path.{_≡_, sym, _∙_}
 use native.Mathlib.Omega.{arith}
 use borrow.Author.Tests.{not-true, not-false}
 use lib.ListN.{length, drop, length-drop}
-use Rattle.definitions.proofs.DimacsWalk.{headedBytes}
+use Rattle.dimacs_form.specs.Walk.{headedBytes}
 use Rattle.dimacs_form.proofs.FormLaws.{headed-long, form-other, form-says}
 use borrow.Author.Needs.{needs}
 use Rattle.dimacs_form.proofs.check_form.Statement.{statement}

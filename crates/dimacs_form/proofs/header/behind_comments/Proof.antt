@@ -4,7 +4,8 @@ use Prim.Native.Nat.{_+_, _-_, _≤_}
 use native.Mathlib.Omega.{arith}
 use lib.ListN.{length, drop}
 use Rattle.definitions.specs.Dimacs.{behindComments}
-use Rattle.definitions.proofs.DimacsPlaces.{behindFrom, comment-at, stops-at, no-stop}
+use Rattle.dimacs_form.specs.Places.{behindFrom}
+use Rattle.dimacs_form.proofs.PlaceLaws.{comment-at, stops-at, no-stop}
 use borrow.Author.Needs.{needs}
 use Rattle.dimacs_form.proofs.header.behind_comments.Statement.{statement}
 use Rattle.dimacs_form.proofs.header.behind_comments.Tie as tie

@@ -5,7 +5,7 @@ use Prim.Native.Nat.{_-_, _≤_}
 use native.Mathlib.Omega.{arith}
 use lib.ListN.{length, drop}
 use Rattle.definitions.specs.Dimacs.{tokens}
-use Rattle.definitions.proofs.DimacsPlaces.{blank-at}
+use Rattle.dimacs_form.proofs.PlaceLaws.{blank-at}
 use borrow.Author.Needs.{needs}
 use Rattle.dimacs_form.proofs.word.skip_blanks.Statement.{statement}
 use Rattle.dimacs_form.proofs.word.skip_blanks.Tie as tie

@@ -4,7 +4,8 @@ use Prim.Native.Nat.{_-_, _≤_, _<_}
 use native.Mathlib.Omega.{arith}
 use lib.ListN.{length}
 use Rattle.definitions.proofs.DimacsNumbers.{Word}
-use Rattle.definitions.proofs.DimacsPlaces.{between, begins-at, goes-on-at, ends-at, last-at}
+use Rattle.dimacs_form.specs.Places.{between}
+use Rattle.dimacs_form.proofs.PlaceLaws.{begins-at, goes-on-at, ends-at, last-at}
 use borrow.Author.Needs.{needs}
 use Rattle.dimacs_form.proofs.word.word_end.Statement.{statement}
 use Rattle.dimacs_form.proofs.word.word_end.Tie as tie

@@ -1,28 +1,47 @@
 -- The clauses of a text, number by number: what a walk over them carries along. Assumes nothing.
-use mathlib.Core.Bool.{Bool, true, false, _&&_, _||_, false≢true}
+use mathlib.Core.Bool.{Bool, true, false, _&&_, false≢true, not}
 use mathlib.Core.Path.{_≡_, refl, sym, _∙_, ap}
-use mathlib.Core.List.{List, [], _∷_, _++_, map, append-nil, append-assoc}
+use mathlib.Core.List.{List, [], _∷_, _++_, map, map-append, append-nil, append-assoc}
 use Prim.Native.Nat.{ℕ, zero, suc, _+_, _-_, _≤_, _<_}
 use native.Mathlib.Omega.{arith}
-use lib.Dec.{eqb, ltb, leb}
+use lib.Dec.{eqb, leb}
 use lib.ListN.{length, drop}
 use borrow.Author.Tests.{eqb-true, leb-true, le-leb}
-use Rattle.definitions.specs.Lists.{any, all, member}
-use Rattle.definitions.specs.Literal.{atom, allBelow}
-use Rattle.definitions.specs.Synthesis.{insertLiteral}
+use Rattle.definitions.specs.Lists.{all}
 use Rattle.definitions.specs.Dimacs.{split, ended, allEnded, Number, isNumber, numberIn, wordsIn, numbersIn, isZero, isThe, literalOf}
-use Rattle.definitions.specs.Dimacs.{headed, saysClauses, isDimacs, clausesIn, fitsRow, insertLiterals, sorted}
+use Rattle.definitions.specs.Dimacs.{headed, saysClauses, isDimacs, clausesIn, fitsRow}
 use Rattle.definitions.proofs.ListLaws.{and-left, and-right, and-both}
-use Rattle.definitions.proofs.SetRight.{insert-length, insert-below}
-use Rattle.definitions.proofs.DimacsWalk.{lastMarked, all-ended-last, clausesFrom, clauses-walk}
+use Rattle.definitions.proofs.DimacsNumbers.{all-append}
+use Rattle.definitions.proofs.DimacsLaws.{ended-next, ended-end}
+use Rattle.dimacs_form.specs.Walk.{lastMarked}
+use Rattle.dimacs_form.proofs.Walk.{all-ended-last}
+use Rattle.dimacs_rows.specs.Clauses.{Left, clausesFrom, clausesSaid, clausesOn}
+
+-- ---- the clauses of numbers
+clauses-from :
+    (xs o : List Number) → all (λ x. not (isZero x)) o ≡ true
+    → clausesFrom (map literalOf o) xs ≡ map (map literalOf) (ended (split isZero (o ++ xs)))
+unfolding clausesFrom all
+clauses-from [] o h = sym (ap (λ z. map (map literalOf) (ended (split isZero z))) (append-nil o) ∙ ap (map (map literalOf)) (ended-end isZero o h))
+clauses-from (x ∷ xs) o h = go (isZero x) refl (clauses-from xs [] refl) (λ k. clauses-from xs (o ++ (x ∷ [])) k)
+  where
+    go :
+        (b : Bool) → isZero x ≡ b → clausesFrom [] xs ≡ map (map literalOf) (ended (split isZero xs))
+        → (all (λ x. not (isZero x)) (o ++ (x ∷ [])) ≡ true
+        → clausesFrom (map literalOf (o ++ (x ∷ []))) xs ≡ map (map literalOf) (ended (split isZero ((o ++ (x ∷ [])) ++ xs))))
+        → clausesFrom (map literalOf o) (x ∷ xs) ≡ map (map literalOf) (ended (split isZero (o ++ (x ∷ xs))))
+    go true e next more = rw (e, clausesFrom, next) (sym (ap (map (map literalOf)) (ended-next isZero o x xs h e)))
+    go false e next more =
+        rw (e, clausesFrom)
+        (ap (λ z. clausesFrom z xs) (sym (map-append literalOf o (x ∷ [])))
+        ∙ more (all-append (λ x. not (isZero x)) o (x ∷ []) ∙ and-both h (and-both (ap not e) refl))
+        ∙ ap (λ z. map (map literalOf) (ended (split isZero z))) (append-assoc o (x ∷ []) xs))
+
+pub clauses-walk : (xs : List Number) → clausesFrom [] xs ≡ map (map literalOf) (ended (split isZero xs))
+unfolding all
+clauses-walk xs = clauses-from xs [] refl
 
 -- ---- the words of a text of the form
--- the words that are left of a text's clauses: numbers that are not above N, the last of them 0; `closed` if no clause has begun
-pub record Left (N : ℕ) (closed : Bool) (ws : List (List ℕ)) : Type 0 where
-  pub numbers : all isNumber ws ≡ true
-  pub low : all (λ x. leb (x .size) N) (map numberIn ws) ≡ true
-  pub ends : lastMarked isZero closed (map numberIn ws) ≡ true
-
 -- one word less
 pub left-number : (N : ℕ) (b : Bool) (w : List ℕ) (ws : List (List ℕ)) → Left N b (w ∷ ws) → isNumber w ≡ true
 unfolding all
@@ -95,10 +114,6 @@ map-drop f zero xs = refl
 map-drop f (suc n) [] = refl
 map-drop f (suc n) (x ∷ xs) = map-drop f n xs
 
--- the clauses that words say
-unfoldable pub clausesSaid : List (List ℕ) → List (List ℕ)
-clausesSaid ws = clausesFrom [] (map numberIn ws)
-
 pub clauses-said : (text : List ℕ) → clausesIn text ≡ clausesSaid (drop 2 (wordsIn text))
 unfolding clausesIn numbersIn clausesSaid
 clauses-said text =
@@ -109,10 +124,6 @@ unfolding clausesSaid clausesFrom
 none-said = refl
 
 -- ---- a clause that has begun
--- the clauses that words say, the literals of the one that has begun being f
-unfoldable pub clausesOn : List ℕ → List (List ℕ) → List (List ℕ)
-clausesOn f ws = clausesFrom f (map numberIn ws)
-
 pub begins-said : (ws : List (List ℕ)) → clausesSaid ws ≡ clausesOn [] ws
 unfolding clausesSaid clausesOn
 begins-said ws = refl
@@ -158,64 +169,3 @@ unfit-on f (w ∷ ws) h l = go (isZero (numberIn w)) refl (λ k. unfit-on (f ++ 
         → all fitsRow (elim b [ true ↦ f ∷ clausesFrom [] xs | false ↦ clausesFrom next xs ]) ≡ false
     go true e rec = rw (sym (ap fitsRow (append-nil f)) ∙ h [])
     go false e rec = rec (sym (ap (λ z. lastMarked isZero z xs) e) ∙ l)
-
--- ---- literals in order
--- a literal put in is there, and nothing else comes or goes
-atoms-insert : (a l : ℕ) (f : List ℕ) → member a (map atom (insertLiteral l f)) ≡ (eqb a (atom l) || member a (map atom f))
-unfolding insertLiteral member any
-atoms-insert a l [] = refl
-atoms-insert a l (m ∷ f) = go (ltb l m) (atoms-insert a l f)
-  where
-    table : (x y z : Bool) → (x || (y || z)) ≡ (y || (x || z))
-    table true true z = refl
-    table true false z = refl
-    table false y z = refl
-
-    go :
-        (b : Bool) → member a (map atom (insertLiteral l f)) ≡ (eqb a (atom l) || member a (map atom f))
-        → any (eqb a) (map atom (elim b [ true ↦ l ∷ (m ∷ f) | false ↦ m ∷ insertLiteral l f ]))
-        ≡ (eqb a (atom l) || (eqb a (atom m) || any (eqb a) (map atom f)))
-    go true h = refl
-    go false h = ap (λ z. eqb a (atom m) || z) h ∙ table (eqb a (atom m)) (eqb a (atom l)) (member a (map atom f))
-
-insert-atoms : (a : ℕ) (ls f : List ℕ) → member a (map atom (insertLiterals ls f)) ≡ (member a (map atom ls) || member a (map atom f))
-unfolding insertLiterals member any
-insert-atoms a [] f = refl
-insert-atoms a (l ∷ ls) f =
-    insert-atoms a ls (insertLiteral l f)
-    ∙ ap (λ z. member a (map atom ls) || z) (atoms-insert a l f)
-    ∙ table (member a (map atom ls)) (eqb a (atom l)) (member a (map atom f))
-  where
-    table : (x y z : Bool) → (x || (y || z)) ≡ ((y || x) || z)
-    table true true z = refl
-    table true false z = refl
-    table false true z = refl
-    table false false z = refl
-
-pub sorted-atoms : (a : ℕ) (f : List ℕ) → member a (map atom (sorted f)) ≡ member a (map atom f)
-unfolding sorted member any
-sorted-atoms a f = insert-atoms a f [] ∙ none (member a (map atom f))
-  where
-    none : (x : Bool) → (x || false) ≡ x
-    none true = refl
-    none false = refl
-
-insert-lengths : (ls f : List ℕ) → length (insertLiterals ls f) ≡ length ls + length f
-unfolding insertLiterals
-insert-lengths [] f = omega arith
-insert-lengths (l ∷ ls) f = let a = insert-lengths ls (insertLiteral l f) in let b = insert-length l f in omega arith
-
-pub sorted-length : (f : List ℕ) → length (sorted f) ≡ length f
-unfolding sorted
-sorted-length f = let a = insert-lengths f [] in omega arith
-
-insert-low : (n : ℕ) (ls f : List ℕ) → allBelow n ls ≡ true → allBelow n f ≡ true → allBelow n (insertLiterals ls f) ≡ true
-unfolding insertLiterals allBelow all
-insert-low n [] f h k = k
-insert-low n (l ∷ ls) f h k =
-    insert-low n ls (insertLiteral l f) (and-right (ltb l n) (all (λ x. ltb x n) ls) h)
-    (insert-below n l f (and-left (ltb l n) (all (λ x. ltb x n) ls) h) k)
-
-pub sorted-low : (n : ℕ) (f : List ℕ) → allBelow n f ≡ true → allBelow n (sorted f) ≡ true
-unfolding sorted allBelow all
-sorted-low n f h = insert-low n f [] h refl
