@@ -11,8 +11,7 @@ use borrow.Author.Tests.{le-leb, lt-leb}
 use Rattle.definitions.specs.Lists.{firstFail}
 use Rattle.definitions.specs.Answer.{Refusal, Answer, finding, refused, refuse, verdict, ask, askAt, _>>=_}
 use Rattle.definitions.specs.Literal.{mostAtoms, holdsIn}
-use Rattle.definitions.specs.Image.{Task, initialState, readTask}
-use Rattle.definitions.specs.Clauses.{readClauses}
+use Rattle.definitions.specs.Image.{Task, initialState}
 use Rattle.definitions.specs.Checker.{askTrue, askKept, accept, Accepted, check}
 use Rattle.definitions.proofs.Walks.{left-here}
 use Rattle.definitions.proofs.AnswerLaws.{not-finding}
@@ -20,8 +19,9 @@ use Rattle.answer.specs.Answer.{refusalAt, verdictAnswer}
 use Rattle.answer.specs.declared.Verdict.{Verdict}
 use Rattle.answer.specs.declared.Verdict.the-variants.{Fine, Refused}
 use Rattle.clause.specs.Rows.{clausesOf, ClausesRead}
-use Rattle.answer.proofs.Laws.{verdict-refused}
 use Rattle.task.specs.Reads.{taskOf, Reads}
+use Rattle.reading.specs.Reading.{readBoth}
+use Rattle.reading.proofs.Questions.{both-refused}
 use Rattle.judge.specs.Promise.{Read}
 use Rattle.checker.specs.Search.{falseAnswer, Reading, Input}
 
@@ -58,15 +58,9 @@ false-true t C s h = rw h (go (firstFail (holdsIn (initialState t)) 0 C))
 
 -- ---- the questions one after the other
 module _ (w c : List ℕ) (marks : ℕ) where
-  pub check-task : (r : Refusal) → refused r ≡ verdict (readTask w) → refused r ≡ verdict (check w c marks)
+  pub check-both : (r : Refusal) → refused r ≡ verdict (readBoth w c) → refused r ≡ verdict (check w c marks)
   unfolding check _>>=_ verdict
-  check-task r h = rw (verdict-refused (readTask w) r (sym h))
-
-  pub check-set :
-      (atoms : ℕ) → Reads w → atoms ≡ taskOf w .atoms → (r : Refusal) → refused r ≡ verdict (readClauses atoms c)
-      → refused r ≡ verdict (check w c marks)
-  unfolding check _>>=_ verdict
-  check-set atoms task counted r h = rw (task .found, verdict-refused (readClauses (taskOf w .atoms) c) r (sym (rw counted at h)))
+  check-both r h = sym (ap verdict (both-refused w c _ r h))
 
   module _ (task : Reads w) (clauses : ClausesRead (taskOf w .atoms) c) where
     check-marks : marks < 2 * taskOf w .atoms → refused (refusalAt 13 0 0) ≡ verdict (check w c marks)

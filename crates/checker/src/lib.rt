@@ -121,16 +121,11 @@ fn check_kept(
 fn check_input(image: &[u16], clauses: &[u16], marks: usize) -> Verdict
     ensures { λ r. ⌜ Input (now (image .entry)) (now (clauses .entry)) marks r ⌝ }
 {
-    let read = task::read(image);
+    let read = reading::read(image, clauses);
     if let Verdict::Refused(f) = read {
         return Verdict::Refused(f);
     }
-    let atoms = task::atoms(image);
-    let rows = clause::check_rows(clauses, atoms);
-    if let Verdict::Refused(f) = rows {
-        return Verdict::Refused(f);
-    }
-    if marks < 2 * atoms {
+    if marks < 2 * task::atoms(image) {
         return answer::refuse(Refusal::BUFFERS);
     }
     Verdict::Fine

@@ -32,16 +32,11 @@ fn write_read(clauses: &[u16], atoms: usize, text: &mut [u8]) -> Counted
 pub fn write(image: &[u16], clauses: &[u16], text: &mut [u8]) -> Counted
     ensures { λ r. ⌜ outcome (countAnswer r) (now (text .exit)) ≡ written (now (text .entry)) (writeDimacs (now (image .entry)) (now (clauses .entry)) (length (now (text .entry)))) ⌝ }
 {
-    let read = task::read(image);
+    let read = reading::read(image, clauses);
     if let Verdict::Refused(f) = read {
         return Counted::Refused(f);
     }
-    let atoms = task::atoms(image);
-    let rows = clause::check_rows(clauses, atoms);
-    if let Verdict::Refused(f) = rows {
-        return Counted::Refused(f);
-    }
-    write_read(clauses, atoms, text)
+    write_read(clauses, task::atoms(image), text)
 }
 
 // Reads a DIMACS text into clause rows: questions 1 to 7, then 24 to 26.

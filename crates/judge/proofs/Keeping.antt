@@ -10,9 +10,9 @@ use lib.Seq.{take-all}
 use borrow.Author.Tests.{le-ltb, lt-ltb, le-leb, lt-leb}
 use Rattle.definitions.specs.Lists.{range}
 use Rattle.definitions.specs.Answer.{Refusal, Answer, finding, refused, verdict, ask, askAt, _>>=_}
-use Rattle.definitions.specs.Image.{Operator, readTask, operatorRight}
+use Rattle.definitions.specs.Image.{Operator, operatorRight}
 use Rattle.definitions.specs.Step.{operatorAt}
-use Rattle.definitions.specs.Clauses.{width, clauseOf, clauseRight, rowAt, readClauses, readClause}
+use Rattle.definitions.specs.Clauses.{width, clauseOf, clauseRight, rowAt, readClause}
 use Rattle.definitions.specs.Closure.{has}
 use Rattle.definitions.specs.Kept.{kept}
 use Rattle.definitions.specs.Checker.{keeps}
@@ -26,6 +26,8 @@ use Rattle.clause.proofs.WordLaws.{clause-fine}
 use Rattle.task.specs.Reads.{taskOf, Reads}
 use Rattle.task.specs.Post.{BlockGiven}
 use Rattle.task.proofs.Questions.{operator-right}
+use Rattle.reading.specs.Reading.{readBoth, BothRead}
+use Rattle.reading.proofs.Questions.{both-refused}
 use Rattle.judge.specs.Judging.{failFlags}
 use Rattle.judge.specs.Promise.{Given, Judged, BulkGiven, Asks, InputAnswer, AllRead, ReadAnswer}
 use Rattle.propagation.proofs.Marks.{bit-back}
@@ -77,23 +79,19 @@ module _ (atoms : ℕ) (f : List ℕ) (row : ClauseRead atoms f) where
 
 -- ---- the questions, one after the other
 module _ (w c f : List ℕ) where
-  pub read-task : (r : Refusal) → refused r ≡ verdict (readTask w) → (i marks : ℕ) → refused r ≡ keeps w c f i marks
+  pub read-both : (r : Refusal) → refused r ≡ verdict (readBoth w c) → (i marks : ℕ) → refused r ≡ keeps w c f i marks
   unfolding keeps _>>=_
-  read-task r h i marks = rw (verdict-refused (readTask w) r (sym h))
+  read-both r h i marks = sym (both-refused w c _ r h)
 
-  module _ (task : Reads w) (atoms : ℕ) (counted : atoms ≡ taskOf w .atoms) where
-    pub read-set : (r : Refusal) → refused r ≡ verdict (readClauses atoms c) → (i marks : ℕ) → refused r ≡ keeps w c f i marks
+  module _ (both : BothRead w c) (atoms : ℕ) (counted : atoms ≡ taskOf w .atoms) where
+    read-row : (r : Refusal) → refused r ≡ verdict (readClause (taskOf w .atoms) f) → (i marks : ℕ) → refused r ≡ keeps w c f i marks
     unfolding keeps _>>=_
-    read-set r h i marks = rw (task .found, verdict-refused (readClauses (taskOf w .atoms) c) r (sym (rw counted at h)))
+    read-row r h i marks = rw (both .task .found, both .clauses .read, verdict-refused (readClause (taskOf w .atoms) f) r (sym h))
 
-    module _ (set : ClausesRead (taskOf w .atoms) c) where
-      read-row : (r : Refusal) → refused r ≡ verdict (readClause (taskOf w .atoms) f) → (i marks : ℕ) → refused r ≡ keeps w c f i marks
-      unfolding keeps _>>=_
-      read-row r h i marks = rw (task .found, set .read, verdict-refused (readClause (taskOf w .atoms) f) r (sym h))
-
-      pub read-clause : (v : Verdict) → verdictAnswer v ≡ verdict (readClause atoms f) → ReadAnswer w c f v
-      read-clause Fine e = record { task = task; clauses = set; clause = clause-fine (taskOf w .atoms) f tt (sym (rw counted at e)) }
-      read-clause (Refused r) e = read-row (placed r) (rw counted at e)
+    pub read-clause : (v : Verdict) → verdictAnswer v ≡ verdict (readClause atoms f) → ReadAnswer w c f v
+    read-clause Fine e =
+        record { task = both .task; clauses = both .clauses; clause = clause-fine (taskOf w .atoms) f tt (sym (rw counted at e)) }
+    read-clause (Refused r) e = read-row (placed r) (rw counted at e)
 
   module _ (i marks : ℕ) (read : AllRead w c f) where
     keeps-operator : length (taskOf w .operators) ≤ i → refused (refusalAt 19 0 0) ≡ keeps w c f i marks

@@ -34,16 +34,11 @@ fn test(image: &[u16], clauses: &[u16], clause: &[u16], operator: usize, marks: 
 fn read_all(image: &[u16], clauses: &[u16], clause: &[u16]) -> Verdict
     ensures { λ r. ⌜ ReadAnswer (now (image .entry)) (now (clauses .entry)) (now (clause .entry)) r ⌝ }
 {
-    let read = task::read(image);
+    let read = reading::read(image, clauses);
     if let Verdict::Refused(f) = read {
         return Verdict::Refused(f);
     }
-    let atoms = task::atoms(image);
-    let set = clause::check_rows(clauses, atoms);
-    if let Verdict::Refused(f) = set {
-        return Verdict::Refused(f);
-    }
-    clause::check_clause(clause, atoms)
+    clause::check_clause(clause, task::atoms(image))
 }
 
 // The questions of the test: 1 to 9, 8 and 9 for the clause alone, 19, 13. The first that is answered no decides.

@@ -1,60 +1,28 @@
--- `judge::read_all`: the first question that is answered no decides.
-use Prim.Native.Nat.{ℕ}
-use mathlib.Core.List.{List}
-use mathlib.Core.Path.{_≡_, ap, sym, _∙_, subst}
-use Rattle.answer.specs.Answer.{placed, verdictAnswer}
-use Rattle.clause.specs.Rows.{ClausesRead}
-use Rattle.clause.proofs.ReadLaws.{read-fine}
-use Rattle.task.specs.Reads.{taskOf, Reads}
-use Rattle.task.proofs.Questions.{reads}
-use Rattle.judge.proofs.Keeping.{read-task, read-set, read-clause}
+-- `judge::read_all`: the image and the clauses are read first, then the clause alone.
+use mathlib.Core.Path.{_≡_, subst}
+use Rattle.answer.specs.Answer.{placed}
+use Rattle.answer.specs.declared.Verdict.{Verdict}
+use Rattle.reading.specs.Reading.{BothRead, BothAnswer}
+use Rattle.judge.proofs.Keeping.{read-both, read-clause}
 use borrow.Author.Needs.{needs}
 use Rattle.judge.proofs.read_all.Statement.{statement}
 use Rattle.judge.proofs.read_all.Tie as tie
 
--- where the image was asked: the start
+-- where image and clauses were read, and the start
+abbrev lent : tie.After-read → tie.After-shared-slice-known2
+lent d = d .before .before
+
 abbrev start : tie.After-read → tie.Start
-start d = let p = d .before .before .before in p .before
+start d = lent d .before .before
 
-abbrev image : tie.After-read → List ℕ
-image d = start d .args .image .now
+both : (d : tie.After-read) (v : Verdict) → d .read .result ≡ v → BothAnswer (start d .args .image .now) (start d .args .clauses .now) v
+both d v e = subst (λ (z : Verdict). BothAnswer (start d .args .image .now) (start d .args .clauses .now) z) e (d .read .ensures)
 
-abbrev clauses : tie.After-read → List ℕ
-clauses d = start d .args .clauses .now
-
-abbrev clause : tie.After-read → List ℕ
-clause d = start d .args .clause .now
-
--- where it reads as a task
 abbrev was-read : tie.After-enum-told → tie.After-read
 was-read c = c .before .before
 
-is-read : (c : tie.After-enum-told) → Reads (image (was-read c))
-is-read c = reads (image (was-read c)) (ap verdictAnswer (sym (c .enum-told .given .1)) ∙ was-read c .read .ensures)
-
--- where the clauses were asked: the atoms
-abbrev task-of : tie.After-check-rows → tie.After-enum-told
-task-of c = c .before .before
-
-abbrev read-of : tie.After-check-rows → tie.After-read
-read-of c = was-read (task-of c)
-
-abbrev atoms : tie.After-check-rows → ℕ
-atoms c = c .before .atoms .result
-
-counted : (c : tie.After-check-rows) → atoms c ≡ taskOf (image (read-of c)) .atoms
-counted c = c .before .atoms .ensures .0
-
--- where they are a clause set
-abbrev rows-of : tie.After-enum-told2 → tie.After-check-rows
-rows-of c = c .before .before
-
-is-set : (c : tie.After-enum-told2) → let d = read-of (rows-of c) in ClausesRead (taskOf (image d) .atoms) (clauses d)
-is-set c =
-    let r = rows-of c in
-    let d = read-of r in
-    subst (λ (k : ℕ). ClausesRead k (clauses d)) (counted r)
-    (read-fine (atoms r) (clauses d) tt (sym (ap verdictAnswer (sym (c .enum-told2 .given .1)) ∙ r .check-rows .ensures)))
+is-read : (c : tie.After-enum-told) → let d = was-read c in BothRead (start d .args .image .now) (start d .args .clauses .now)
+is-read c = both (was-read c) _ (c .enum-told .given .1)
 
 read-requires : tie.Need-read-requires
 read-requires c κs = search needs
@@ -66,40 +34,25 @@ returns : tie.Need-returns
 returns c =
     let r = c .before in
     let d = r .before .before in
-    read-task (image d) (clauses d) (clause d) (placed (r .read2 .given .0 .0)) (ap verdictAnswer (sym (r .read2 .given .1)) ∙ d .read .ensures)
+    let s = start d .args in
+    read-both (s .image .now) (s .clauses .now) (s .clause .now) (placed (r .read2 .given .0 .0)) (both d _ (r .read2 .given .1))
 
 enum-told : tie.Need-enum-told
 enum-told c = search needs
 
 atoms-requires : tie.Need-atoms-requires
-atoms-requires c κs = is-read c
-
-check-rows-requires : tie.Need-check-rows-requires
-check-rows-requires c κs = search needs
-
-enum-known-set : tie.Need-enum-known-set
-enum-known-set c = search needs
-
-returns-2 : tie.Need-returns-2
-returns-2 c =
-    let s = c .before in
-    let r = s .before .before in
-    let d = read-of r in
-    read-set (image d) (clauses d) (clause d) (is-read (task-of r)) (atoms r) (counted r) (placed (s .set .given .0 .0))
-    (ap verdictAnswer (sym (s .set .given .1)) ∙ r .check-rows .ensures)
-
-enum-told-2 : tie.Need-enum-told-2
-enum-told-2 c = search needs
+atoms-requires c κs = is-read c .task
 
 check-clause-requires : tie.Need-check-clause-requires
 check-clause-requires c κs = search needs
 
-returns-3 : tie.Need-returns-3
-returns-3 c =
-    let s = c .before in
-    let r = rows-of s in
-    let d = read-of r in
-    read-clause (image d) (clauses d) (clause d) (is-read (task-of r)) (atoms r) (counted r) (is-set s) (c .check-clause .result) (c .check-clause .ensures)
+returns-2 : tie.Need-returns-2
+returns-2 c =
+    let n = c .before in
+    let t = n .before in
+    let s = start (was-read t) .args in
+    read-clause (s .image .now) (s .clauses .now) (s .clause .now) (is-read t) (n .atoms .result) (n .atoms .ensures .0) (c .check-clause .result)
+    (c .check-clause .ensures)
 
 pub read-all-spec : {M : Type 1} → statement M
 read-all-spec =
@@ -110,9 +63,5 @@ read-all-spec =
     returns
     enum-told
     atoms-requires
-    check-rows-requires
-    enum-known-set
-    returns-2
-    enum-told-2
     check-clause-requires
-    returns-3)
+    returns-2)
