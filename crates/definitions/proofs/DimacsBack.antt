@@ -237,13 +237,6 @@ written-read w t C target read right room =
     low : (f : List ℕ) → List·Memᴰ f C → allBelow (2 * t .atoms) f ≡ true
     low f m = list-low (t .atoms) f (right .clauses f m .list)
 
--- a text is written of one right set only
-pub written-once : (N : ℕ) (C D : List (List ℕ)) → N ≤ 1024 → RightSet N C → RightSet N D → dimacsText N C ≡ dimacsText N D → C ≡ D
-written-once N C D few c d e =
-    sym (text-clauses N few C (λ f m. list-low N f (c .clauses f m .list)) (c .rows))
-    ∙ ap clausesIn e
-    ∙ text-clauses N few D (λ f m. list-low N f (d .clauses f m .list)) (d .rows)
-
 -- ---- both calls
 again :
     (w c : List ℕ) (t : Task) (C : List (List ℕ)) (target : ℕ) → readTask w ≡ finding t → RightSet (t .atoms) C → clauseWords C ≡ c → length c ≤ target

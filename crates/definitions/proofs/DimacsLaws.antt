@@ -3,11 +3,10 @@ use mathlib.Core.Bool.{Bool, true, false, not}
 use mathlib.Core.Path.{_≡_, refl, _∙_, ap}
 use mathlib.Core.List.{List, [], _∷_, _++_, append-assoc, List·Memᴰ, List·Memᴰ·head, List·Memᴰ·tail}
 use Prim.Native.Nat.{ℕ}
-use lib.Dec.{eqb}
 use borrow.Author.Tests.{not-true}
 use Rattle.definitions.specs.Lists.{all, keep, empty, each}
 use Rattle.definitions.specs.Text.{line}
-use Rattle.definitions.specs.Dimacs.{ontoFirst, split, ended, allEnded, behindComments, behindComment, blank, tokens}
+use Rattle.definitions.specs.Dimacs.{ontoFirst, split, ended, allEnded, blank, tokens}
 use Rattle.definitions.proofs.ListLaws.{and-left, and-right, and-both}
 use Rattle.definitions.proofs.DimacsNumbers.{Word}
 
@@ -58,10 +57,6 @@ module _ {A : Type 0} (mark : A → Bool) where
   unfolding ended
   ended-end p h = rw (split-end p h)
 
-  pub all-ended-end : (p : List A) → all (λ y. not (mark y)) p ≡ true → allEnded (split mark p) ≡ empty p
-  unfolding allEnded
-  all-ended-end p h = rw (split-end p h)
-
   -- parts that are written each with its mark
   pub split-each : {B : Type 0} (f : B → List A) (x : A) (C : List B) → ((c : B) → List·Memᴰ c C → all (λ y. not (mark y)) (f c) ≡ true) → mark x ≡ true
       → ended (split mark (each (λ c. f c ++ (x ∷ [])) C)) ≡ each (λ c. f c ∷ []) C
@@ -100,23 +95,6 @@ unfolding ended all
 ended-all q [] h = refl
 ended-all q (p ∷ []) h = refl
 ended-all q (p ∷ (r ∷ ps)) h = and-both (and-left (q p) (all q (r ∷ ps)) h) (ended-all q (r ∷ ps) (and-right (q p) (all q (r ∷ ps)) h))
-
--- ---- comment lines
-pub comment-begins : (bs : List ℕ) → behindComments (99 ∷ bs) ≡ behindComment bs
-unfolding behindComments
-comment-begins bs = refl
-
-pub comment-none : (b : ℕ) (bs : List ℕ) → eqb b 99 ≡ false → behindComments (b ∷ bs) ≡ b ∷ bs
-unfolding behindComments
-comment-none b bs e = rw (e, behindComments)
-
-pub comment-goes-on : (b : ℕ) (bs : List ℕ) → eqb b 10 ≡ false → behindComment (b ∷ bs) ≡ behindComment bs
-unfolding behindComments
-comment-goes-on b bs e = rw (e, behindComment)
-
-pub comment-ends : (bs : List ℕ) → behindComment (10 ∷ bs) ≡ behindComments bs
-unfolding behindComments
-comment-ends bs = refl
 
 -- ---- words between blanks
 pub tokens-blank : (b : ℕ) (bs : List ℕ) → blank b ≡ true → tokens (b ∷ bs) ≡ tokens bs

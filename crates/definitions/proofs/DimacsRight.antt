@@ -10,13 +10,13 @@ use lib.ListN.{length, drop}
 use borrow.Author.Tests.{eqb-false, leb-true, lt-ltb}
 use Rattle.definitions.specs.Lists.{all}
 use Rattle.definitions.specs.Answer.{finding, askAt, ask, _>>=_}
-use Rattle.definitions.specs.Literal.{allBelow}
+use Rattle.definitions.specs.Literal.{mostAtoms, allBelow}
 use Rattle.definitions.specs.Image.{Task, readTask}
 use Rattle.definitions.specs.Clauses.{width, mostRows, clauseWords, readClauses}
 use Rattle.definitions.specs.Groups.{Written}
 use Rattle.definitions.specs.Dimacs.{split, ended, allEnded, Number, headed, isNumber, wordsIn, numbersIn, isZero, isThe, literalOf}
 use Rattle.definitions.specs.Dimacs.{saysClauses, isDimacs, clausesIn, fitsRow, sorted, distinct, readDimacs}
-use Rattle.definitions.proofs.ListLaws.{and-left, and-right, and-both, all-at, map-in, map-of, Origin}
+use Rattle.definitions.proofs.ListLaws.{and-left, and-right, and-both, all-at, map-of, Origin}
 use Rattle.definitions.proofs.SetLaws.{insertAll-of}
 use Rattle.definitions.proofs.OrderLaws.{up, insertAll-up}
 use Rattle.definitions.specs.Clauses.{GoodClause}
@@ -99,15 +99,12 @@ pub distinct-good :
     → (f : List ℕ) → List·Memᴰ f (distinct D) → GoodClause N width f
 distinct-good N D low fit f m = sort-good N D low fit f (distinct-of D m)
 
--- every clause of the text is a row
+-- the rows are the clauses of the text, in literal order
 pub distinct-in :
-    {g : List ℕ} (N : ℕ) (D : List (List ℕ)) → N ≤ 1024 → all (allBelow (2 * N)) D ≡ true → all fitsRow D ≡ true
-    → List·Memᴰ g D → List·Memᴰ (sorted g) (distinct D)
+    {f : List ℕ} (N : ℕ) (D : List (List ℕ)) → N ≤ mostAtoms → all (allBelow (2 * N)) D ≡ true → all fitsRow D ≡ true
+    → List·Memᴰ f (map sorted D) → List·Memᴰ f (distinct D)
 unfolding distinct
-distinct-in N D few low fit m = all-in N (map sorted D) [] _ few good (λ f k. absurd (List·Memᴰ·not-nil k)) (map-in sorted m)
-  where
-    good : (f : List ℕ) → List·Memᴰ f (map sorted D) → GoodClause N width f
-    good f k = sort-good N D low fit f (map-of sorted D k)
+distinct-in N D few low fit m = all-in N (map sorted D) [] _ few (λ f k. sort-good N D low fit f (map-of sorted D k)) (λ f k. absurd (List·Memᴰ·not-nil k)) m
 
 -- what reading found: the distinct clauses of the text, and their words pass questions 8 and 9
 pub record TextFound (w text : List ℕ) (target : ℕ) (x : Written) : Type 0 where
