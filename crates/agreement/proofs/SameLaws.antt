@@ -13,8 +13,7 @@ use Rattle.definitions.proofs.ListLaws.{and-both, and-right}
 use Rattle.definitions.proofs.Walks.{left-here}
 use Rattle.definitions.specs.Lists.{all, firstFail}
 use Rattle.definitions.proofs.AnswerLaws.{not-finding}
-use Rattle.definitions.proofs.ListLaws.{firstFail-none}
-use Rattle.definitions.proofs.Accepts.{none-false}
+use Rattle.definitions.proofs.FirstFail.{none-all, all-none}
 use Rattle.checker.specs.Search.{falseAnswer}
 use Rattle.definitions.proofs.AnswerLaws.{answer-of, lent-of, answered, left}
 use Rattle.agreement.specs.Same.{sameRefusal, sameAnswer, bothFound, sameUnit, sameBool, sameList, isFound, Both}
@@ -34,7 +33,7 @@ module _ (p : List ℕ → Bool) (C : List (List ℕ)) where
   holds-all h = go (firstFail p 0 C) refl h
     where
       go : (o : Option ℕ) → firstFail p 0 C ≡ o → finding tt ≡ falseAnswer o → true ≡ all p C
-      go none e h = sym (firstFail-none p 0 C e)
+      go none e h = sym (none-all p 0 C e)
       go (some i) e h = absurd (not-finding (sym h))
 
   pub not-all : (r : Refusal) → refused r ≡ falseAnswer (firstFail p 0 C) → false ≡ all p C
@@ -42,7 +41,7 @@ module _ (p : List ℕ → Bool) (C : List (List ℕ)) where
   not-all r h = go (all p C) refl
     where
       go : (b : Bool) → all p C ≡ b → false ≡ b
-      go true e = absurd (not-finding (h ∙ ap falseAnswer (none-false p 0 C e)))
+      go true e = absurd (not-finding (h ∙ ap falseAnswer (all-none p [] 0 C e)))
       go false e = refl
 
 -- ---- refusals, by the first number that differs

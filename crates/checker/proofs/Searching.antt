@@ -4,56 +4,24 @@ use mathlib.Core.List.{List, [], _∷_, map}
 use mathlib.Core.Option.{none, some}
 use mathlib.Core.Path.{_≡_, refl, sym, _∙_, ap, subst}
 use Prim.Native.Nat.{ℕ, zero, suc, _+_, _≤_, _<_}
-use native.Mathlib.Nat.{zero-add, add-zero, add-suc, suc-add}
+use native.Mathlib.Nat.{zero-add}
 use native.Mathlib.Omega.{arith}
 use native.Mathlib.Decide.{ℕ-discrete}
 use lib.ListN.{length, getD, take, length-map}
 use lib.Seq.{getD-take, length-take-le}
-use Rattle.definitions.specs.Lists.{firstFail}
 use Rattle.definitions.specs.Answer.{finding, refused, refuse}
 use Rattle.definitions.specs.Image.{Task}
 use Rattle.definitions.specs.Step.{operatorAt, noOperator}
 use Rattle.definitions.specs.Closure.{bit}
 use Rattle.definitions.specs.Kept.{kept}
 use Rattle.definitions.specs.Checker.{failsUnder, askKept}
+use Rattle.definitions.proofs.FirstFail.{first-none, first-some}
+use Rattle.definitions.proofs.LowestPlaces.{none-fails, fails-refused}
 use Rattle.answer.specs.Answer.{refusalAt}
 use Rattle.judge.specs.Judging.{failFlags}
 use Rattle.checker.specs.Search.{FirstFlag, Searched}
 
--- ---- the first element that fails
-module _ {A : Type 0} (p : A → Bool) (d : A) where
-  pub first-none : (i : ℕ) (xs : List A) → ((k : ℕ) → k < length xs → p (getD xs k d) ≡ true) → firstFail p i xs ≡ none
-  unfolding firstFail
-  first-none i [] h = refl
-  first-none i (x ∷ xs) h = rw (h 0 (omega arith), firstFail) (first-none (suc i) xs (λ k l. h (suc k) (omega arith)))
-
-  pub first-some :
-      (i : ℕ) (xs : List A) (j : ℕ) → j < length xs → ((k : ℕ) → k < j → p (getD xs k d) ≡ true) → p (getD xs j d) ≡ false
-      → firstFail p i xs ≡ some (i + j)
-  unfolding firstFail
-  first-some i [] j low h f = absurd (omega arith)
-  first-some i (x ∷ xs) zero low h f = rw (f, firstFail, add-zero)
-  first-some i (x ∷ xs) (suc j) low h f =
-      rw (h 0 (omega arith), firstFail)
-      (first-some (suc i) xs j (omega arith) (λ k l. h (suc k) (omega arith)) f ∙ ap some (suc-add i j ∙ sym (add-suc i j)))
-
 module _ (t : Task) (C : List (List ℕ)) where
-  kept-below : (i : ℕ) (D : List (List ℕ)) → ((k : ℕ) → k < length D → failsUnder t C (getD D k []) ≡ none) → askKept t C i D ≡ finding tt
-  unfolding askKept
-  kept-below i [] h = refl
-  kept-below i (f ∷ D) h = rw (h 0 (omega arith), askKept) (kept-below (suc i) D (λ k l. h (suc k) (omega arith)))
-
-  kept-until :
-      (i : ℕ) (D : List (List ℕ)) (low under : ℕ) → low < length D → ((k : ℕ) → k < low → failsUnder t C (getD D k []) ≡ none)
-      → failsUnder t C (getD D low []) ≡ some under → askKept t C i D ≡ refuse 11 (i + low) under
-  unfolding askKept
-  kept-until i [] low under l h f = absurd (omega arith)
-  kept-until i (g ∷ D) zero under l h f = rw (f, askKept, add-zero)
-  kept-until i (g ∷ D) (suc low) under l h f =
-      rw (h 0 (omega arith), askKept)
-      (kept-until (suc i) D low under (omega arith) (λ k l. h (suc k) (omega arith)) f ∙ ap (λ n. refuse 11 n under) (suc-add i low ∙ sym (add-suc i low)))
-
-  -- ---- the search
   pub search-starts : Searched t C 0 (length C) 0
   search-starts = record { inside = omega arith; keeps = λ i k a b. absurd (omega arith); fails = λ h. absurd (omega arith) }
 
@@ -63,10 +31,12 @@ module _ (t : Task) (C : List (List ℕ)) where
     all-keep k h = first-none (λ o. kept (t .atoms) C o (getD C k [])) noOperator 0 (t .operators) (λ j l. s .keeps k j h l)
 
     pub search-kept : length C ≤ low → askKept t C 0 C ≡ finding tt
-    search-kept h = kept-below 0 C (λ k l. all-keep k (omega arith))
+    search-kept h = none-fails t C 0 C (λ k l. all-keep k (omega arith))
 
-    pub search-failed : low < length C → askKept t C 0 C ≡ refuse 11 low under
-    search-failed h = kept-until 0 C low under h all-keep (s .fails h) ∙ ap (λ n. refuse 11 n under) (zero-add low)
+    pub search-failed : low < length C → askKept t C 0 C ≡ refused (refusalAt 11 low under)
+    unfolding refuse
+    search-failed h =
+        fails-refused t C 0 C low under (record { inside = h; before = all-keep; here = s .fails h }) ∙ ap (λ n. refuse 11 n under) (zero-add low)
 
   -- one operator more: the flags of the clauses below `low`, and the first of them
   module _
@@ -128,7 +98,8 @@ module _ (t : Task) (C : List (List ℕ)) where
           inside = let a = s .inside in omega arith;
           keeps = keeps-more i (omega arith) (omega arith);
           fails =
-              λ _. first-some (λ o. kept (t .atoms) C o (getD C i [])) noOperator 0 (t .operators) j more (λ k l. s .keeps i k h l) (fails-here h)
+              λ _. first-some (λ o. kept (t .atoms) C o (getD C i [])) noOperator 0 (t .operators) j
+              (record { inside = more; before = λ k l. s .keeps i k h l; fails = fails-here h })
               ∙ ap some (zero-add j);
         }
 
@@ -152,9 +123,3 @@ pub search-ends :
     (t : Task) (C : List (List ℕ)) (j low under : ℕ) → j ≡ length (t .operators) → Searched t C j low under
     → Searched t C (length (t .operators)) low under
 search-ends t C j low under h s = subst (λ (k : ℕ). Searched t C k low under) h s
-
-pub search-refused :
-    (t : Task) (C : List (List ℕ)) (low under : ℕ) → Searched t C (length (t .operators)) low under → low < length C
-    → askKept t C 0 C ≡ refused (refusalAt 11 low under)
-unfolding refuse
-search-refused t C low under s h = search-failed t C low under s h

@@ -17,7 +17,7 @@ use answer::Refusal;
 use answer::Verdict;
 use clause::WIDTH;
 
-// Whether all clauses hold in a state, or the lowest that is false there.
+// Whether all clauses hold in a state, or a refusal that names the lowest one that is false there.
 pub fn check_true(clauses: &[u16], state: &[u8]) -> Verdict
     ensures { λ r. ⌜ verdictAnswer r ≡ falseAnswer (firstFail (holdsIn (now (state .entry))) 0 (clausesOf (now (clauses .entry)))) ⌝ }
 {
@@ -46,14 +46,14 @@ fn check_initial(image: &[u16], clauses: &[u16], atoms: usize) -> Verdict
 fn first_flag(flags: &[u8]) -> usize
     ensures { λ r. ⌜ FirstFlag (now (flags .entry)) r ⌝ }
 {
-    let mut i: usize = 0;
-    while i < flags.len() {
-        if flags[i] == 1 {
-            return i;
+    let mut place: usize = 0;
+    while place < flags.len() {
+        if flags[place] == 1 {
+            return place;
         }
-        i += 1;
+        place += 1;
     }
-    i
+    place
 }
 
 // The lowest of the first clauses, one for each flag, that is not kept under an operator, or their number where all are.
@@ -85,7 +85,8 @@ fn refuse_kept(low: usize, under: usize) -> Verdict
     })
 }
 
-// Question 11, operator after operator: under each, the clauses below the lowest that failed so far are judged.
+// Question 11: the refusal names the lowest clause that is not kept, and under it the lowest operator. Under each operator
+// only the clauses below the lowest that failed so far are judged.
 fn check_kept(
     image: &[u16],
     clauses: &[u16],

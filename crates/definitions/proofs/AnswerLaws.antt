@@ -2,7 +2,7 @@
 use mathlib.Core.Bool.{Bool, true, false}
 use mathlib.Core.Path.{_≡_, refl, sym, ap, subst}
 use mathlib.Core.List.{List}
-use Prim.Native.Nat.{ℕ}
+use Prim.Native.Nat.{ℕ, _≤_}
 use Rattle.definitions.specs.Answer.{Refusal, Answer, finding, refused, askAt, _>>=_, verdict, Outcome, outcome, stateAfter, becomes}
 
 -- no refusal is a finding
@@ -17,6 +17,9 @@ not-finding {A} e = subst isFinding (sym e) tt
 pub same-finding : {A : Type 0} (a b : A) → _≡_ {A = Answer A} (finding a) (finding b) → a ≡ b
 same-finding a b e = cc
 
+pub same-refusal : {A : Type 0} (q r : Refusal) → _≡_ {A = Answer A} (refused q) (refused r) → q ≡ r
+same-refusal q r e = cc
+
 -- a finding after a question
 pub bind-of : {A B : Type 0} (m : Answer A) (k : A → Answer B) (b : B) → (m >>= k) ≡ finding b → (a : A) × (m ≡ finding a) × (k a ≡ finding b)
 unfolding _>>=_
@@ -27,6 +30,38 @@ pub ask-of : (q i : ℕ) (b : Bool) (u : Unit {0}) → askAt q i b ≡ finding u
 unfolding askAt
 ask-of q i true u e = refl
 ask-of q i false u e = absurd (not-finding e)
+
+-- a refusal after a question: by what is asked next, where the question itself does not refuse so, and else by the question
+module _ {A B : Type 0} (k : A → Answer B) (r : Refusal) where
+  pub refused-next : (m : Answer A) → (m >>= k) ≡ refused r → (m ≡ refused r → ⊥) → (a : A) × (m ≡ finding a) × (k a ≡ refused r)
+  unfolding _>>=_
+  refused-next (finding a) e never = (a, refl, e)
+  refused-next (refused q) e never = absurd (never (ap refused (same-refusal q r e)))
+
+  pub refused-first : (m : Answer A) → (m >>= k) ≡ refused r → ((a : A) → k a ≡ refused r → ⊥) → m ≡ refused r
+  unfolding _>>=_
+  refused-first (finding a) e never = absurd (never a e)
+  refused-first (refused q) e never = ap refused (same-refusal q r e)
+
+pub ask-refused : (q i : ℕ) (b : Bool) (r : Refusal) → askAt q i b ≡ refused r → r .number ≡ q
+unfolding askAt
+ask-refused q i true r e = absurd (not-finding (sym e))
+ask-refused q i false r e = sym (ap (λ (r : Refusal). r .number) (same-refusal _ r e))
+
+-- ---- answers that refuse with a number up to q only
+abbrev pub UpTo : {A : Type 0} → ℕ → Answer A → Type 0
+UpTo q m = (r : Refusal) → m ≡ refused r → r .number ≤ q
+
+pub up-finding : {A : Type 0} (q : ℕ) (a : A) → UpTo q (finding a)
+up-finding q a r e = absurd (not-finding (sym e))
+
+pub up-ask : (q p i : ℕ) (b : Bool) → p ≤ q → UpTo q (askAt p i b)
+up-ask q p i b h r e = subst (λ (n : ℕ). n ≤ q) (sym (ask-refused p i b r e)) h
+
+pub up-bind : {A B : Type 0} (q : ℕ) (m : Answer A) (k : A → Answer B) → UpTo q m → ((a : A) → UpTo q (k a)) → UpTo q (m >>= k)
+unfolding _>>=_
+up-bind q (finding a) k first next r e = next a r e
+up-bind q (refused p) k first next r e = first r (ap refused (same-refusal p r e))
 
 -- ---- the parts of an outcome: its answer, and what the lent buffer becomes
 module _ {A : Type 0} (a : Answer A) (s : List ℕ) (x : Outcome A) (e : outcome a s ≡ x) where

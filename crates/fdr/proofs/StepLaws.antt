@@ -4,7 +4,7 @@ use mathlib.Core.Logic.{_⊎_, inl, inr}
 use mathlib.Core.List.{List, [], _∷_, List·Memᴰ, List·Memᴰ·head, List·Memᴰ·tail, List·Memᴰ·not-nil, List·Memᴰ·cases-cons}
 use mathlib.Core.Bool.{Bool, true, false, cond, _&&_, _||_}
 use mathlib.Core.Option.{Option, none, some}
-use Prim.Native.Nat.{ℕ, _+_, _-_, _≤_, _<_}
+use Prim.Native.Nat.{ℕ, _+_, _≤_, _<_}
 use native.Mathlib.Omega.{arith}
 use lib.Dec.{eqb}
 use lib.ListN.{length, getD, set, length-set}
@@ -13,12 +13,9 @@ use borrow.Author.Tests.{eq-eqb, ne-eqb, eqb-true, eqb-false}
 use Rattle.definitions.specs.Lists.{any}
 use Rattle.definitions.specs.Fdr.{FdrRow}
 use Rattle.definitions.specs.FdrStep.{isSet, clash, cleared}
-use Rattle.definitions.proofs.ListLaws.{never}
+use Rattle.definitions.proofs.ListLaws.{some-none, never}
 use Rattle.definitions.proofs.EncodeLaws.{same-bool}
 use Rattle.fdr.specs.Change.{noted, noteSet, noteClear, noteKind, noteWords, noteRow, noteRows}
-
-some-none : {A : Type 0} {B : Type 0} {a : A} → _≡_ {A = Option A} (some a) none → B
-some-none e = absurd (let z : _≡_ {A = ℕ} 0 1 = cc in omega arith)
 
 same-some : {A : Type 0} {a b : A} → _≡_ {A = Option A} (some a) (some b) → a ≡ b
 same-some e = cc

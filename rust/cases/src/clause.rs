@@ -53,7 +53,7 @@ fn synthesis_case(image: &[u16], n: u16, limit: u16, words: usize) -> Case {
     case
 }
 
-/// Document 01's examples of the ring.
+/// Document 01's examples of the ring, and two sets that fail twice.
 fn ring_cases() -> Vec<Case> {
     let image = structured::ring(3).image();
     let check = |rows: &[u16]| case(CHECK, &image, rows, &[]);
@@ -71,6 +71,8 @@ fn ring_cases() -> Vec<Case> {
         check(&[2, NONE, NONE]),
         check(&[0, NONE, NONE]),
         check(&[1, 3, NONE]),
+        check(&[0, NONE, NONE, 2, NONE, NONE, 4, NONE, NONE]),
+        check(&[0, 2, NONE, 0, 4, NONE]),
         check(&[1, 3, NONE, 1, 5, NONE, 3, 5, NONE]),
         check(&[]),
     ]

@@ -1,7 +1,4 @@
 //! One clause under one operator, and the checker.
-//!
-//! Document 01 leaves open which places refusals 10 and 11 name; this
-//! comparison asks for the lowest, as the reference gives them.
 
 use compare::{Guarded, Tally};
 use exports::Reply;
@@ -9,7 +6,7 @@ use inputs::clauses::{self, FILL};
 use inputs::fixed::kept_cases;
 use inputs::{damage, state, Rng};
 use reference::{checker, kept};
-use sources::{marks_length, Synthesized};
+use sources::{marks_length, Failing, Synthesized};
 
 const LEAST: usize = 50;
 
@@ -135,7 +132,7 @@ fn kept_cases_as_written_down() {
 }
 
 /// Compares a call of kb_check; what the marks hold afterwards is open.
-fn compare_check(tally: &mut Tally, lent: (Words, Words, Bytes)) {
+fn compare_check(tally: &mut Tally, lent: (Words, Words, Bytes)) -> Reply {
     type Lent = (Words, Words, Bytes);
     let reference = |(image, set, marks): &mut Lent| {
         let answer = checker::check(image.lend(), set.lend(), marks.lend_mut());
@@ -147,7 +144,7 @@ fn compare_check(tally: &mut Tally, lent: (Words, Words, Bytes)) {
         marks.forget();
         reply
     };
-    tally.compare((), lent, reference, library);
+    tally.compare((), lent, reference, library).0
 }
 
 #[test]
@@ -172,6 +169,57 @@ fn check() {
     tally.finish(LEAST, &[0, 1, 2, 3, 4, 5, 6, 7, 8, 9, 10, 11, 13]);
 }
 
+/// Compares kb_check on a set that fails at several places: both sides name the
+/// lowest. So do the calls that ask the checker's questions first.
+fn compare_failing(tally: &mut Tally, failing: &Failing) {
+    let (image, words) = (&failing.image, &failing.words);
+    let mut marks = vec![0; 2 * usize::from(image[0])];
+    let lent = (
+        Guarded::new(image),
+        Guarded::new(words),
+        Guarded::new(&marks),
+    );
+    let lowest = Reply::from(Err::<(), _>(failing.lowest()));
+    assert_eq!(compare_check(tally, lent), lowest, "{failing:?}");
+    let mut target = vec![FILL; 40];
+    let others = [
+        exports::groups(image, words, &mut marks, &mut target),
+        exports::reencode(image, words, &mut marks, &mut target),
+        exports::agree(image, words, &[0, 1], &mut marks),
+    ];
+    assert_eq!(others, [lowest; 3], "{failing:?}");
+    assert_eq!(target, [FILL; 40], "{failing:?}");
+}
+
+/// Document 02 §2: two or more clauses are false initially.
+#[test]
+fn the_lowest_false_clause() {
+    let rng = &mut Rng::new(203);
+    let mut tally = Tally::new("kb_check, several false clauses");
+    while !tally.is_full() {
+        compare_failing(&mut tally, &Failing::several_false(rng));
+    }
+    tally.finish(LEAST, &[10]);
+}
+
+/// Document 02 §2: two or more clauses are not kept, the lowest of them under
+/// two or more operators.
+#[test]
+fn the_lowest_clause_and_operator() {
+    let rng = &mut Rng::new(204);
+    let mut tally = Tally::new("kb_check, several clauses and operators");
+    let mut clauses_differ = 0;
+    while !tally.is_full() {
+        let failing = Failing::several_not_kept(rng);
+        compare_failing(&mut tally, &failing);
+        let (clause, _) = failing.operator_first();
+        clauses_differ += usize::from(clause as u64 != failing.lowest().first);
+    }
+    println!("kb_check: {clauses_differ} times the lowest operator names a higher clause");
+    assert!(clauses_differ > 2_000);
+    tally.finish(LEAST, &[11]);
+}
+
 /// Document 01's ring and its answers.
 #[test]
 fn check_the_ring() {
@@ -183,6 +231,12 @@ fn check_the_ring() {
     assert_eq!(check(&[2, FILL, FILL]), (10, 0, 0));
     assert_eq!(check(&[0, FILL, FILL]), (11, 0, 0));
     assert_eq!(check(&[1, 3, FILL]), (11, 0, 2));
+    // Document 02 §2: the lowest clause before the lowest operator.
+    assert_eq!(
+        check(&[0, FILL, FILL, 2, FILL, FILL, 4, FILL, FILL]),
+        (10, 1, 0)
+    );
+    assert_eq!(check(&[0, 2, FILL, 0, 4, FILL]), (11, 0, 1));
     let found = Synthesized::new(image.clone(), 3);
     assert_eq!(check(&clauses::words(&found.rows)), (0, 0, 0));
 }

@@ -6,8 +6,8 @@ use crate::kept::Judge;
 use crate::task::{self, Task};
 
 /// Checks clause rows: questions 1 to 9, 13, 10, 11. Refusal 10 names the
-/// lowest false clause; 11 the lowest clause not kept and the lowest operator
-/// under which it fails.
+/// lowest false clause; 11 the lowest clause that is not kept, and under it the
+/// lowest operator (document 02 §2).
 pub fn check(image: &[u16], clauses: &[u16], marks: &mut [u8]) -> Answer<()> {
     accepted(image, clauses, marks).map(|_| ())
 }

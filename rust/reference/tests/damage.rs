@@ -102,32 +102,40 @@ fn right_texts_are_read() {
     }
 }
 
-#[test]
-fn each_damage_to_clauses_is_refused() {
-    let rng = &mut Rng::new(13);
-    for (number, damage) in CLAUSES.iter().enumerate() {
+/// Does each damage 300 times: every text is refused with the number.
+fn each_is_refused<D>(
+    number: u32,
+    seed: u64,
+    damages: &[D],
+    text: impl Fn(&D, &mut Rng, &Source) -> Vec<u8>,
+) {
+    let rng = &mut Rng::new(seed);
+    for (place, damage) in damages.iter().enumerate() {
         for _ in 0..300 {
-            let Source { atoms, rows, .. } = dimacs::source(rng);
-            let mut proposal = dimacs::proposal(rng, &rows);
-            damage(rng, atoms, &mut proposal);
-            let text = Text::new(atoms, &proposal).odd(rng);
-            assert_eq!(read_text(atoms, &text).0, 25, "damage {number}: {text:?}");
+            let source = dimacs::source(rng);
+            let text = text(damage, rng, &source);
+            let answer = read_text(source.atoms, &text).0;
+            assert_eq!(answer, number, "damage {place}: {text:?}");
         }
     }
 }
 
 #[test]
+fn each_damage_to_clauses_is_refused() {
+    each_is_refused(25, 13, CLAUSES, |damage, rng, source| {
+        let mut proposal = dimacs::proposal(rng, &source.rows);
+        damage(rng, source.atoms, &mut proposal);
+        Text::new(source.atoms, &proposal).odd(rng)
+    });
+}
+
+#[test]
 fn each_damage_to_a_text_is_refused() {
-    let rng = &mut Rng::new(14);
-    for (number, damage) in TEXT.iter().enumerate() {
-        for _ in 0..300 {
-            let Source { atoms, rows, .. } = dimacs::source(rng);
-            let mut text = Text::new(atoms, &dimacs::proposal(rng, &rows));
-            damage(rng, &mut text);
-            let text = text.odd(rng);
-            assert_eq!(read_text(atoms, &text).0, 24, "damage {number}: {text:?}");
-        }
-    }
+    each_is_refused(24, 14, TEXT, |damage, rng, source| {
+        let mut text = Text::new(source.atoms, &dimacs::proposal(rng, &source.rows));
+        damage(rng, &mut text);
+        text.odd(rng)
+    });
 }
 
 #[test]

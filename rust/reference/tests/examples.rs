@@ -46,6 +46,12 @@ fn the_checker_on_the_ring() {
     assert_eq!(check(&RING, &[2, F, F]), refusal(10, 0, 0));
     assert_eq!(check(&RING, &[0, F, F]), refusal(11, 0, 0));
     assert_eq!(check(&RING, &[1, 3, F]), refusal(11, 0, 2));
+    // Document 02 §2: the lowest clause before the lowest operator.
+    assert_eq!(
+        check(&RING, &[0, F, F, 2, F, F, 4, F, F]),
+        refusal(10, 1, 0)
+    );
+    assert_eq!(check(&RING, &[0, 2, F, 0, 4, F]), refusal(11, 0, 1));
     assert_eq!(check(&RING, &RING_CLAUSES), Ok(()));
     assert_eq!(check(&RING, &[]), Ok(()));
 }

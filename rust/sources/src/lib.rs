@@ -1,4 +1,9 @@
-//! Inputs that need the reference to be made: synthesized and re-encoded ones.
+//! Inputs that need the reference to be made: synthesized and re-encoded ones,
+//! and sets that fail at several places.
+
+mod failing;
+
+pub use failing::Failing;
 
 use inputs::fdr::{self, FdrSpec};
 use inputs::{clauses, random, state, Rng};

@@ -15,7 +15,7 @@ use Rattle.judge.specs.Judging.{failFlags}
 use Rattle.judge.specs.Promise.{Read}
 use Rattle.checker.specs.Search.{Searched, FirstFlag}
 use Rattle.checker.proofs.Prefix.{part-kept}
-use Rattle.checker.proofs.Searching.{search-begins, operator-same, operator-lower, search-ends, search-kept, search-refused}
+use Rattle.checker.proofs.Searching.{search-begins, operator-same, operator-lower, search-ends, search-kept, search-failed}
 use borrow.Author.Needs.{needs}
 use Rattle.checker.proofs.check_kept.Statement.{statement}
 use Rattle.checker.proofs.check_kept.Tie as tie
@@ -195,7 +195,7 @@ returns : tie.Need-returns Inv-loop μ-loop
 returns c =
     let e = c .before .before in
     let i = e .before .loop .inv in
-    c .refuse-kept .ensures ∙ sym (search-refused _ _ _ _ (searched e) (omega (arith, i .counted, c .before .if2 .taken)))
+    c .refuse-kept .ensures ∙ sym (search-failed _ _ _ _ (searched e) (omega (arith, i .counted, c .before .if2 .taken)))
 
 same-length-3 : tie.Need-same-length-3 Inv-loop μ-loop
 same-length-3 c = c .before .before .loop .inv .marks-kept
