@@ -1,18 +1,19 @@
 -- The clauses of right rows, for callers. Assumes nothing.
-use mathlib.Core.Bool.{Bool, true, false, not, _&&_, false≢true}
+use mathlib.Core.Bool.{true, false}
 use mathlib.Core.Logic.{_⊎_, inl, inr}
 use mathlib.Core.Path.{_≡_, refl, sym, _∙_, ap}
-use mathlib.Core.List.{List, [], _∷_, map, List·Memᴰ, List·Memᴰ·head, List·Memᴰ·tail, List·Memᴰ·not-nil, List·Memᴰ·cases-cons}
+use mathlib.Core.List.{List, [], _∷_, List·Memᴰ, List·Memᴰ·head, List·Memᴰ·tail, List·Memᴰ·not-nil, List·Memᴰ·cases-cons}
 use Prim.Native.Nat.{ℕ, zero, suc, _+_, _-_, _*_, _≤_, _<_}
 use native.Mathlib.Omega.{arith}
 use native.Mathlib.Decide.{decLt}
-use lib.Dec.{eqb, ltb}
+use lib.Dec.{ltb}
 use lib.ListN.{length, getD}
 use borrow.Author.Tests.{ltb-true}
-use Rattle.definitions.specs.Lists.{any, empty, ascending, compareWords, isSame}
-use Rattle.definitions.specs.Literal.{mostAtoms, atom, fill, allBelow, literalList}
+use Rattle.definitions.specs.Lists.{any, ascending, compareWords, isSame}
+use Rattle.definitions.specs.Literal.{mostAtoms, allBelow}
 use Rattle.definitions.specs.Clauses.{width, rowOf, clauseOf, clauseRight, rowLess, rowAt}
 use Rattle.definitions.specs.Groups.{hasClause}
+use Rattle.definitions.proofs.LiteralLaws.{list-low}
 use Rattle.definitions.proofs.ListLaws.{decide, and-left, and-right, and-both, all-at, any-in, any-of}
 use Rattle.definitions.proofs.PlaceLaws.{same-words}
 use Rattle.definitions.proofs.ListLaws.{getD-mem}
@@ -30,11 +31,6 @@ use Rattle.clause.proofs.RowLaws.{in-none, in-step, row-length, Placed,
 use Rattle.clause.proofs.RowOrder.{row-trans, row-irrefl}
 
 -- ---- a literal list
-module _ (N : ℕ) (f : List ℕ) (list : literalList N f ≡ true) where
-  pub list-below : allBelow (2 * N) f ≡ true
-  unfolding literalList
-  list-below = and-right (ascending f) (allBelow (2 * N) f) (and-left (ascending f && allBelow (2 * N) f) (ascending (map atom f)) list)
-
 pub below-at : (n : ℕ) (ls : List ℕ) → allBelow n ls ≡ true → (l : ℕ) → List·Memᴰ l ls → l < n
 unfolding allBelow
 below-at n ls h l m = ltb-true l n (all-at (λ x. ltb x n) h m)
@@ -63,7 +59,7 @@ module _ (N : ℕ) (w : List ℕ) (rows : RightRows N w) where
       rw (p .same) (right-good N (rowAt w (p .row)) (row-length w (p .row) (p .inside)) (rows .right (p .row) (p .inside)))
 
   pub clause-below : (f : List ℕ) → List·Memᴰ f (clausesOf w) → (l : ℕ) → List·Memᴰ l f → l < 2 * N
-  clause-below f mf l ml = below-at (2 * N) f (list-below N f (clause-good f mf .list)) l ml
+  clause-below f mf l ml = below-at (2 * N) f (list-low N f (clause-good f mf .list)) l ml
 
   -- a clause's row is the row where it stands
   placed-row : (f : List ℕ) (p : Placed w f) → rowAt w (p .row) ≡ rowOf f

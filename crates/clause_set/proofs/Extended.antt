@@ -1,9 +1,9 @@
 -- A clause with one literal more put in. Assumes nothing.
-use mathlib.Core.Bool.{Bool, true, false, cond}
-use mathlib.Core.Option.{Option, none, some}
-use mathlib.Core.Path.{_≡_, refl, sym, _∙_, ap}
+use mathlib.Core.Bool.{true, false}
+use mathlib.Core.Option.{Option}
+use mathlib.Core.Path.{_≡_}
 use mathlib.Core.List.{List, [], _++_, map}
-use Prim.Native.Nat.{ℕ, suc, _+_, _*_, _≤_, _<_}
+use Prim.Native.Nat.{ℕ, suc, _+_, _≤_, _<_}
 use native.Mathlib.Numerals.{add-one}
 use native.Mathlib.Omega.{arith}
 use lib.ListN.{length, getD, drop, drop-of-length-le}
@@ -16,7 +16,8 @@ use Rattle.definitions.proofs.Walks.{left-here}
 use Rattle.definitions.specs.Clauses.{GoodClause}
 use Rattle.definitions.proofs.SetRight.{good-insert}
 use Rattle.definitions.proofs.Accepts.{row-length}
-use Rattle.clause.proofs.ClauseLaws.{row-back, good-right, list-below}
+use Rattle.definitions.proofs.LiteralLaws.{list-low}
+use Rattle.clause.proofs.ClauseLaws.{row-back, good-right}
 use Rattle.clause_set.specs.Put.{put, putAll, extended}
 use Rattle.clause_set.specs.Held.{ClauseRow, Extensible}
 
@@ -41,7 +42,7 @@ module _ (f : List ℕ) (l : ℕ) (e : Extensible f) (low : l < mostLiterals) (n
       }
 
   pub extend-back : clauseOf (rowOf (insertLiteral l f)) ≡ insertLiteral l f
-  extend-back = row-back mostAtoms (insertLiteral l f) (omega arith) (list-below mostAtoms (insertLiteral l f) (good .list))
+  extend-back = row-back mostAtoms (insertLiteral l f) (omega arith) (list-low mostAtoms (insertLiteral l f) (good .list))
 
 -- ---- what a list of which the elements from i on are left gives
 module _ {A B : Type 0} (g : B → List A) (xs : List B) (i : ℕ) where

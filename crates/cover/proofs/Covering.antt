@@ -1,29 +1,27 @@
 -- The groups of all atoms: what the walks leave, in the definitions' words. Assumes nothing.
-use mathlib.Core.Bool.{Bool, true, false, not, _&&_, _||_, cond}
-use mathlib.Core.Logic.{_⊎_, inl, inr}
-use mathlib.Core.Path.{_≡_, refl, sym, _∙_, ap, ap₂, subst}
+use mathlib.Core.Bool.{Bool, true, false, _&&_, _||_, cond}
+use mathlib.Core.Path.{_≡_, refl, sym, _∙_, ap, ap₂}
 use mathlib.Core.List.{List, [], _∷_, _++_, List·Memᴰ, List·Memᴰ·head, List·Memᴰ·tail}
-use Prim.Native.Nat.{ℕ, zero, suc, _+_, _-_, _*_, _/_, _%_, _≤_, _<_}
+use Prim.Native.Nat.{ℕ, zero, suc, _+_, _*_, _/_, _%_, _≤_, _<_}
 use native.Mathlib.Decide.{decLt, ℕ-discrete}
 use native.Mathlib.Omega.{arith}
-use lib.Dec.{eqb, ltb}
+use lib.Dec.{eqb}
 use lib.Seq.{length-take-le}
-use lib.ListN.{length, getD, take, drop, replicate, getD-replicate, length-append, length-replicate, List·getD-eq-default}
+use lib.ListN.{length, getD, take, replicate, getD-replicate, length-replicate, List·getD-eq-default}
 use borrow.Author.Tests.{eqb-true, eq-eqb}
 use Rattle.definitions.specs.Lists.{any, all, each, range, below, member}
-use Rattle.definitions.specs.Literal.{mostAtoms, mostLiterals, atom, positive, allBelow, literalList}
-use Rattle.definitions.specs.Clauses.{width, clauseOf, clauseRight, rowAt}
-use Rattle.definitions.specs.Groups.{groupsBelow, groups, covers, noneOmitted, Domain, domainOf, domainWords, Place, placeOf, placeWords, groupWords}
-use Rattle.definitions.proofs.ListLaws.{decide}
-use Rattle.definitions.proofs.LiteralLaws.{Shape, is, isnt, shape}
+use Rattle.definitions.specs.Literal.{mostAtoms, mostLiterals, atom, positive}
+use Rattle.definitions.specs.Clauses.{clauseOf, rowAt}
+use Rattle.definitions.specs.Groups.{groupsBelow, groups, covers, noneOmitted, domainOf, domainWords, placeOf, placeWords, groupWords}
+use Rattle.definitions.proofs.LiteralLaws.{Shape, is, isnt, shape, list-low}
 use Rattle.definitions.proofs.EncodeLaws.{same-bool}
 use Rattle.definitions.proofs.ListLaws.{member-in, member-of}
-use Rattle.definitions.proofs.GroupLaws.{In, in-mem, mem-in}
+use Rattle.definitions.proofs.GroupLaws.{in-mem, mem-in}
 use Rattle.definitions.proofs.PlaceLaws as places
-use Rattle.clause.specs.Rows.{rowCount, clausesOf, ClausesRead, RightRows}
+use Rattle.clause.specs.Rows.{clausesOf, ClausesRead, RightRows}
 use Rattle.clause.proofs.ReadLaws.{read-right}
 use Rattle.definitions.proofs.RowsRead.{right-some, right-list}
-use Rattle.clause.proofs.ClauseLaws.{list-below, clause-below}
+use Rattle.clause.proofs.ClauseLaws.{clause-below}
 use Rattle.cover.specs.Join.{Placed, Grouped}
 use Rattle.cover.specs.None.{inGroup, liesIn, Within}
 use Rattle.cover.specs.Cover.{Room, Covered}
@@ -42,7 +40,7 @@ module _ (N : ℕ) (w : List ℕ) (read : ClausesRead N w) where
       let r = read-right N w read in
       record {
         some-literal = λ i h. right-some N (rowAt w i) (r .right i h);
-        low = λ i h. rw e (list-below N (clauseOf (rowAt w i)) (right-list N (rowAt w i) (r .right i h)));
+        low = λ i h. rw e (list-low N (clauseOf (rowAt w i)) (right-list N (rowAt w i) (r .right i h)));
       }
 
   pub literals-low : (f : List ℕ) → List·Memᴰ f (clausesOf w) → (l : ℕ) → List·Memᴰ l f → l < 2 * N

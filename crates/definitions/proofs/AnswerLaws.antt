@@ -33,15 +33,15 @@ ask-of q i false u e = absurd (not-finding e)
 
 -- a refusal after a question: by what is asked next, where the question itself does not refuse so, and else by the question
 module _ {A B : Type 0} (k : A → Answer B) (r : Refusal) where
-  pub refused-next : (m : Answer A) → (m >>= k) ≡ refused r → (m ≡ refused r → ⊥) → (a : A) × (m ≡ finding a) × (k a ≡ refused r)
+  pub refused-after : (m : Answer A) → (m >>= k) ≡ refused r → (m ≡ refused r → ⊥) → (a : A) × (m ≡ finding a) × (k a ≡ refused r)
   unfolding _>>=_
-  refused-next (finding a) e never = (a, refl, e)
-  refused-next (refused q) e never = absurd (never (ap refused (same-refusal q r e)))
+  refused-after (finding a) e never = (a, refl, e)
+  refused-after (refused q) e never = absurd (never (ap refused (same-refusal q r e)))
 
-  pub refused-first : (m : Answer A) → (m >>= k) ≡ refused r → ((a : A) → k a ≡ refused r → ⊥) → m ≡ refused r
+  pub refused-by : (m : Answer A) → (m >>= k) ≡ refused r → ((a : A) → k a ≡ refused r → ⊥) → m ≡ refused r
   unfolding _>>=_
-  refused-first (finding a) e never = absurd (never a e)
-  refused-first (refused q) e never = ap refused (same-refusal q r e)
+  refused-by (finding a) e never = absurd (never a e)
+  refused-by (refused q) e never = ap refused (same-refusal q r e)
 
 pub ask-refused : (q i : ℕ) (b : Bool) (r : Refusal) → askAt q i b ≡ refused r → r .number ≡ q
 unfolding askAt
@@ -93,6 +93,4 @@ pub step-refused : (a : Answer (List ℕ)) (s s′ : List ℕ) (r : Refusal) →
 unfolding verdict stateAfter
 step-refused (finding x) s s′ r e = absurd (not-finding (answered (refused r) s s′ (finding x) e))
 step-refused (refused q) s s′ r e =
-    let same-answer : _≡_ {A = Answer (Unit {0})} (refused r) (refused q) = answered (refused r) s s′ (refused q) e in
-    let same : r ≡ q = cc in
-    (ap refused (sym same), left (refused r) s s′ (refused q) e)
+    (ap refused (sym (same-refusal r q (answered (refused r) s s′ (refused q) e))), left (refused r) s s′ (refused q) e)

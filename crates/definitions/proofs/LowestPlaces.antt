@@ -22,7 +22,7 @@ use Rattle.definitions.specs.LowestPlaces.{trueAt, keptAt, LowestFalse, 
 use Rattle.definitions.specs.LowestPlaces.Refuses.{by-checker, by-groups, by-reencoding}
 use Rattle.definitions.proofs.ListLaws.{all-at, getD-mem}
 use Rattle.definitions.proofs.FirstFail.{First, first-none, none-first, first-some, some-first}
-use Rattle.definitions.proofs.AnswerLaws.{not-finding, same-refusal, refused-next, refused-first, ask-refused}
+use Rattle.definitions.proofs.AnswerLaws.{not-finding, same-refusal, refused-after, refused-by, ask-refused}
 use Rattle.definitions.proofs.CheckSound.{true-all}
 use Rattle.definitions.proofs.QuestionNumbers.{task-numbers, clauses-numbers}
 
@@ -38,25 +38,25 @@ module _ (w c : List ℕ) (r : Refusal) (from-10 : 10 ≤ r .number) (to-11 : r 
   check-judged : (marks : ℕ) → check w c marks ≡ refused r → Judged w c r
   unfolding check ask
   check-judged marks e =
-      let q1 = refused-next _ r (readTask w) e (λ h. let few = task-numbers w r h in omega arith) in
+      let q1 = refused-after _ r (readTask w) e (λ h. let few = task-numbers w r h in omega arith) in
       let t = q1 .0 in
-      let q2 = refused-next _ r (readClauses (t .atoms) c) (q1 .2) (λ h. let few = clauses-numbers (t .atoms) c r h in omega arith) in
+      let q2 = refused-after _ r (readClauses (t .atoms) c) (q1 .2) (λ h. let few = clauses-numbers (t .atoms) c r h in omega arith) in
       let C = q2 .0 in
       let room = leb (2 * t .atoms) marks in
-      let q3 = refused-next _ r (askAt 13 0 room) (q2 .2) (λ h. let same = ask-refused 13 0 room r h in omega arith) in
+      let q3 = refused-after _ r (askAt 13 0 room) (q2 .2) (λ h. let same = ask-refused 13 0 room r h in omega arith) in
       record {
         task = t;
         clauses = C;
         read = record { task = q1 .1; clauses = q2 .1 };
-        refuses = refused-first _ r (accept t C) (q3 .2) (λ _ h. not-finding (sym h));
+        refuses = refused-by _ r (accept t C) (q3 .2) (λ _ h. not-finding (sym h));
       }
 
   -- groups and re-encoding ask the checker's questions, then 16
   only-16 : (marks target : ℕ) (size : Accepted → ℕ) (x : Accepted → Written)
       → (check w c marks >>= λ a. ask 16 (leb (size a) target) >>= λ _. finding (x a)) ≡ refused r → check w c marks ≡ refused r
   unfolding ask
-  only-16 marks target size x e = refused-first _ r (check w c marks) e (λ a h.
-      let q = refused-first _ r (askAt 16 0 (leb (size a) target)) h (λ _ f. not-finding (sym f)) in
+  only-16 marks target size x e = refused-by _ r (check w c marks) e (λ a h.
+      let q = refused-by _ r (askAt 16 0 (leb (size a) target)) h (λ _ f. not-finding (sym f)) in
       let same = ask-refused 16 0 (leb (size a) target) r q in
       omega arith)
 
@@ -181,13 +181,13 @@ module _ (t : Task) (C : List (List ℕ)) (r : Refusal) (e : accept t C ≡ refu
   at-true : r .number ≡ 10 → LowestFalse t C (r .first) × (r .second ≡ 0)
   unfolding accept
   at-true n =
-      let s = true-refused t C r (refused-first _ r (askTrue t C) e (λ u h. let m = kept-refused t C 0 C r h .number in omega arith)) in
+      let s = true-refused t C r (refused-by _ r (askTrue t C) e (λ u h. let m = kept-refused t C 0 C r h .number in omega arith)) in
       (s .1, s .2)
 
   at-kept : r .number ≡ 11 → AllTrue t C × LowestNotKept t C (r .first) (r .second)
   unfolding accept
   at-kept n =
-      let p = refused-next _ r (askTrue t C) e (λ h. let m = true-refused t C r h .0 in omega arith) in
+      let p = refused-after _ r (askTrue t C) e (λ h. let m = true-refused t C r h .0 in omega arith) in
       let s = kept-refused t C 0 C r (p .2) in
       let first : s .low ≡ r .first = sym (s .first ∙ zero-add (s .low)) in
       (found-all t C (p .0) (p .1), subst (λ (i : ℕ). LowestNotKept t C i (r .second)) first (fails-lowest t C (s .low) (r .second) (s .fails)))

@@ -20,7 +20,8 @@ use Rattle.dimacs_rows.proofs.Clauses.{none-said}
 use Rattle.definitions.proofs.Accepts.{row-length}
 use Rattle.clause.specs.Rows.{clausesOf}
 use Rattle.clause.proofs.RowLaws.{clauses-none}
-use Rattle.clause.proofs.ClauseLaws.{list-below, row-back, good-right}
+use Rattle.definitions.proofs.LiteralLaws.{list-low}
+use Rattle.clause.proofs.ClauseLaws.{row-back, good-right}
 use Rattle.clause_set.specs.Held.{ClauseRow}
 use Rattle.dimacs_rows.specs.Reading.{clausesAt, Clauses, RowRead}
 use Rattle.dimacs_rows.specs.Rows.{Fit, Makes, Stores}
@@ -68,7 +69,7 @@ module _ (text : List ℕ) (at : ℕ) (row : List ℕ) (next : ℕ) (r : RowRead
 
   row-clause : clauseOf row ≡ sorted (r .clause)
   row-clause =
-      ap clauseOf (r .row) ∙ row-back mostAtoms (sorted (r .clause)) (omega arith) (list-below mostAtoms (sorted (r .clause)) (row-good .list))
+      ap clauseOf (r .row) ∙ row-back mostAtoms (sorted (r .clause)) (omega arith) (list-low mostAtoms (sorted (r .clause)) (row-good .list))
 
   module _ (from : ℕ) (w : List ℕ) (stored : stores.Stored) (c : Collecting text from at w stored) where
     pub collecting-next : (new : List ℕ) (s : stores.Stored) → Stores row w stored new s → Collecting text from next new s

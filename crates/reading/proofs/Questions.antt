@@ -1,19 +1,19 @@
 -- Questions 1 to 9, and what is asked after them. Assumes nothing.
-use mathlib.Core.Path.{_≡_, sym, _∙_, ap, subst}
+use mathlib.Core.Path.{_≡_, sym, ap, subst}
 use mathlib.Core.List.{List}
 use Prim.Native.Nat.{ℕ}
 use Rattle.definitions.specs.Answer.{Refusal, Answer, finding, refused, verdict, _>>=_}
 use Rattle.definitions.specs.Image.{Task, readTask}
 use Rattle.definitions.specs.Clauses.{readClauses}
-use Rattle.definitions.proofs.AnswerLaws.{not-finding}
-use Rattle.answer.specs.Answer.{placed, verdictAnswer}
+use Rattle.definitions.proofs.AnswerLaws.{not-finding, same-refusal}
+use Rattle.answer.specs.Answer.{verdictAnswer}
 use Rattle.answer.specs.declared.Verdict.{Verdict}
 use Rattle.answer.specs.declared.Verdict.the-variants.{Fine, Refused}
 use Rattle.answer.proofs.Laws.{verdict-refused}
 use Rattle.task.specs.Reads.{taskOf, Reads}
 use Rattle.clause.specs.Rows.{ClausesRead}
 use Rattle.clause.proofs.ReadLaws.{read-fine}
-use Rattle.reading.specs.Reading.{readBoth, BothRead, BothAnswer}
+use Rattle.reading.specs.Reading.{readBoth, BothAnswer}
 
 module _ (w c : List ℕ) where
   pub both-task : (r : Refusal) → refused r ≡ verdict (readTask w) → refused r ≡ verdict (readBoth w c)
@@ -36,10 +36,7 @@ module _ (w c : List ℕ) where
     where
       last : (t : Task) (m : Answer (List (List ℕ))) → refused r ≡ verdict m → (m >>= k t) ≡ refused r
       last t (finding C) e = absurd (not-finding e)
-      last t (refused q) e = ap refused (same q e)
-        where
-          same : (q : Refusal) → _≡_ {A = Answer (Unit {0})} (refused r) (refused q) → q ≡ r
-          same q e = cc
+      last t (refused q) e = ap refused (sym (same-refusal r q e))
 
       go : (m : Answer Task) → refused r ≡ verdict (m >>= λ t. readClauses (t .atoms) c) → (m >>= λ t. readClauses (t .atoms) c >>= k t) ≡ refused r
       go (finding t) e = last t (readClauses (t .atoms) c) e

@@ -1,31 +1,29 @@
 -- The words of the image by the places of the atoms are those of the definitions. Assumes nothing.
-use mathlib.Core.Bool.{Bool, true, false, _&&_}
+use mathlib.Core.Bool.{true}
 use mathlib.Core.Path.{_≡_, refl, sym, _∙_, ap, ap₂}
 use mathlib.Core.List.{List, [], _∷_, _++_, map, append-assoc, List·Memᴰ, List·Memᴰ·head, List·Memᴰ·tail}
-use Prim.Native.Nat.{ℕ, zero, suc, _+_, _-_, _*_, _/_, _%_, _≤_, _<_}
+use Prim.Native.Nat.{ℕ, suc, _+_, _*_, _/_, _≤_, _<_}
 use native.Mathlib.Omega.{arith}
-use lib.Dec.{leb, ltb}
-use lib.ListN.{length, getD, take, drop, length-append, length-map}
+use lib.Dec.{ltb}
+use lib.ListN.{length, getD, take, length-append, length-map}
 use lib.Seq.{length-take-le}
 use borrow.Author.Tests.{ltb-true}
 use Rattle.definitions.specs.Lists.{all, each, below, ascending}
-use Rattle.definitions.specs.Answer.{Answer, finding, refused, Refusal, outcome, verdict, ask, _>>=_}
+use Rattle.definitions.specs.Answer.{finding, refused, Refusal, outcome, verdict}
 use Rattle.definitions.specs.Literal.{atom, allBelow, literalList}
 use Rattle.definitions.specs.Image.{Row, Operator, Task, initialState, rowRight, operatorRight}
 use Rattle.definitions.specs.Step.{noOperator, operatorAt}
 use Rattle.definitions.specs.Checker.{Accepted, check}
-use Rattle.definitions.specs.Groups.{groups, groupsBelow, Domain, domainOf, domainWords, Place, placeOf, placeWords, Written, written}
-use Rattle.definitions.specs.Fdr.{FdrLiteral, FdrRow, FdrOperator, FdrTask, fdrLiteralWords, countedWords, fdrRowWords, fdrOperatorWords, fdrParts}
+use Rattle.definitions.specs.Groups.{groups, domainOf, domainWords, placeOf, placeWords, written}
+use Rattle.definitions.specs.Fdr.{fdrLiteralWords, countedWords, fdrRowWords, fdrOperatorWords, fdrParts}
 use Rattle.definitions.specs.Fdr.{pairWords, fdrWords}
 use Rattle.definitions.specs.Encoding.{valueIn, encodeLiteral, encodeRow, encodeOperator, encode, encodedImage, encodeCall}
 use Rattle.definitions.proofs.ListLaws.{and-left, and-right}
-use Rattle.definitions.specs.Image.{operatorSize}
 use Rattle.answer.specs.Answer.{refusalAt}
 use Rattle.task.specs.Reads.{taskOf, Reads}
-use Rattle.task.specs.Walk.{row}
 use Rattle.task.proofs.Questions.{task-read, operator-right}
 use Rattle.clause.specs.Rows.{clausesOf}
-use Rattle.clause.proofs.ClauseLaws.{list-below}
+use Rattle.definitions.proofs.LiteralLaws.{list-low}
 use Rattle.cover.specs.Join.{Placed}
 use Rattle.cover.specs.Cover.{Covered}
 use Rattle.writing.specs.Writing.{Wrote}
@@ -80,7 +78,7 @@ module _ (N : ℕ) (C : List (List ℕ)) (ps : List ℕ) (placed : Placed C N ps
   unfolding groups fdrRowWords encodeRow rowBy rowRight atom
   row-is r h =
       let low = ltb-true (r .effect) (2 * N) (and-left (ltb (r .effect) (2 * N)) (literalList N (r .conditions)) h) in
-      let c = counted-are (r .conditions) (list-below N (r .conditions) (and-right (ltb (r .effect) (2 * N)) (literalList N (r .conditions)) h)) in
+      let c = counted-are (r .conditions) (list-low N (r .conditions) (and-right (ltb (r .effect) (2 * N)) (literalList N (r .conditions)) h)) in
       rw (placed .variable (r .effect / 2) (omega arith), placed .value (r .effect / 2) (omega arith), ← c)
 
   rows-are : (rs : List Row) → all (rowRight N) rs ≡ true → each fdrRowWords (map (encodeRow G) rs) ≡ rowsBy ps rs
@@ -91,7 +89,7 @@ module _ (N : ℕ) (C : List (List ℕ)) (ps : List ℕ) (placed : Placed C N ps
   operator-is : (o : Operator) → operatorRight N o ≡ true → fdrOperatorWords (encodeOperator G o) ≡ operatorBy ps o
   unfolding fdrOperatorWords encodeOperator operatorBy operatorRight
   operator-is o h =
-      ap₂ _++_ (counted-are (o .precondition) (list-below N (o .precondition) (and-left (literalList N (o .precondition)) (all (rowRight N) (o .rows)) h)))
+      ap₂ _++_ (counted-are (o .precondition) (list-low N (o .precondition) (and-left (literalList N (o .precondition)) (all (rowRight N) (o .rows)) h)))
       (ap₂ (λ (n : ℕ) (l : List ℕ). n ∷ l) (length-map (o .rows) (encodeRow G))
       (rows-are (o .rows) (and-right (literalList N (o .precondition)) (all (rowRight N) (o .rows)) h)))
 
@@ -138,7 +136,7 @@ append-five a b c d e a′ b′ c′ d′ e′ p q r s t = cc
 
 -- ---- the task's lists are below its number of atoms
 pub goal-below : (w : List ℕ) → Reads w → allBelow (2 * taskOf w .atoms) (taskOf w .goal) ≡ true
-goal-below w rd = list-below (taskOf w .atoms) (taskOf w .goal) (task-read w rd .goal-right)
+goal-below w rd = list-low (taskOf w .atoms) (taskOf w .goal) (task-read w rd .goal-right)
 
 pub initial-below : (w : List ℕ) → Reads w → allBelow (taskOf w .atoms) (taskOf w .initial) ≡ true
 initial-below w rd = and-right (ascending (taskOf w .initial)) (allBelow (taskOf w .atoms) (taskOf w .initial)) (task-read w rd .initial-right)

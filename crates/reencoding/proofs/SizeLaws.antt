@@ -1,26 +1,25 @@
 -- Sizes: a block of L words is an operator of that size, and becomes 2L - 2 words. Assumes nothing.
-use mathlib.Core.Bool.{Bool, true, false, _&&_, false≢true}
+use mathlib.Core.Bool.{Bool, true, false, false≢true}
 use mathlib.Core.Option.{Option, none, some}
 use mathlib.Core.Path.{_≡_, refl, sym, _∙_, ap}
-use mathlib.Core.List.{List, [], _∷_, _++_, map}
-use Prim.Native.Nat.{ℕ, zero, suc, _+_, _-_, _*_, _≤_, _<_}
+use mathlib.Core.List.{List, [], _∷_, _++_}
+use Prim.Native.Nat.{ℕ, zero, suc, _+_, _-_, _*_, _≤_}
 use native.Mathlib.Omega.{arith}
 use lib.Dec.{leb}
 use lib.ListN.{length, getD, take, drop, length-append, length-take, length-drop}
-use lib.Seq.{length-take-le}
 use borrow.Author.Tests.{leb-true}
 use Rattle.definitions.specs.Lists.{all, each}
 use Rattle.definitions.specs.Literal.{allBelow, literalList}
 use Rattle.definitions.specs.Image.{Row, Operator, rowsOf, rowRight, operatorRight}
 use Rattle.definitions.proofs.ListLaws.{and-left, and-right}
-use Rattle.definitions.specs.Image.{rowsSize, operatorSize, operatorsSize}
+use Rattle.definitions.specs.Image.{rowsSize, operatorSize}
 use Rattle.definitions.proofs.ImageSize.{not-some}
 use Rattle.task.specs.Walk.{row, someRows, rowsOr, parsesAt, rowsAt, blockParses, operatorIn}
 use Rattle.task.specs.Post.{BlockRead}
 use Rattle.task.proofs.Blocks.{block-read}
-use Rattle.clause.proofs.ClauseLaws.{list-below}
-use Rattle.reencoding.specs.Words.{literalsBy, countedBy, rowBy, rowsBy, operatorBy}
-use Rattle.reencoding.proofs.WordLaws.{counted-length, row-length, rows-next}
+use Rattle.definitions.proofs.LiteralLaws.{list-low}
+use Rattle.reencoding.specs.Words.{countedBy, rowBy, rowsBy, operatorBy}
+use Rattle.reencoding.proofs.WordLaws.{counted-length, row-length}
 
 -- ---- the rows of a block
 parsed : (b : List ℕ) (p k : ℕ) → parsesAt b p k ≡ true → rowsOf k (drop p b) ≡ some (rowsAt b p k)
@@ -90,7 +89,7 @@ module _ (b : List ℕ) (o : Operator) (end k : ℕ) (read : BlockRead b o end k
 
   pub operator-pre : (N : ℕ) → operatorRight N o ≡ true → allBelow (2 * N) (take (end - 1) (drop 1 b)) ≡ true
   unfolding operatorRight
-  operator-pre N h = rw (read .precondition) (list-below N (o .precondition) (and-left (literalList N (o .precondition)) (all (rowRight N) (o .rows)) h))
+  operator-pre N h = rw (read .precondition) (list-low N (o .precondition) (and-left (literalList N (o .precondition)) (all (rowRight N) (o .rows)) h))
 
   pub operator-rows : (N : ℕ) → operatorRight N o ≡ true → all (rowRight N) (rowsAt b (end + 1) k) ≡ true
   unfolding operatorRight

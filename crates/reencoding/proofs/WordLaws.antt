@@ -1,21 +1,21 @@
 -- Laws of the words of literals, rows and operators, for the walks that write them. Assumes nothing.
-use mathlib.Core.Bool.{Bool, true, false, _&&_}
+use mathlib.Core.Bool.{true, false}
 use mathlib.Core.Path.{_≡_, refl, sym, _∙_, ap}
 use mathlib.Core.List.{List, [], _∷_, _++_}
-use Prim.Native.Nat.{ℕ, zero, suc, _+_, _-_, _*_, _/_, _%_, _≤_, _<_}
+use Prim.Native.Nat.{ℕ, _+_, _*_, _/_, _%_, _≤_, _<_}
 use native.Mathlib.Nat.{mul-suc, mul-zero}
 use native.Mathlib.Omega.{arith}
 use lib.Dec.{ltb}
-use lib.ListN.{length, getD, set, take, drop, length-append, length-take, length-drop, drop-of-length-le}
+use lib.ListN.{length, getD, take, drop, length-append, length-take, length-drop, drop-of-length-le}
 use borrow.Author.Tests.{ltb-true, eqb-true, eqb-false}
-use Rattle.definitions.specs.Lists.{all, each, ascending}
+use Rattle.definitions.specs.Lists.{all, each}
 use Rattle.definitions.specs.Literal.{atom, positive, allBelow, literalList}
-use Rattle.definitions.specs.Image.{Row, Operator, rowRight, operatorRight}
+use Rattle.definitions.specs.Image.{Row, rowRight}
 use Rattle.definitions.proofs.ListLaws.{and-left, and-right}
 use Rattle.definitions.proofs.Walks.{left-here}
 use Rattle.task.specs.Walk.{row}
-use Rattle.clause.proofs.ClauseLaws.{list-below}
-use Rattle.reencoding.specs.Words.{atomsOf, literalBy, literalsBy, countedBy, rowBy, rowsBy, operatorBy}
+use Rattle.definitions.proofs.LiteralLaws.{list-low}
+use Rattle.reencoding.specs.Words.{atomsOf, literalBy, literalsBy, countedBy, rowBy, rowsBy}
 
 -- ---- lengths
 pub each-length : {A : Type 0} (k : ℕ) (f : A → List ℕ) → ((x : A) → length (f x) ≡ k) → (xs : List A) → length (each f xs) ≡ k * length xs
@@ -79,7 +79,7 @@ module _ (places : List ℕ) (e : ℕ) (cs : List ℕ) (right : rowRight (atomsO
 
   pub row-conditions : allBelow (2 * atomsOf places) cs ≡ true
   unfolding rowRight
-  row-conditions = list-below (atomsOf places) cs (and-right (ltb e (2 * atomsOf places)) (literalList (atomsOf places) cs) right)
+  row-conditions = list-low (atomsOf places) cs (and-right (ltb e (2 * atomsOf places)) (literalList (atomsOf places) cs) right)
 
 pub row-words :
     (places : List ℕ) (e : ℕ) (cs : List ℕ) (a s : ℕ) → a ≡ atom e → s ≡ e % 2

@@ -1,23 +1,23 @@
 -- The questions of a synthesis one after the other. Assumes nothing.
-use mathlib.Core.Bool.{Bool, true, false, _&&_, cond}
-use mathlib.Core.Option.{Option, none, some}
-use mathlib.Core.Path.{_≡_, refl, sym, _∙_, ap, subst}
-use mathlib.Core.List.{List, [], _∷_, _++_}
-use Prim.Native.Nat.{ℕ, zero, suc, _+_, _-_, _*_, _/_, _≤_, _<_, min}
+use mathlib.Core.Bool.{Bool, true, false, _&&_}
+use mathlib.Core.Path.{_≡_, refl, sym, _∙_, ap}
+use mathlib.Core.List.{List, _++_}
+use Prim.Native.Nat.{ℕ, zero, suc, _-_, _*_, _≤_, _<_}
 use native.Mathlib.Omega.{arith}
 use native.Mathlib.Nat.{mul-le-mul-left}
 use lib.Dec.{leb}
-use lib.ListN.{length, getD, take, drop, replicate}
+use lib.ListN.{length, take, drop, replicate}
 use lib.Seq.{take-at}
 use borrow.Author.Tests.{leb-true, le-leb, lt-leb}
-use Rattle.definitions.specs.Lists.{all, ascending}
-use Rattle.definitions.specs.Answer.{Refusal, Answer, Outcome, finding, refused, refuse, verdict, outcome, ask, askAt, _>>=_}
-use Rattle.definitions.specs.Literal.{mostAtoms, allBelow, literalList}
-use Rattle.definitions.specs.Image.{mostImage, mostOperators, Operator, Task, part, directory, operatorOf, operatorRight, readOperator, readOperators, readTask}
+use Rattle.definitions.specs.Lists.{all}
+use Rattle.definitions.specs.Answer.{Refusal, Answer, Outcome, refused, refuse, verdict, outcome, ask, askAt, _>>=_}
+use Rattle.definitions.specs.Literal.{mostAtoms}
+use Rattle.definitions.specs.Image.{Task, readTask}
 use Rattle.definitions.specs.Clauses.{width, mostRows, clauseWords}
-use Rattle.definitions.specs.Synthesis.{firstSet, tested, passes, nextOf, Found, Made, fits, rounds, rowsIn, synthesis, bufferAfter, madeOf, synthesisCall}
+use Rattle.definitions.specs.Synthesis.{firstSet, tested, passes, nextOf, Made, fits, rounds, rowsIn, synthesis, bufferAfter, madeOf, synthesisCall}
 use Rattle.definitions.proofs.ListLaws.{and-left, and-right}
-use Rattle.definitions.proofs.AnswerLaws.{not-finding}
+use Rattle.definitions.proofs.AnswerLaws.{not-finding, same-refusal}
+use Rattle.definitions.proofs.QuestionNumbers.{task-numbers}
 use Rattle.answer.specs.Answer.{refusalAt, placed, verdictAnswer}
 use Rattle.answer.specs.declared.Refusal as declared
 use Rattle.answer.specs.declared.Verdict.{Verdict}
@@ -28,60 +28,6 @@ use Rattle.synthesis.specs.Asked.{limitsRight, buffersRight, Asked, Chec
 use Rattle.synthesis.specs.Rounds.{Begun}
 use Rattle.synthesis.proofs.Rounds.{first-size}
 use Rattle.synthesis.proofs.Units.{first-length}
-
--- ---- the questions of reading have low numbers
-abbrev Low : {A : Type 0} → Answer A → Type 0
-Low m = (r : Refusal) → m ≡ refused r → r .number ≤ 7
-
-number-of : {A : Type 0} (x r : Refusal) → _≡_ {A = Answer A} (refused x) (refused r) → x ≡ r
-number-of x r e = cc
-
-refused-low : {A : Type 0} (q i j : ℕ) → q ≤ 7 → Low {A = A} (refused (record { number = q; first = i; second = j }))
-refused-low q i j h r e =
-    let n : q ≡ r .number = ap (λ (x : Refusal). x .number) (number-of (record { number = q; first = i; second = j }) r e) in
-    omega arith
-
-finding-low : {A : Type 0} (a : A) → Low (finding a)
-finding-low a r e = absurd (not-finding (sym e))
-
-ask-low : (q i : ℕ) (b : Bool) → q ≤ 7 → Low (askAt q i b)
-unfolding askAt
-ask-low q i true h = finding-low tt
-ask-low q i false h = refused-low q i 0 h
-
-bind-low : {A B : Type 0} (m : Answer A) (k : A → Answer B) → Low m → ((a : A) → Low (k a)) → Low (m >>= k)
-unfolding _>>=_
-bind-low (finding a) k h f = f a
-bind-low (refused x) k h f = λ r e. h r (ap refused (number-of x r e))
-
-operator-low : (N i : ℕ) (b : List ℕ) → Low (readOperator N i b)
-unfolding readOperator refuse
-operator-low N i b = go (operatorOf b) refl
-  where
-    go : (x : Option Operator) → operatorOf b ≡ x → Low (readOperator N i b)
-    go none e = rw (e, readOperator) (refused-low 6 i 0 (omega arith))
-    go (some o) e =
-        rw (e, readOperator)
-        (bind-low (askAt 7 i (operatorRight N o)) (λ _. finding o) (ask-low 7 i (operatorRight N o) (omega arith)) (λ _. finding-low o))
-
-operators-low : (N : ℕ) (w : List ℕ) (i k : ℕ) → Low (readOperators N w i k)
-unfolding readOperators
-operators-low N w i zero = finding-low []
-operators-low N w i (suc k) =
-    bind-low (readOperator N i (part w (i + 2))) (λ o. readOperators N w (suc i) k >>= λ os. finding (o ∷ os)) (operator-low N i (part w (i + 2)))
-    (λ o. bind-low (readOperators N w (suc i) k) (λ os. finding (o ∷ os)) (operators-low N w (suc i) k) (λ os. finding-low (o ∷ os)))
-
-read-low : (w : List ℕ) → Low (readTask w)
-unfolding readTask ask
-read-low w =
-    let N = getD w 0 0 in
-    let M = getD w 1 0 in
-    bind-low (askAt 1 0 (leb 6 (length w) && leb (length w) mostImage)) _ (ask-low 1 0 _ (omega arith))
-    (λ _. bind-low (askAt 2 0 (leb 1 N && leb N mostAtoms && leb M mostOperators)) _ (ask-low 2 0 _ (omega arith))
-    (λ _. bind-low (askAt 3 0 (directory w (M + 2))) _ (ask-low 3 0 _ (omega arith))
-    (λ _. bind-low (askAt 4 0 (ascending (part w 0) && allBelow N (part w 0))) _ (ask-low 4 0 _ (omega arith))
-    (λ _. bind-low (askAt 5 0 (literalList N (part w 1))) _ (ask-low 5 0 _ (omega arith))
-    (λ _. bind-low (readOperators N w 0 M) _ (operators-low N w 0 M) (λ os. finding-low _))))))
 
 -- ---- the clause buffer after the rounds is the same for buffers of one length
 rounds-buffer :
@@ -111,7 +57,7 @@ module _ (w : List ℕ) (n limit : ℕ) (old : List ℕ) (work marks : ℕ) wher
   unfolding synthesisCall synthesis _>>=_ madeOf bufferAfter outcome
   call-read r h =
       let e = verdict-refused (readTask w) r (sym h) in
-      rw (e, lt-leb 14 (r .number) (let l = read-low w r e in omega arith))
+      rw (e, lt-leb 14 (r .number) (let l = task-numbers w r e in omega arith))
 
   module _ (reads : Reads w) where
     pub call-limits : limitsRight n limit ≡ false → outcome (refused (refusalAt 12 0 0)) old ≡ synthesisCall w n limit old work marks
@@ -127,7 +73,7 @@ module _ (w : List ℕ) (n limit : ℕ) (old : List ℕ) (work marks : ℕ) wher
 refusal-of :
     (f q : Refusal) (old : List ℕ) (y : Outcome Made) → _≡_ {A = Answer (Unit {0})} (refused f) (refused q)
     → outcome (refused q) old ≡ y → outcome (refused f) old ≡ y
-refusal-of f q old y e h = ap (λ (x : Refusal). outcome (refused x) old) (number-of f q e) ∙ h
+refusal-of f q old y e h = ap (λ (x : Refusal). outcome (refused x) old) (same-refusal f q e) ∙ h
 
 -- the answers of the code to them
 module _ (w : List ℕ) (n limit words work marks : ℕ) where

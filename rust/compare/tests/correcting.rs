@@ -2,7 +2,9 @@
 //! answered as written there.
 
 use exports::Reply;
+use inputs::clauses;
 use reference::{checker, dimacs};
+use sources::Synthesized;
 
 const PAGE: &str = include_str!("../../../docs/CORRECTING.md");
 const ANSWER: &str = "`kb_check` answers ";
@@ -60,6 +62,8 @@ fn the_page_is_right() {
     }
     let answers: Vec<u32> = steps.iter().map(|(_, reply)| reply.number).collect();
     assert_eq!(answers, [10, 10, 11, 11, 11, 0]);
+    let found = clauses::words(&Synthesized::new(image.clone(), 3).rows);
+    assert_eq!(written(&image, &found), steps[5].0, "the last set is found");
 }
 
 /// The text of the rows, which the reference writes as well.
