@@ -119,7 +119,8 @@ module _
 pub search-begins : (t : Task) (C : List (List ℕ)) (low : ℕ) → low ≡ length C → Searched t C 0 low 0
 search-begins t C low h = subst (λ (k : ℕ). Searched t C 0 k 0) (sym h) (search-starts t C)
 
+-- all operators are judged
 pub search-ends :
-    (t : Task) (C : List (List ℕ)) (j low under : ℕ) → j ≡ length (t .operators) → Searched t C j low under
+    (t : Task) (C : List (List ℕ)) (j low under : ℕ) → length (t .operators) ≤ j → Searched t C j low under
     → Searched t C (length (t .operators)) low under
-search-ends t C j low under h s = subst (λ (k : ℕ). Searched t C k low under) h s
+search-ends t C j low under h s = record { inside = s .inside; keeps = λ i k a b. s .keeps i k a (omega arith); fails = s .fails }

@@ -146,7 +146,8 @@ fn check_set(image: &[u16], clauses: &[u16], marks: &mut [u8]) -> Verdict
     check_kept(image, clauses, atoms, marks, &mut fails[..])
 }
 
-// Whether a set of clauses is accepted: questions 1 to 9, 13, 10, 11.
+// Whether a set of clauses is accepted: questions 1 to 9, 13, 10, 11. 10 names the lowest false clause, 11 the lowest clause that is
+// not kept and under it the lowest operator.
 pub fn accept(image: &[u16], clauses: &[u16], marks: &mut [u8]) -> Verdict
     ensures { λ r. ⌜ verdictAnswer r ≡ verdict (check (now (image .entry)) (now (clauses .entry)) (length (now (marks .entry)))) ⌝ }
 {

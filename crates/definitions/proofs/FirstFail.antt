@@ -8,7 +8,7 @@ use native.Mathlib.Nat.{add-zero, add-suc, suc-add}
 use native.Mathlib.Omega.{arith}
 use lib.ListN.{length, getD}
 use Rattle.definitions.specs.Lists.{all, firstFail}
-use Rattle.definitions.proofs.ListLaws.{some-none, all-at, and-both, getD-mem}
+use Rattle.definitions.proofs.ListLaws.{some-none, none-some, all-at, and-both, getD-mem}
 
 module _ {A : Type 0} (p : A → Bool) where
   -- no element fails
@@ -53,7 +53,7 @@ module _ {A : Type 0} (p : A → Bool) where
 
     pub some-first : (i : ℕ) (xs : List A) (k : ℕ) → firstFail p i xs ≡ some k → (j : ℕ) × (k ≡ i + j) × First xs j
     unfolding firstFail
-    some-first i [] k e = some-none (sym e)
+    some-first i [] k e = none-some e
     some-first i (x ∷ xs) k e = go (p x) refl (λ h. some-first (suc i) xs k h)
       where
         ahead : p x ≡ true → (j : ℕ) → First xs j → First (x ∷ xs) (suc j)

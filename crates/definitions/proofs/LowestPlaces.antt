@@ -18,7 +18,8 @@ use Rattle.definitions.specs.Kept.{kept}
 use Rattle.definitions.specs.Checker.{askTrue, failsUnder, askKept, accept, Accepted, check}
 use Rattle.definitions.specs.Groups.{Written, groupsCall}
 use Rattle.definitions.specs.Encoding.{encodeCall}
-use Rattle.definitions.specs.LowestPlaces.{trueAt, keptAt, LowestFalse, LowestNotKept, AllTrue, ReadAs, Refuses, Refused10, Refused11, LowestPlaces}
+use Rattle.definitions.specs.LowestPlaces.{trueAt, keptAt, LowestFalse, LowestNotKept, AllTrue, ReadAs, Refuses, AllRefuse}
+use Rattle.definitions.specs.LowestPlaces.{Refused10, Refused11, LowestPlaces}
 use Rattle.definitions.specs.LowestPlaces.Refuses.{by-checker, by-groups, by-reencoding}
 use Rattle.definitions.proofs.ListLaws.{all-at, getD-mem}
 use Rattle.definitions.proofs.FirstFail.{First, first-none, none-first, first-some, some-first}
@@ -27,7 +28,7 @@ use Rattle.definitions.proofs.CheckSound.{true-all}
 use Rattle.definitions.proofs.QuestionNumbers.{task-numbers, clauses-numbers}
 
 -- ---- from the calls to questions 10 and 11
--- a refusal by one of the two: task and clauses are read, and it is that of the clauses
+-- a refusal with 10 or 11: task and clauses are read, and `accept` refuses so
 record Judged (w c : List ℕ) (r : Refusal) : Type 0 where
   task : Task
   clauses : List (List ℕ)
@@ -164,7 +165,7 @@ module _ (t : Task) (C : List (List ℕ)) where
         not-kept = first .fails;
       }
 
-  pub lowest-fails : (i j : ℕ) → LowestNotKept t C i j → Fails C i j
+  lowest-fails : (i j : ℕ) → LowestNotKept t C i j → Fails C i j
   unfolding keptAt failsUnder operatorAt
   lowest-fails i j s =
       record {
@@ -208,12 +209,20 @@ names-11 w c i j e =
     let a = at-kept (g .task) (g .clauses) (refusal 11 i j) (g .refuses) refl in
     record { task = g .task; clauses = g .clauses; read = g .read; all-true = a .0; lowest = a .1 }
 
--- what the clauses are refused with is what the checker refuses with
-check-refuses :
-    (w c : List ℕ) (marks : ℕ) (t : Task) (C : List (List ℕ)) → ReadAs w c t C → 2 * t .atoms ≤ marks → (r : Refusal) → accept t C ≡ refused r
-    → check w c marks ≡ refused r
-unfolding check ask askAt _>>=_
-check-refuses w c marks t C read room r e = rw (read .task, read .clauses, le-leb (2 * t .atoms) marks room, e)
+-- what `accept` refuses with is what the calls refuse with
+module _ (w c : List ℕ) (marks : ℕ) (t : Task) (C : List (List ℕ)) (read : ReadAs w c t C) (room : 2 * t .atoms ≤ marks) (q i j : ℕ) where
+  check-refuses : accept t C ≡ refuse q i j → check w c marks ≡ refuse q i j
+  unfolding check ask askAt refuse _>>=_
+  check-refuses e = rw (read .task, read .clauses, le-leb (2 * t .atoms) marks room, e)
+
+  all-refuse : accept t C ≡ refuse q i j → AllRefuse w c marks q i j
+  unfolding groupsCall encodeCall refuse _>>=_
+  all-refuse e =
+      record {
+        checker = check-refuses e;
+        groups = λ target. rw (check-refuses e);
+        reencoding = λ target. rw (check-refuses e);
+      }
 
 pub lowest-places : LowestPlaces
 unfolding accept refuse _>>=_
@@ -221,9 +230,9 @@ lowest-places =
     record {
       at-10 = names-10;
       at-11 = names-11;
-      finds-false = λ w c marks t C read room i l. check-refuses w c marks t C read room (refusal 10 i 0) (rw (false-refused t C i l));
+      finds-false = λ w c marks t C read room i l. all-refuse w c marks t C read room 10 i 0 (rw (false-refused t C i l));
       finds-not-kept =
           λ w c marks t C read room h i j l.
-          check-refuses w c marks t C read room (refusal 11 i j)
+          all-refuse w c marks t C read room 11 i j
           (rw (all-found t C h) (fails-refused t C 0 C i j (lowest-fails t C i j l) ∙ ap (λ n. refuse 11 n j) (zero-add i)));
     }

@@ -1,4 +1,4 @@
--- Questions 1 to 9 refuse with their own numbers only. Assumes nothing.
+-- Questions 1 to 7 refuse with a number up to 7, 8 and 9 with one up to 9. Assumes nothing.
 use mathlib.Core.Bool.{_&&_}
 use mathlib.Core.List.{List, [], _∷_}
 use mathlib.Core.Option.{Option, none, some}

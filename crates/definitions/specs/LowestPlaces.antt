@@ -37,7 +37,7 @@ module _ (t : Task) (C : List (List ℕ)) where
     pub operators-before : (o : ℕ) → o < j → keptAt i o ≡ true
     pub not-kept : keptAt i j ≡ false
 
-  -- question 10 is answered yes
+  -- every clause holds initially
   abbrev pub AllTrue : Type 0
   AllTrue = (k : ℕ) → k < length C → trueAt k ≡ true
 
@@ -46,7 +46,7 @@ pub record ReadAs (w c : List ℕ) (t : Task) (C : List (List ℕ)) : Type 0 whe
   pub task : readTask w ≡ finding t
   pub clauses : readClauses (t .atoms) c ≡ finding C
 
--- a call that asks the checker's questions refuses with question q at places i and j, whatever its marks and its target
+-- the checker, groups or re-encoding refuses with question q at places i and j, whatever its marks and its target
 pub data Refuses (w c : List ℕ) (q i j : ℕ) : Type 0 where
   by-checker : (marks : ℕ) → check w c marks ≡ refuse q i j → Refuses w c q i j
   by-groups : (marks target : ℕ) → groupsCall w c marks target ≡ refuse q i j → Refuses w c q i j
@@ -68,14 +68,19 @@ pub record Refused11 (w c : List ℕ) (i j : ℕ) : Type 0 where
   pub all-true : AllTrue task clauses
   pub lowest : LowestNotKept task clauses i j
 
--- of every image and all clause words
+-- all three refuse so with these marks, whatever the target
+pub record AllRefuse (w c : List ℕ) (marks q i j : ℕ) : Type 0 where
+  pub checker : check w c marks ≡ refuse q i j
+  pub groups : (target : ℕ) → groupsCall w c marks target ≡ refuse q i j
+  pub reencoding : (target : ℕ) → encodeCall w c marks target ≡ refuse q i j
+
+-- of every image and all clause words: what is named is the lowest, and the lowest is named
 pub record LowestPlaces : Type 0 where
   pub at-10 : (w c : List ℕ) (i j : ℕ) → Refuses w c 10 i j → Refused10 w c i j
   pub at-11 : (w c : List ℕ) (i j : ℕ) → Refuses w c 11 i j → Refused11 w c i j
-  -- and where clause i is the lowest false one, or all are true and i the lowest not kept, the checker refuses so
   pub finds-false :
       (w c : List ℕ) (marks : ℕ) (t : Task) (C : List (List ℕ)) → ReadAs w c t C → 2 * t .atoms ≤ marks → (i : ℕ) → LowestFalse t C i
-      → check w c marks ≡ refuse 10 i 0
+      → AllRefuse w c marks 10 i 0
   pub finds-not-kept :
       (w c : List ℕ) (marks : ℕ) (t : Task) (C : List (List ℕ)) → ReadAs w c t C → 2 * t .atoms ≤ marks → AllTrue t C → (i j : ℕ)
-      → LowestNotKept t C i j → check w c marks ≡ refuse 11 i j
+      → LowestNotKept t C i j → AllRefuse w c marks 11 i j

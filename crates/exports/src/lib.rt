@@ -99,7 +99,8 @@ pub extern "C" fn kb_kept(
     )
 }
 
-// The checker: 1 to 9, 13, 10, 11.
+// The checker: 1 to 9, 13, 10, 11. 10 names the lowest false clause, 11 the lowest clause that is not kept and under it the lowest
+// operator.
 #[no_mangle]
 pub extern "C" fn kb_check(
     image: &[u16],

@@ -15,7 +15,7 @@ use Rattle.definitions.specs.Groups.{Domain}
 use Rattle.definitions.specs.Fdr.{FdrRow, FdrOperator, FdrTask, noDomain, atomValues, fdrAllTrue}
 use Rattle.definitions.specs.FdrImage.{isAtomValue, fdrLiteralRight, fdrRowRight, fdrOperatorRight}
 use Rattle.definitions.specs.FdrStep.{isFdrState, fdrFired, fdrConflict, noneThere, fdrAfter, noFdrOperator, fdrStep}
-use Rattle.definitions.proofs.ListLaws.{and-left, and-right, all-at, all-of, keep-of}
+use Rattle.definitions.proofs.ListLaws.{none-some, and-left, and-right, all-at, all-of, keep-of}
 use Rattle.answer.specs.Answer.{refusalAt}
 use Rattle.answer.specs.Reader.{stateAnswer}
 use Rattle.answer.proofs.ReaderCalls.{question-no, question-yes, stays, done, operator-refused, operator-there, image-fine, state-is}
@@ -127,9 +127,6 @@ noted-some : (f : Bool) (m : List ℕ) (o : Option (List ℕ)) → noted f m ≡
 unfolding noted
 noted-some f m o e h = sym e ∙ ap (λ (b : Bool). noted b m) h
 
-not-some : {A : Type 0} {a : A} → _≡_ {A = Option A} none (some a) → ⊥
-not-some e = let z : _≡_ {A = ℕ} 0 1 = cc in omega arith
-
 module _ (s : List ℕ) (rs : List FdrRow) (rows : Rows mostAtoms rs) where
   fired-conflict : noteFired s rs noChanges ≡ none → fdrConflict rs ≡ true
   unfolding noteFired noteClears
@@ -147,7 +144,7 @@ module _ (s : List ℕ) (rs : List FdrRow) (rows : Rows mostAtoms rs) where
       go :
           (o : Option (List ℕ)) → noteRows s 0 rs noChanges ≡ o → noteClears s rs o ≡ some m′
           → (m : List ℕ) × (noteRows s 0 rs noChanges ≡ some m) × (noteRows s 1 rs m ≡ some m′)
-      go none p e = absurd (not-some e)
+      go none p e = none-some e
       go (some m) p e = (m, p, e)
 
 -- both passes, the sets and then the clears

@@ -13,12 +13,9 @@ use borrow.Author.Tests.{eq-eqb, ne-eqb, eqb-true, eqb-false}
 use Rattle.definitions.specs.Lists.{any}
 use Rattle.definitions.specs.Fdr.{FdrRow}
 use Rattle.definitions.specs.FdrStep.{isSet, clash, cleared}
-use Rattle.definitions.proofs.ListLaws.{some-none, never}
+use Rattle.definitions.proofs.ListLaws.{some-none, none-some, same-some, never}
 use Rattle.definitions.proofs.EncodeLaws.{same-bool}
 use Rattle.fdr.specs.Change.{noted, noteSet, noteClear, noteKind, noteWords, noteRow, noteRows}
-
-same-some : {A : Type 0} {a b : A} → _≡_ {A = Option A} (some a) (some b) → a ≡ b
-same-some e = cc
 
 noted-some : (m m′ : List ℕ) → noted true m ≡ some m′ → _≡_ {A = Option (List ℕ)} (some m) (some m′)
 unfolding noted
@@ -26,7 +23,7 @@ noted-some m m′ e = e
 
 noted-none : {B : Type 0} (m m′ : List ℕ) → noted false m ≡ some m′ → B
 unfolding noted
-noted-none m m′ e = some-none (sym e)
+noted-none m m′ e = none-some e
 
 noted-not : {B : Type 0} (m : List ℕ) → noted true m ≡ none → B
 unfolding noted

@@ -11,9 +11,8 @@ use borrow.Author.Tests.{leb-true}
 use Rattle.definitions.specs.Lists.{all, each}
 use Rattle.definitions.specs.Literal.{allBelow, literalList}
 use Rattle.definitions.specs.Image.{Row, Operator, rowsOf, rowRight, operatorRight}
-use Rattle.definitions.proofs.ListLaws.{and-left, and-right}
+use Rattle.definitions.proofs.ListLaws.{none-some, and-left, and-right}
 use Rattle.definitions.specs.Image.{rowsSize, operatorSize}
-use Rattle.definitions.proofs.ImageSize.{not-some}
 use Rattle.task.specs.Walk.{row, someRows, rowsOr, parsesAt, rowsAt, blockParses, operatorIn}
 use Rattle.task.specs.Post.{BlockRead}
 use Rattle.task.proofs.Blocks.{block-read}
@@ -33,19 +32,19 @@ parsed b p k h = go (rowsOf k (drop p b)) h
 rows-exact : (k : ℕ) (xs : List ℕ) (rs : List Row) → rowsOf k xs ≡ some rs → (length rs ≡ k) × (rowsSize rs ≡ length xs)
 unfolding rowsOf rowsSize
 rows-exact zero [] rs e = let q : [] ≡ rs = cc in rw (← q) (refl, refl)
-rows-exact zero (x ∷ xs) rs e = not-some e
-rows-exact (suc k) [] rs e = not-some e
-rows-exact (suc k) (x ∷ []) rs e = not-some e
+rows-exact zero (x ∷ xs) rs e = none-some e
+rows-exact (suc k) [] rs e = none-some e
+rows-exact (suc k) (x ∷ []) rs e = none-some e
 rows-exact (suc k) (x ∷ (c ∷ xs)) rs e = first (leb c (length xs)) refl (λ rs h. rows-exact k (drop c xs) rs h)
   where
     first :
         (b : Bool) → leb c (length xs) ≡ b → ((rs : List Row) → rowsOf k (drop c xs) ≡ some rs → (length rs ≡ k) × (rowsSize rs ≡ length (drop c xs)))
         → (length rs ≡ suc k) × (rowsSize rs ≡ suc (suc (length xs)))
-    first false h rec = not-some (rw (h, rowsOf) at e)
+    first false h rec = none-some (rw (h, rowsOf) at e)
     first true h rec = second (rowsOf k (drop c xs)) refl
       where
         second : (y : Option (List Row)) → rowsOf k (drop c xs) ≡ y → (length rs ≡ suc k) × (rowsSize rs ≡ suc (suc (length xs)))
-        second none q = not-some (rw q at (rw (h, rowsOf) at e))
+        second none q = none-some (rw q at (rw (h, rowsOf) at e))
         second (some ts) q =
             let fits = leb-true c (length xs) h in
             let f : some (row x (take c xs) ∷ ts) ≡ some rs = rw q at (rw (h, rowsOf) at e) in

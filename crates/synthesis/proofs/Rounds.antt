@@ -1,24 +1,25 @@
 -- What a round comes to, and the rounds one after the other. Assumes nothing.
-use mathlib.Core.Bool.{Bool, true, false, cond, false≢true}
-use mathlib.Core.Option.{Option, none, some}
-use mathlib.Core.Path.{_≡_, refl, sym, _∙_, ap, subst}
-use mathlib.Core.List.{List, [], _∷_, _++_, map, List·Memᴰ}
+use mathlib.Core.Bool.{Bool, true, false, cond}
+use mathlib.Core.Option.{none, some}
+use mathlib.Core.Path.{_≡_, refl, sym, _∙_, ap}
+use mathlib.Core.List.{List, _++_, map, List·Memᴰ}
 use Prim.Native.Nat.{ℕ, zero, suc, _+_, _-_, _*_, _≤_, _<_}
 use native.Mathlib.Numerals.{add-one}
 use native.Mathlib.Omega.{arith}
 use native.Mathlib.Nat.{mul-le-mul-left}
-use lib.Dec.{eqb, leb}
+use lib.Dec.{eqb}
 use lib.Seq.{take-at, length-take-le}
 use borrow.Author.Tests.{eqb-true, eqb-false, not-true, not-false}
 use lib.ListN.{length, take, drop, replicate}
 use Rattle.definitions.specs.Lists.{any, all}
-use Rattle.definitions.specs.Answer.{Answer, Outcome, finding, refused, refuse, outcome}
+use Rattle.definitions.specs.Answer.{Answer, finding, refused, refuse, outcome}
 use Rattle.definitions.specs.Literal.{mostAtoms}
 use Rattle.definitions.specs.Image.{Task, initialState}
 use Rattle.definitions.specs.Closure.{bit}
 use Rattle.definitions.specs.Clauses.{width, mostRows, clauseWords}
-use Rattle.definitions.specs.Synthesis.{firstSet, tested, passes, nextOf, next, setAt, Found, Made, fits, rounds, bufferAfter, madeOf}
+use Rattle.definitions.specs.Synthesis.{firstSet, tested, passes, next, setAt, Found, fits, rounds, bufferAfter, madeOf}
 use Rattle.definitions.specs.Clauses.{GoodClause}
+use Rattle.definitions.proofs.ListLaws.{some-none, none-some}
 use Rattle.definitions.proofs.SetRight.{good-sets, up-sets}
 use Rattle.answer.specs.Answer.{refusalAt}
 use Rattle.clause.specs.Rows.{rowCount, clausesOf, ClausesRead}
@@ -26,7 +27,7 @@ use Rattle.clause.proofs.RowLaws.{clauses-length}
 use Rattle.clause.proofs.ReadLaws.{read-right}
 use Rattle.clause.proofs.WordLaws.{words-back, words-read, words-clauses}
 use Rattle.task.specs.Reads.{taskOf, Reads}
-use Rattle.clause_set.specs.Held.{held, Room, Holds}
+use Rattle.clause_set.specs.Held.{held, Holds}
 use Rattle.clause_set.specs.declared.Built.{Built}
 use Rattle.clause_set.specs.declared.Built.the-variants.{Rows, Full}
 use Rattle.clause_set.proofs.Insertion.{held-room, held-size, held-words}
@@ -55,10 +56,7 @@ unfolding fitted
 fits-none rows D e = go (fits rows D) e
   where
     go : (b : Bool) → cond b (some D) none ≡ none → b ≡ false
-    go true q = absurd (some-none q)
-      where
-        some-none : _≡_ {A = Option (List (List ℕ))} (some D) none → ⊥
-        some-none q = let z : _≡_ {A = ℕ} 0 1 = cc in omega arith
+    go true q = some-none q
     go false q = refl
 
 fits-some : (rows : ℕ) (D E : List (List ℕ)) → fitted rows D ≡ some E → (fits rows D ≡ true) × (E ≡ D)
@@ -67,10 +65,7 @@ fits-some rows D E e = go (fits rows D) e
   where
     go : (b : Bool) → cond b (some D) none ≡ some E → (b ≡ true) × (E ≡ D)
     go true q = (refl, cc)
-    go false q = absurd (none-some q)
-      where
-        none-some : _≡_ {A = Option (List (List ℕ))} none (some E) → ⊥
-        none-some q = let z : _≡_ {A = ℕ} 0 1 = cc in omega arith
+    go false q = none-some q
 
 -- the step to the next set that was built
 pub step-built :

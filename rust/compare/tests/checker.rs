@@ -231,7 +231,8 @@ fn check_the_ring() {
     assert_eq!(check(&[2, FILL, FILL]), (10, 0, 0));
     assert_eq!(check(&[0, FILL, FILL]), (11, 0, 0));
     assert_eq!(check(&[1, 3, FILL]), (11, 0, 2));
-    // Document 02 §2: the lowest clause before the lowest operator.
+    // Document 02 §2: the lower of two false clauses; the lowest clause before
+    // the lowest operator.
     assert_eq!(
         check(&[0, FILL, FILL, 2, FILL, FILL, 4, FILL, FILL]),
         (10, 1, 0)

@@ -46,7 +46,8 @@ fn the_checker_on_the_ring() {
     assert_eq!(check(&RING, &[2, F, F]), refusal(10, 0, 0));
     assert_eq!(check(&RING, &[0, F, F]), refusal(11, 0, 0));
     assert_eq!(check(&RING, &[1, 3, F]), refusal(11, 0, 2));
-    // Document 02 §2: the lowest clause before the lowest operator.
+    // Document 02 §2: the lower of two false clauses; the lowest clause before
+    // the lowest operator.
     assert_eq!(
         check(&RING, &[0, F, F, 2, F, F, 4, F, F]),
         refusal(10, 1, 0)

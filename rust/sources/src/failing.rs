@@ -15,9 +15,9 @@ pub struct Failing {
     pub image: Vec<u16>,
     pub words: Vec<u16>,
     /// The places of the clauses that are false initially.
-    pub false_clauses: Vec<usize>,
+    false_clauses: Vec<usize>,
     /// For each clause the operators under which it is not kept.
-    pub operators: Vec<Vec<usize>>,
+    operators: Vec<Vec<usize>>,
 }
 
 impl Failing {
@@ -120,8 +120,8 @@ fn true_rows(rng: &mut Rng) -> (Vec<u16>, Vec<u16>) {
     (image, clauses::words(&rows))
 }
 
-/// A small task and the set that synthesis finds, changed at some places; rows
-/// that become false initially are left out.
+/// A task and the set that synthesis finds, changed at some places; clauses that
+/// are false initially are left out.
 fn changed_rows(rng: &mut Rng) -> (Vec<u16>, Vec<u16>) {
     let source = Synthesized::random(rng);
     let mut rows = source.rows.clone();
@@ -129,11 +129,8 @@ fn changed_rows(rng: &mut Rng) -> (Vec<u16>, Vec<u16>) {
         clauses::mutate(rng, source.atoms(), &mut rows);
     }
     let initial = source.initial();
-    rows.retain(|row| {
-        let literals = clauses::literals(row);
-        literals
-            .iter()
-            .any(|literal| u16::from(initial[usize::from(literal / 2)]) != literal % 2)
-    });
-    (source.image, clauses::words(&rows))
+    let set = clause::read(&clauses::words(&rows), source.atoms()).expect("right rows");
+    let held = set.iter().filter(|clause| clause.holds(&initial));
+    let words = held.flat_map(Clause::words).collect();
+    (source.image, words)
 }

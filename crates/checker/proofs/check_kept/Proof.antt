@@ -23,7 +23,6 @@ use Rattle.checker.proofs.check_kept.Tie as tie
 pub record Invariant (t : Task) (C : List (List ℕ)) (marks₀ fails₀ count operators marks fails low under operator : ℕ) : Type 0 where
   pub marks-kept : marks ≡ marks₀
   pub fails-kept : fails ≡ fails₀
-  pub few : operator ≤ operators
   pub all : operators ≡ length (t .operators)
   pub counted : count ≡ length C
   pub searched : Searched t C operator low under
@@ -109,7 +108,7 @@ fails-kept c =
 searched : (c : tie.After-loop Inv-loop μ-loop) → let h = c .before in Searched (task h) (set h) (length (task h .operators)) (h .loop .low) (h .loop .under)
 searched c =
     let i = c .before .loop .inv in
-    search-ends _ _ _ _ _ (omega (arith, i .few, i .all, c .loop-test .left)) (i .searched)
+    search-ends _ _ _ _ _ (omega (arith, i .all, c .loop-test .left)) (i .searched)
 
 rows-requires : tie.Need-rows-requires Inv-loop μ-loop
 rows-requires c κs = search needs
@@ -123,7 +122,6 @@ loop-holds c =
     record {
       marks-kept = refl;
       fails-kept = refl;
-      few = omega arith;
       all = c .operators .ensures .0;
       counted = e;
       searched = search-begins _ _ _ e;
@@ -159,7 +157,6 @@ loop-again c =
     record {
       marks-kept = marks-kept j;
       fails-kept = fails-kept j;
-      few = omega (arith, inside j .loop-test .taken);
       all = i .all;
       counted = i .counted;
       searched = operator-same _ _ _ _ _ _ _ (read h .counted) (i .searched) (first j) (c .if1 .taken);
@@ -176,7 +173,6 @@ loop-again-2 c =
     record {
       marks-kept = marks-kept j;
       fails-kept = fails-kept j;
-      few = omega (arith, inside j .loop-test .taken);
       all = i .all;
       counted = i .counted;
       searched = operator-lower _ _ _ _ _ _ _ (read h .counted) (i .searched) (first j) (more (inside j)) (c .if1 .left);

@@ -1,14 +1,13 @@
 -- `checker::check_true`: the first clause that is false is the first of those that are left.
 use denote.Ref.{now}
-use Prim.Native.Nat.{ℕ, _≤_, _<_, _-_}
+use Prim.Native.Nat.{ℕ, _<_, _-_}
 use mathlib.Core.Path.{_≡_, refl, sym, _∙_}
 use mathlib.Core.List.{List, []}
 use native.Mathlib.Omega.{arith}
-use lib.ListN.{getD, drop}
+use lib.ListN.{drop}
 use borrow.Author.Tests.{not-true, not-false}
 use Rattle.definitions.specs.Lists.{firstFail}
 use Rattle.definitions.specs.Literal.{holdsIn}
-use Rattle.definitions.specs.Clauses.{clauseOf}
 use Rattle.clause.specs.Rows.{rowCount, clausesOf}
 use Rattle.clause.proofs.RowLaws.{clauses-length}
 use Rattle.judge.proofs.Rows.{clause-read}
@@ -19,8 +18,7 @@ use Rattle.checker.proofs.check_true.Tie as tie
 
 abbrev Inv-loop : tie.InvT-loop
 Inv-loop clauses state count i₀ i =
-    (i ≤ count) × (count ≡ rowCount clauses)
-    × (firstFail (holdsIn state) 0 (clausesOf clauses) ≡ firstFail (holdsIn state) i (drop i (clausesOf clauses)))
+    (count ≡ rowCount clauses) × (firstFail (holdsIn state) 0 (clausesOf clauses) ≡ firstFail (holdsIn state) i (drop i (clausesOf clauses)))
 
 abbrev μ-loop : tie.MeasureT-loop
 μ-loop clauses state count i₀ i = count - i
@@ -37,7 +35,7 @@ words h = now (counted h .before .before .before .args .clauses)
 
 -- in the loop: the clause
 inside : (c : tie.In-loop Inv-loop μ-loop) → c .before .loop .i < rowCount (words (c .before))
-inside c = omega (arith, c .before .loop .inv .1, c .loop-test .taken)
+inside c = omega (arith, c .before .loop .inv .0, c .loop-test .taken)
 
 abbrev within : tie.After-row Inv-loop μ-loop → tie.In-loop Inv-loop μ-loop
 within c = c .before
@@ -46,10 +44,10 @@ rows-requires : tie.Need-rows-requires Inv-loop μ-loop
 rows-requires c κs = search needs
 
 loop-holds : tie.Need-loop-holds Inv-loop μ-loop
-loop-holds c = (omega arith, c .rows .ensures, refl)
+loop-holds c = (c .rows .ensures, refl)
 
 row-requires : tie.Need-row-requires Inv-loop μ-loop
-row-requires c κs = omega (arith, c .before .loop .inv .1)
+row-requires c κs = omega (arith, c .before .loop .inv .0)
 
 holds-requires : tie.Need-holds-requires Inv-loop μ-loop
 holds-requires c κs = search needs
@@ -65,7 +63,7 @@ returns c =
     let this = clause-read w _ _ _ (inside t) (o .before .row .ensures) refl in
     c .refuse-at .ensures
     ∙ false-at _ _
-    (t .before .loop .inv .2
+    (t .before .loop .inv .1
     ∙ first-left (holdsIn _) (clausesOf w) _ [] _ this (omega (arith, clauses-length w, inside t))
     (sym (o .holds .ensures) ∙ not-true _ (c .before .if1 .taken)))
 
@@ -82,9 +80,8 @@ loop-again c =
     let w = words (t .before) in
     let i = t .before .loop .inv in
     let this = clause-read w _ _ _ (inside t) (o .before .row .ensures) refl in (
-      omega arith,
-      i .1,
-      i .2
+      i .0,
+      i .1
           ∙ first-on (holdsIn _) (clausesOf w) _ [] _ this (omega (arith, clauses-length w, inside t))
           (sym (o .holds .ensures) ∙ not-false _ (c .if1 .left)),
     )
@@ -94,7 +91,7 @@ returns-2 c =
     let h = c .before in
     let w = words h in
     let i = h .loop .inv in
-    false-none _ (i .2 ∙ first-end (holdsIn _) (clausesOf w) (h .loop .i) (omega (arith, i .1, clauses-length w, c .loop-test .left)))
+    false-none _ (i .1 ∙ first-end (holdsIn _) (clausesOf w) (h .loop .i) (omega (arith, i .0, clauses-length w, c .loop-test .left)))
 
 pub check-true-spec : {M : Type 1} → statement M
 check-true-spec =
