@@ -191,6 +191,21 @@ fn compare_failing(tally: &mut Tally, failing: &Failing) {
     assert_eq!(target, [FILL; 40], "{failing:?}");
 }
 
+/// Says by kb_kept alone whether these are the lowest places: each clause before
+/// is kept under every operator, this one under every operator before and not
+/// under this one.
+fn are_lowest(failing: &Failing, clause: usize, operator: usize) -> bool {
+    let (image, words) = (&failing.image, &failing.words);
+    let mut marks = vec![0; 2 * usize::from(image[0])];
+    let mut kept = |place: usize, operator: u16| {
+        let row = &words[3 * place..3 * place + 3];
+        exports::kept(image, words, row, operator, &mut marks) == Reply::finding(1, 0)
+    };
+    let all_before = (0..clause).all(|place| (0..image[1]).all(|other| kept(place, other)));
+    let operator = operator as u16;
+    all_before && (0..operator).all(|other| kept(clause, other)) && !kept(clause, operator)
+}
+
 /// Document 02 §2: two or more clauses are false initially.
 #[test]
 fn the_lowest_false_clause() {
@@ -212,8 +227,10 @@ fn the_lowest_clause_and_operator() {
     while !tally.is_full() {
         let failing = Failing::several_not_kept(rng);
         compare_failing(&mut tally, &failing);
-        let (clause, _) = failing.operator_first();
-        clauses_differ += usize::from(clause as u64 != failing.lowest().first);
+        let lowest = failing.lowest();
+        let (clause, operator) = (lowest.first as usize, lowest.second as usize);
+        assert!(are_lowest(&failing, clause, operator), "{failing:?}");
+        clauses_differ += usize::from(failing.operator_first().0 != clause);
     }
     println!("kb_check: {clauses_differ} times the lowest operator names a higher clause");
     assert!(clauses_differ > 2_000);
