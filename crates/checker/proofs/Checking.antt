@@ -5,9 +5,8 @@ use mathlib.Core.Path.{_≡_, refl, sym, _∙_, ap, subst}
 use mathlib.Core.List.{List}
 use Prim.Native.Nat.{ℕ, _+_, _*_, _≤_, _<_}
 use native.Mathlib.Numerals.{add-one}
-use lib.Dec.{leb}
 use lib.ListN.{length, getD, drop, drop-of-length-le}
-use borrow.Author.Tests.{le-leb, lt-leb}
+use borrow.Author.Tests.{lt-leb}
 use Rattle.definitions.specs.Lists.{firstFail}
 use Rattle.definitions.specs.Answer.{Refusal, Answer, finding, refused, refuse, verdict, ask, askAt, _>>=_}
 use Rattle.definitions.specs.Literal.{mostAtoms, holdsIn}
@@ -15,6 +14,7 @@ use Rattle.definitions.specs.Image.{Task, initialState}
 use Rattle.definitions.specs.Checker.{askTrue, askKept, accept, Accepted, check}
 use Rattle.definitions.proofs.Walks.{left-here}
 use Rattle.definitions.proofs.AnswerLaws.{not-finding}
+use Rattle.definitions.proofs.LowestPlaces.{check-read}
 use Rattle.answer.specs.Answer.{refusalAt, verdictAnswer}
 use Rattle.answer.specs.declared.Verdict.{Verdict}
 use Rattle.answer.specs.declared.Verdict.the-variants.{Fine, Refused}
@@ -72,21 +72,22 @@ module _ (w c : List ℕ) (marks : ℕ) where
     input-marks (Refused f) e h = e ∙ check-marks h
 
   module _ (r : Reading w c marks) where
-    room : leb (2 * taskOf w .atoms) marks ≡ true
-    room = le-leb (2 * taskOf w .atoms) marks (r .marked)
+    x : Accepted
+    x = record { task = taskOf w; clauses = clausesOf c }
 
-    pub check-initial : (x : Refusal) → refused x ≡ askTrue (taskOf w) (clausesOf c) → refused x ≡ verdict (check w c marks)
-    unfolding check accept _>>=_ ask askAt verdict
-    check-initial x h = rw (r .task .found, r .clauses .read, room, sym h)
+    asked : check w c marks ≡ (accept (taskOf w) (clausesOf c) >>= λ _. finding x)
+    unfolding x
+    asked = check-read w c marks (taskOf w) (clausesOf c) (record { task = r .task .found; clauses = r .clauses .read }) (r .marked)
+
+    pub check-initial : (q : Refusal) → refused q ≡ askTrue (taskOf w) (clausesOf c) → refused q ≡ verdict (check w c marks)
+    unfolding accept _>>=_ verdict
+    check-initial q h = rw (asked, sym h)
 
     pub check-kept :
         finding tt ≡ askTrue (taskOf w) (clausesOf c) → askKept (taskOf w) (clausesOf c) 0 (clausesOf c) ≡ verdict (check w c marks)
-    unfolding check accept _>>=_ ask askAt verdict
-    check-kept h = rw (r .task .found, r .clauses .read, room, sym h) (go (askKept (taskOf w) (clausesOf c) 0 (clausesOf c)))
+    unfolding accept _>>=_ verdict
+    check-kept h = rw (asked, sym h) (go (askKept (taskOf w) (clausesOf c) 0 (clausesOf c)))
       where
-        x : Accepted
-        x = record { task = taskOf w; clauses = clausesOf c }
-
         go : (a : Answer (Unit {0})) → a ≡ verdict (a >>= λ _. finding x)
         go (finding tt) = refl
         go (refused r) = refl

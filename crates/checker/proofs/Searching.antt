@@ -79,7 +79,9 @@ module _ (t : Task) (C : List (List ℕ)) where
             let nil : getD flags i 0 ≡ 0 = flag-at i h ∙ ap (λ b. bit (not b)) e in
             absurd (omega arith)
 
-    keeps-more : (low′ : ℕ) → low′ ≤ low → low′ ≤ i → (k m : ℕ) → k < low′ → m < j + 1 → kept (t .atoms) C (operatorAt t m) (getD C k []) ≡ true
+    keeps-more :
+        (low′ : ℕ) → low′ ≤ low → low′ ≤ i → (k m : ℕ) → k < low′ → m < j + 1
+        → kept (t .atoms) C (operatorAt t m) (getD C k []) ≡ true
     keeps-more low′ a b k m h l = go (ℕ-discrete m j)
       where
         go : Dec (m ≡ j) → kept (t .atoms) C (operatorAt t m) (getD C k []) ≡ true

@@ -81,7 +81,8 @@ module _ (N : ℕ) (w : List ℕ) (rows : RightRows N w) where
   clauses-up = in-up 0 (rowCount w) (omega arith)
 
   -- whether a clause is there, as the search for its row tells
-  pub sought-clause : (f : List ℕ) (r : Found) → N ≤ mostAtoms → allBelow (2 * N) f ≡ true → Sought w (rowOf f) r → hasClause (clausesOf w) f ≡ isThere r
+  pub sought-clause :
+      (f : List ℕ) (r : Found) → N ≤ mostAtoms → allBelow (2 * N) f ≡ true → Sought w (rowOf f) r → hasClause (clausesOf w) f ≡ isThere r
   unfolding hasClause
   sought-clause f (At i) few low s =
       let e : clauseOf (rowAt w i) ≡ f = ap clauseOf (s .same) ∙ row-back N f few low in

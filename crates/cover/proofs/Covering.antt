@@ -109,7 +109,9 @@ module _ (C : List (List ℕ)) (N : ℕ) (ps : List ℕ) (placed : Placed C N ps
       go (is k a e x y z) = rw (y, x) (ap (λ (j : ℕ). eqb (getD ps j 0) v) e ∙ in-member a (omega arith))
       go (isnt k a e x y z) = rw y
 
-  pub omitted-is : ((f : List ℕ) → List·Memᴰ f C → (l : ℕ) → List·Memᴰ l f → l < 2 * N) → any (liesIn ps v) C ≡ noneOmitted C (getD (groupsBelow C N) v [])
+  pub omitted-is :
+      ((f : List ℕ) → List·Memᴰ f C → (l : ℕ) → List·Memᴰ l f → l < 2 * N)
+      → any (liesIn ps v) C ≡ noneOmitted C (getD (groupsBelow C N) v [])
   unfolding noneOmitted covers liesIn G
   omitted-is lows =
       any-same (liesIn ps v) (covers (getD G v [])) C
@@ -169,7 +171,8 @@ pairs-are p q (suc k) i (a ∷ (b ∷ ws)) e f g =
     let z : i + 0 ≡ i = omega arith in
     let ea : a ≡ p i = f 0 (omega arith) ∙ ap p z in
     let eb : b ≡ q i = g 0 (omega arith) ∙ ap q z in
-    let rest : each (λ a. p a ∷ q a ∷ []) (range (suc i) k) ≡ ws = pairs-are p q k (suc i) ws (omega arith) (λ x h. later-f x h) (λ x h. later-g x h) in
+    let rest : each (λ a. p a ∷ q a ∷ []) (range (suc i) k) ≡ ws =
+    pairs-are p q k (suc i) ws (omega arith) (λ x h. later-f x h) (λ x h. later-g x h) in
     cc
   where
     later-f : (x : ℕ) → x < k → getD ws (2 * x) 0 ≡ p (suc i + x)

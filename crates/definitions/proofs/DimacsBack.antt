@@ -239,7 +239,8 @@ written-read w t C target read right room =
 
 -- ---- both calls
 again :
-    (w c : List ℕ) (t : Task) (C : List (List ℕ)) (target : ℕ) → readTask w ≡ finding t → RightSet (t .atoms) C → clauseWords C ≡ c → length c ≤ target
+    (w c : List ℕ) (t : Task) (C : List (List ℕ)) (target : ℕ) → readTask w ≡ finding t → RightSet (t .atoms) C → clauseWords C ≡ c
+    → length c ≤ target
     → readDimacs w (dimacsText (t .atoms) C) target ≡ finding (record { count = length c / width; words = c })
 again w c t C target read right same room =
     written-read w t C target read right (omega (arith, long))

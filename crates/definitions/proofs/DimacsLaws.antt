@@ -13,7 +13,9 @@ use Rattle.definitions.proofs.DimacsNumbers.{Word}
 -- ---- parts between marks
 module _ {A : Type 0} (mark : A → Bool) where
   -- a part that a mark ends
-  pub split-mark : (p : List A) (x : A) (xs : List A) → all (λ y. not (mark y)) p ≡ true → mark x ≡ true → split mark (p ++ (x ∷ xs)) ≡ p ∷ split mark xs
+  pub split-mark :
+      (p : List A) (x : A) (xs : List A) → all (λ y. not (mark y)) p ≡ true → mark x ≡ true
+      → split mark (p ++ (x ∷ xs)) ≡ p ∷ split mark xs
   unfolding split ontoFirst all
   split-mark [] x xs h e = rw (e, split)
   split-mark (y ∷ p) x xs h e =
@@ -58,7 +60,9 @@ module _ {A : Type 0} (mark : A → Bool) where
   ended-end p h = rw (split-end p h)
 
   -- parts that are written each with its mark
-  pub split-each : {B : Type 0} (f : B → List A) (x : A) (C : List B) → ((c : B) → List·Memᴰ c C → all (λ y. not (mark y)) (f c) ≡ true) → mark x ≡ true
+  pub split-each :
+      {B : Type 0} (f : B → List A) (x : A) (C : List B) → ((c : B) → List·Memᴰ c C → all (λ y. not (mark y)) (f c) ≡ true)
+      → mark x ≡ true
       → ended (split mark (each (λ c. f c ++ (x ∷ [])) C)) ≡ each (λ c. f c ∷ []) C
   unfolding each split ended
   split-each f x [] h e = refl
@@ -67,7 +71,9 @@ module _ {A : Type 0} (mark : A → Bool) where
       (ended-next (f c) x (each (λ c. f c ++ (x ∷ [])) C) (h c (List·Memᴰ·head refl)) e
       ∙ ap (λ z. f c ∷ z) (split-each f x C (λ d m. h d (List·Memᴰ·tail m)) e))
 
-  pub split-each-ends : {B : Type 0} (f : B → List A) (x : A) (C : List B) → ((c : B) → List·Memᴰ c C → all (λ y. not (mark y)) (f c) ≡ true) → mark x ≡ true
+  pub split-each-ends :
+      {B : Type 0} (f : B → List A) (x : A) (C : List B) → ((c : B) → List·Memᴰ c C → all (λ y. not (mark y)) (f c) ≡ true)
+      → mark x ≡ true
       → allEnded (split mark (each (λ c. f c ++ (x ∷ [])) C)) ≡ true
   unfolding each split allEnded empty
   split-each-ends f x [] h e = refl
@@ -77,7 +83,8 @@ module _ {A : Type 0} (mark : A → Bool) where
       ∙ split-each-ends f x C (λ d m. h d (List·Memᴰ·tail m)) e)
 
   -- what holds of every element that is no mark holds in every part
-  pub split-all : (r : A → Bool) (xs : List A) → ((x : A) → List·Memᴰ x xs → mark x ≡ false → r x ≡ true) → all (all r) (split mark xs) ≡ true
+  pub split-all :
+      (r : A → Bool) (xs : List A) → ((x : A) → List·Memᴰ x xs → mark x ≡ false → r x ≡ true) → all (all r) (split mark xs) ≡ true
   unfolding split ontoFirst all
   split-all r [] h = refl
   split-all r (x ∷ xs) h = go (mark x) refl (split-all r xs (λ y m. h y (List·Memᴰ·tail m)))
@@ -122,7 +129,9 @@ tokens-line (more {x = x} {y = y} {xs = xs} w f) rest =
     rw append-assoc (tokens-word x 32 (line (y ∷ xs) ++ rest) w refl ∙ ap (λ z. x ∷ z) (tokens-line f rest))
 
 -- lines say their fields, one behind the other
-pub tokens-lines : {B : Type 0} (f : B → List (List ℕ)) (C : List B) → ((c : B) → List·Memᴰ c C → Fields (f c)) → tokens (each (λ c. line (f c)) C) ≡ each f C
+pub tokens-lines :
+    {B : Type 0} (f : B → List (List ℕ)) (C : List B) → ((c : B) → List·Memᴰ c C → Fields (f c))
+    → tokens (each (λ c. line (f c)) C) ≡ each f C
 unfolding each tokens split keep empty
 tokens-lines f [] h = refl
 tokens-lines f (c ∷ C) h =

@@ -54,7 +54,8 @@ literals-low N (p ∷ ps) h =
         and-both (and-left (ltb (literalOf x) (2 * N)) (all (λ x. ltb (literalOf x) (2 * N)) p) k)
         (one p (and-right (ltb (literalOf x) (2 * N)) (all (λ x. ltb (literalOf x) (2 * N)) p) k))
 
-says-low : (N : ℕ) (ns : List Number) → saysClauses N ns ≡ true → all (allBelow (2 * N)) (map (map literalOf) (ended (split isZero (drop 2 ns)))) ≡ true
+says-low :
+    (N : ℕ) (ns : List Number) → saysClauses N ns ≡ true → all (allBelow (2 * N)) (map (map literalOf) (ended (split isZero (drop 2 ns)))) ≡ true
 unfolding saysClauses
 says-low N [] h = absurd (false≢true h)
 says-low N (n ∷ []) h = absurd (false≢true h)
@@ -74,7 +75,8 @@ clauses-low N text h = says-low N (numbersIn text) (and-right (headed text && al
 
 -- what they make is right
 sort-good :
-    (N : ℕ) (D : List (List ℕ)) → all (allBelow (2 * N)) D ≡ true → all fitsRow D ≡ true → (f : List ℕ) → Origin sorted f D → GoodClause N width f
+    (N : ℕ) (D : List (List ℕ)) → all (allBelow (2 * N)) D ≡ true → all fitsRow D ≡ true → (f : List ℕ) → Origin sorted f D
+    → GoodClause N width f
 sort-good N D low fit f o =
     subst (λ (z : List ℕ). GoodClause N width z) (sym (o .same))
     (good-sorted N (o .it) (all-at fitsRow fit (o .mem)) (all-at (allBelow (2 * N)) low (o .mem)))
@@ -104,7 +106,8 @@ pub distinct-in :
     {f : List ℕ} (N : ℕ) (D : List (List ℕ)) → N ≤ mostAtoms → all (allBelow (2 * N)) D ≡ true → all fitsRow D ≡ true
     → List·Memᴰ f (map sorted D) → List·Memᴰ f (distinct D)
 unfolding distinct
-distinct-in N D few low fit m = all-in N (map sorted D) [] _ few (λ f k. sort-good N D low fit f (map-of sorted D k)) (λ f k. absurd (List·Memᴰ·not-nil k)) m
+distinct-in N D few low fit m =
+    all-in N (map sorted D) [] _ few (λ f k. sort-good N D low fit f (map-of sorted D k)) (λ f k. absurd (List·Memᴰ·not-nil k)) m
 
 -- what reading found: the distinct clauses of the text, and their words pass questions 8 and 9
 pub record TextFound (w text : List ℕ) (target : ℕ) (x : Written) : Type 0 where
@@ -118,7 +121,8 @@ pub record TextFound (w text : List ℕ) (target : ℕ) (x : Written) : Type 0 w
   pub passes : readClauses (task .atoms) (x .words) ≡ finding (distinct (clausesIn text))
 
 found :
-    (w text : List ℕ) (target : ℕ) (x : Written) (t : Task) → readTask w ≡ finding t → isDimacs (t .atoms) text ≡ true → all fitsRow (clausesIn text) ≡ true
+    (w text : List ℕ) (target : ℕ) (x : Written) (t : Task) → readTask w ≡ finding t → isDimacs (t .atoms) text ≡ true
+    → all fitsRow (clausesIn text) ≡ true
     → (leb (length (distinct (clausesIn text))) mostRows && leb (width * length (distinct (clausesIn text))) target) ≡ true
     → record { count = length (distinct (clausesIn text)); words = clauseWords (distinct (clausesIn text)) } ≡ x → TextFound w text target x
 found w text target x t read form fit enough is =

@@ -209,11 +209,18 @@ names-11 w c i j e =
     let a = at-kept (g .task) (g .clauses) (refusal 11 i j) (g .refuses) refl in
     record { task = g .task; clauses = g .clauses; read = g .read; all-true = a .0; lowest = a .1 }
 
+-- the checker's answer, of a task and clauses that are read
+pub check-read :
+    (w c : List ℕ) (marks : ℕ) (t : Task) (C : List (List ℕ)) → ReadAs w c t C → 2 * t .atoms ≤ marks
+    → check w c marks ≡ (accept t C >>= λ _. finding (record { task = t; clauses = C }))
+unfolding check ask askAt _>>=_
+check-read w c marks t C read room = rw (read .task, read .clauses, le-leb (2 * t .atoms) marks room)
+
 -- what `accept` refuses with is what the calls refuse with
 module _ (w c : List ℕ) (marks : ℕ) (t : Task) (C : List (List ℕ)) (read : ReadAs w c t C) (room : 2 * t .atoms ≤ marks) (q i j : ℕ) where
   check-refuses : accept t C ≡ refuse q i j → check w c marks ≡ refuse q i j
-  unfolding check ask askAt refuse _>>=_
-  check-refuses e = rw (read .task, read .clauses, le-leb (2 * t .atoms) marks room, e)
+  unfolding refuse _>>=_
+  check-refuses e = rw (check-read w c marks t C read room, e)
 
   all-refuse : accept t C ≡ refuse q i j → AllRefuse w c marks q i j
   unfolding groupsCall encodeCall refuse _>>=_

@@ -39,7 +39,8 @@ standing w s yes-18 =
 
 -- the initial values fit a state of the length of the domains
 pub initial-fits :
-    (w : List ℕ) → ReadsFdr w → (s xs : List ℕ) (n : ℕ) → n ≡ length (fdrOf w .domains) → length s ≡ n → xs ≡ fdrOf w .initial → length xs ≡ length s
+    (w : List ℕ) → ReadsFdr w → (s xs : List ℕ) (n : ℕ) → n ≡ length (fdrOf w .domains) → length s ≡ n → xs ≡ fdrOf w .initial
+    → length xs ≡ length s
 initial-fits w rd s xs n en es ex =
     ap length ex ∙ values-length (fdrOf w .domains) (fdrOf w .initial) (initial-right w rd) ∙ sym en ∙ sym es
 
@@ -137,7 +138,8 @@ module _ (s : List ℕ) (rs : List FdrRow) (rows : Rows mostAtoms rs) where
       go (some m) p e = conflict-clears s rs rows m p e
 
   fired-both :
-      (m′ : List ℕ) → noteFired s rs noChanges ≡ some m′ → (m : List ℕ) × (noteRows s 0 rs noChanges ≡ some m) × (noteRows s 1 rs m ≡ some m′)
+      (m′ : List ℕ) → noteFired s rs noChanges ≡ some m′
+      → (m : List ℕ) × (noteRows s 0 rs noChanges ≡ some m) × (noteRows s 1 rs m ≡ some m′)
   unfolding noteFired noteClears
   fired-both m′ e = go (noteRows s 0 rs noChanges) refl e
     where
@@ -149,12 +151,15 @@ module _ (s : List ℕ) (rs : List FdrRow) (rows : Rows mostAtoms rs) where
 
 -- both passes, the sets and then the clears
 pub noted-both :
-    (s : List ℕ) (rs : List FdrRow) (m₀ m m′ : List ℕ) (f g : Bool) → noted f m ≡ noteRows s 0 rs m₀ → f ≡ true → noted g m′ ≡ noteRows s 1 rs m
+    (s : List ℕ) (rs : List FdrRow) (m₀ m m′ : List ℕ) (f g : Bool) → noted f m ≡ noteRows s 0 rs m₀ → f ≡ true
+    → noted g m′ ≡ noteRows s 1 rs m
     → noted g m′ ≡ noteFired s rs m₀
 unfolding noteFired noteClears
 noted-both s rs m₀ m m′ f g e h e′ = e′ ∙ sym (ap (noteClears s rs) (noted-some f m (noteRows s 0 rs m₀) e h))
 
-pub noted-first : (s : List ℕ) (rs : List FdrRow) (m₀ m : List ℕ) (f : Bool) → noted f m ≡ noteRows s 0 rs m₀ → f ≡ false → noted false m ≡ noteFired s rs m₀
+pub noted-first :
+    (s : List ℕ) (rs : List FdrRow) (m₀ m : List ℕ) (f : Bool) → noted f m ≡ noteRows s 0 rs m₀ → f ≡ false
+    → noted false m ≡ noteFired s rs m₀
 unfolding noteFired noteClears noted
 noted-first s rs m₀ m f e h = sym (ap (noteClears s rs) (noted-none f m (noteRows s 0 rs m₀) e h))
 
@@ -179,7 +184,9 @@ module _ (w b s m₀ : List ℕ) (a : Applying w b s m₀) where
   rows = fired-low (fdrOf w .domains) (operatorIn b) few (a .right) s
 
   -- all is noted, and cleared afterwards
-  pub notes-cleared : (m m′ : List ℕ) → length m ≡ length m₀ → NotedFor (operatorIn b .rows) m₀ m → m′ ≡ unnoted (operatorIn b .rows) m → m′ ≡ m₀
+  pub notes-cleared :
+      (m m′ : List ℕ) → length m ≡ length m₀ → NotedFor (operatorIn b .rows) m₀ m → m′ ≡ unnoted (operatorIn b .rows) m
+      → m′ ≡ m₀
   notes-cleared m m′ el nf e = notes-gone (operatorIn b .rows) m₀ m m′ (a .blank) el nf e
 
   module _ (m : List ℕ) (f : Bool) (e : noted f m ≡ noteFired s fired m₀) where
@@ -225,7 +232,9 @@ module _ (w b s m₀ : List ℕ) (a : Applying w b s m₀) where
           pub nones-refused : r ≡ false → outcome (refused (refusalAt 22 0 0)) s ≡ becomes s (applied (fdrOf w) s fired)
           nones-refused h = applied-22 (fdrOf w) s fired no-conflict (sym nones ∙ h)
 
-          pub rows-done : r ≡ true → (s′ : List ℕ) → s′ ≡ written D m (operatorIn b .rows) s → outcome (finding tt) s′ ≡ becomes s (applied (fdrOf w) s fired)
+          pub rows-done :
+              r ≡ true → (s′ : List ℕ) → s′ ≡ written D m (operatorIn b .rows) s
+              → outcome (finding tt) s′ ≡ becomes s (applied (fdrOf w) s fired)
           rows-done h s′ es =
               applied-done (fdrOf w) s fired no-conflict (sym nones ∙ h) s′
               (es ∙ written-is D m (operatorIn b .rows) nf s ∙ ap (λ (x : List Domain). changed x m 0 s) eD

@@ -66,7 +66,9 @@ module _ (v x : ℕ) (m : List ℕ) (inside : v < length m) where
   unfolding noteSet
   set-refused e = go (eqb (getD m v 0) 0) refl (eqb (getD m v 0) (x + 2)) refl
     where
-      go : (a : Bool) → eqb (getD m v 0) 0 ≡ a → (b : Bool) → eqb (getD m v 0) (x + 2) ≡ b → (getD m v 0 ≡ 0 → ⊥) × (getD m v 0 ≡ x + 2 → ⊥)
+      go :
+          (a : Bool) → eqb (getD m v 0) 0 ≡ a → (b : Bool) → eqb (getD m v 0) (x + 2) ≡ b
+          → (getD m v 0 ≡ 0 → ⊥) × (getD m v 0 ≡ x + 2 → ⊥)
       go true p b q = some-none (rw (p, noteSet) at e)
       go false p true q = noted-not m (rw (p, q, noteSet) at e)
       go false p false q = (eqb-false (getD m v 0) 0 p, eqb-false (getD m v 0) (x + 2) q)
@@ -163,7 +165,8 @@ module _ (r : FdrRow) (rs : List FdrRow) (m m′ : List ℕ) where
           go : (b : Bool) → eqb w (r .variable) ≡ b → getD m₁ w 0 ≡ getD m w 0
           go true e =
               let z = eqb-true w (r .variable) e in
-              ap (λ (k : ℕ). getD m₁ k 0) z ∙ here ∙ sym (ap (λ (k : ℕ). getD m k 0) z ∙ one .fits (λ q. f (ap (λ (k : ℕ). getD m k 0) z ∙ q)))
+              ap (λ (k : ℕ). getD m₁ k 0) z ∙ here
+              ∙ sym (ap (λ (k : ℕ). getD m k 0) z ∙ one .fits (λ q. f (ap (λ (k : ℕ). getD m k 0) z ∙ q)))
           go false e = apart w (eqb-false w (r .variable) e)
 
       given : (q : FdrRow) → isSet q ≡ true → (q ≡ r) ⊎ List·Memᴰ q rs → getD m′ (q .variable) 0 ≡ q .value + 2
@@ -270,7 +273,9 @@ module _ (s : List ℕ) (n : ℕ) where
             other = λ z. l .other (there ∙ z);
           })
 
-      more : (m₁ : List ℕ) → isSet r ≡ true → SetNoted (r .variable) (r .value) m m₁ → Late rs m₁ ⊎ Clash rs → Late (r ∷ rs) m ⊎ Clash (r ∷ rs)
+      more :
+          (m₁ : List ℕ) → isSet r ≡ true → SetNoted (r .variable) (r .value) m m₁ → Late rs m₁ ⊎ Clash rs
+          → Late (r ∷ rs) m ⊎ Clash (r ∷ rs)
       more m₁ h one (inl l) = late m₁ h one l (eqb (l .r .variable) (r .variable)) refl
       more m₁ h one (inr c) = inr (later-clash c)
 
@@ -280,7 +285,8 @@ module _ (s : List ℕ) (n : ℕ) where
 
       go :
           (b : Bool) → isSet r ≡ b → (o : Option (List ℕ)) → noteRow s 0 r m ≡ o
-          → ((m₁ : List ℕ) → length m₁ ≡ n → noteRows s 0 rs m₁ ≡ none → Late rs m₁ ⊎ Clash rs) → Late (r ∷ rs) m ⊎ Clash (r ∷ rs)
+          → ((m₁ : List ℕ) → length m₁ ≡ n → noteRows s 0 rs m₁ ≡ none → Late rs m₁ ⊎ Clash rs)
+          → Late (r ∷ rs) m ⊎ Clash (r ∷ rs)
       go true h none f rec =
           let bad = set-refused (r .variable) (r .value) m inside (sym (row-set s r m h) ∙ f) in
           inl (record { r = r; r-in = List·Memᴰ·head refl; set = h; noted-before = bad .0; other = bad .1 })
@@ -304,7 +310,8 @@ flip a b = same-bool (eqb a b) (eqb b a) (λ h. eq-eqb b a (sym (eqb-true a b h)
 
 -- a clear of the present value, or not
 cleared-first :
-    (r : FdrRow) (rs : List FdrRow) (w y : ℕ) → isSet r ≡ false → cleared (r ∷ rs) w y ≡ ((eqb w (r .variable) && eqb y (r .value)) || cleared rs w y)
+    (r : FdrRow) (rs : List FdrRow) (w y : ℕ) → isSet r ≡ false
+    → cleared (r ∷ rs) w y ≡ ((eqb w (r .variable) && eqb y (r .value)) || cleared rs w y)
 unfolding cleared any
 cleared-first r rs w y h = rw (h, flip (r .variable) w, flip (r .value) y)
 
@@ -313,7 +320,8 @@ unfolding cleared any
 cleared-later r rs w y h = rw h
 
 module _ (s : List ℕ) (r : FdrRow) (rs : List FdrRow) (m m′ : List ℕ) where
-  clears-more : (m₁ : List ℕ) → isSet r ≡ false → ClearNoted s (r .variable) (r .value) m m₁ → Clears s rs m₁ m′ → Clears s (r ∷ rs) m m′
+  clears-more :
+      (m₁ : List ℕ) → isSet r ≡ false → ClearNoted s (r .variable) (r .value) m m₁ → Clears s rs m₁ m′ → Clears s (r ∷ rs) m m′
   clears-more m₁ clear one more =
       record {
         size = more .size ∙ one .size;
@@ -381,7 +389,8 @@ module _ (s : List ℕ) (n : ℕ) where
           clears-more s r rs m m′ m₁ h one (rec m₁ (one .size ∙ size) (rw (f, noteRows) at e))
       go true h (some m₁) f rec =
           let same : m ≡ m₁ = same-some (sym (row-not-clear s r m h) ∙ f) in
-          clears-same s r rs m m′ h (subst (λ (l : List ℕ). Clears s rs l m′) (sym same) (rec m₁ (ap length (sym same) ∙ size) (rw (f, noteRows) at e)))
+          clears-same s r rs m m′ h
+          (subst (λ (l : List ℕ). Clears s rs l m′) (sym same) (rec m₁ (ap length (sym same) ∙ size) (rw (f, noteRows) at e)))
 
   pub clears-none : (rs : List FdrRow) (m : List ℕ) → Rows n rs → length m ≡ n → noteRows s 1 rs m ≡ none → Refused rs m
   unfolding noteRows
@@ -394,7 +403,9 @@ module _ (s : List ℕ) (n : ℕ) where
       inside : r .variable < length m
       inside = let z = first .0 in omega arith
 
-      later : (m₁ : List ℕ) → ((w : ℕ) → (getD m₁ w 0 ≡ 0 → ⊥) → (getD m₁ w 0 ≡ 1 → ⊥) → getD m₁ w 0 ≡ getD m w 0) → Refused rs m₁ → Refused (r ∷ rs) m
+      later :
+          (m₁ : List ℕ) → ((w : ℕ) → (getD m₁ w 0 ≡ 0 → ⊥) → (getD m₁ w 0 ≡ 1 → ⊥) → getD m₁ w 0 ≡ getD m w 0)
+          → Refused rs m₁ → Refused (r ∷ rs) m
       later m₁ back x =
           record {
             r = x .r;
@@ -404,7 +415,9 @@ module _ (s : List ℕ) (n : ℕ) where
           }
 
       -- what is noted beyond 1 was there before
-      back : (m₁ : List ℕ) → ClearNoted s (r .variable) (r .value) m m₁ → (w : ℕ) → (getD m₁ w 0 ≡ 0 → ⊥) → (getD m₁ w 0 ≡ 1 → ⊥) → getD m₁ w 0 ≡ getD m w 0
+      back :
+          (m₁ : List ℕ) → ClearNoted s (r .variable) (r .value) m m₁ → (w : ℕ) → (getD m₁ w 0 ≡ 0 → ⊥)
+          → (getD m₁ w 0 ≡ 1 → ⊥) → getD m₁ w 0 ≡ getD m w 0
       back m₁ one w f g = at (eqb w (r .variable) && (eqb (getD m w 0) 0 && eqb (getD s w 0) (r .value))) refl
         where
           at : (b : Bool) → (eqb w (r .variable) && (eqb (getD m w 0) 0 && eqb (getD s w 0) (r .value))) ≡ b → getD m₁ w 0 ≡ getD m w 0
@@ -415,8 +428,12 @@ module _ (s : List ℕ) (n : ℕ) where
           (b : Bool) → isSet r ≡ b → (o : Option (List ℕ)) → noteRow s 1 r m ≡ o
           → ((m₁ : List ℕ) → length m₁ ≡ n → noteRows s 1 rs m₁ ≡ none → Refused rs m₁) → Refused (r ∷ rs) m
       go false h none f rec =
-          record
-          { r = r; r-in = List·Memᴰ·head refl; clear = h; set = clear-refused s (r .variable) (r .value) m inside (sym (row-clear s r m h (first .1)) ∙ f) }
+          record {
+            r = r;
+            r-in = List·Memᴰ·head refl;
+            clear = h;
+            set = clear-refused s (r .variable) (r .value) m inside (sym (row-clear s r m h (first .1)) ∙ f);
+          }
       go true h none f rec = some-none (sym (row-not-clear s r m h) ∙ f)
       go false h (some m₁) f rec =
           let one = clear-noted s (r .variable) (r .value) m inside m₁ (sym (row-clear s r m h (first .1)) ∙ f) in

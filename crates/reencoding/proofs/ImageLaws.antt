@@ -84,7 +84,8 @@ module _ (N : ℕ) (C : List (List ℕ)) (ps : List ℕ) (placed : Placed C N ps
   rows-are : (rs : List Row) → all (rowRight N) rs ≡ true → each fdrRowWords (map (encodeRow G) rs) ≡ rowsBy ps rs
   unfolding all each rowsBy
   rows-are [] h = refl
-  rows-are (r ∷ rs) h = ap₂ _++_ (row-is r (and-left (rowRight N r) (all (rowRight N) rs) h)) (rows-are rs (and-right (rowRight N r) (all (rowRight N) rs) h))
+  rows-are (r ∷ rs) h =
+      ap₂ _++_ (row-is r (and-left (rowRight N r) (all (rowRight N) rs) h)) (rows-are rs (and-right (rowRight N r) (all (rowRight N) rs) h))
 
   operator-is : (o : Operator) → operatorRight N o ≡ true → fdrOperatorWords (encodeOperator G o) ≡ operatorBy ps o
   unfolding fdrOperatorWords encodeOperator operatorBy operatorRight
@@ -126,7 +127,9 @@ operators-length ps (o ∷ os) =
     let c = operators-length ps os in
     omega arith
 
-cons-five : (a b c d a′ b′ c′ d′ : ℕ) (l l′ : List ℕ) → a ≡ a′ → b ≡ b′ → c ≡ c′ → d ≡ d′ → l ≡ l′ → (a ∷ b ∷ c ∷ d ∷ l) ≡ (a′ ∷ b′ ∷ c′ ∷ d′ ∷ l′)
+cons-five :
+    (a b c d a′ b′ c′ d′ : ℕ) (l l′ : List ℕ) → a ≡ a′ → b ≡ b′ → c ≡ c′ → d ≡ d′ → l ≡ l′
+    → (a ∷ b ∷ c ∷ d ∷ l) ≡ (a′ ∷ b′ ∷ c′ ∷ d′ ∷ l′)
 cons-five a b c d a′ b′ c′ d′ l l′ p q r s t = cc
 
 append-five :
@@ -271,7 +274,8 @@ module _ (w c : List ℕ) (marks : ℕ) (old : List ℕ) where
   unfolding encodeCall
   encode-refused r e = call-refused w c marks _ old r e
 
-  pub encode-accepted : Accepts w c marks → written old (encodeAnswer (taskOf w) (clausesOf c) (length old)) ≡ written old (encodeCall w c marks (length old))
+  pub encode-accepted :
+      Accepts w c marks → written old (encodeAnswer (taskOf w) (clausesOf c) (length old)) ≡ written old (encodeCall w c marks (length old))
   unfolding encodeCall encodeAnswer
   encode-accepted a = call-accepted w c marks (λ (x : Accepted). encodeAnswer (x .task) (x .clauses) (length old)) old a
 

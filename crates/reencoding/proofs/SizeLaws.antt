@@ -38,7 +38,8 @@ rows-exact (suc k) (x ∷ []) rs e = none-some e
 rows-exact (suc k) (x ∷ (c ∷ xs)) rs e = first (leb c (length xs)) refl (λ rs h. rows-exact k (drop c xs) rs h)
   where
     first :
-        (b : Bool) → leb c (length xs) ≡ b → ((rs : List Row) → rowsOf k (drop c xs) ≡ some rs → (length rs ≡ k) × (rowsSize rs ≡ length (drop c xs)))
+        (b : Bool) → leb c (length xs) ≡ b
+        → ((rs : List Row) → rowsOf k (drop c xs) ≡ some rs → (length rs ≡ k) × (rowsSize rs ≡ length (drop c xs)))
         → (length rs ≡ suc k) × (rowsSize rs ≡ suc (suc (length xs)))
     first false h rec = none-some (rw (h, rowsOf) at e)
     first true h rec = second (rowsOf k (drop c xs)) refl
@@ -82,7 +83,8 @@ module _ (b : List ℕ) (o : Operator) (end k : ℕ) (read : BlockRead b o end k
   pub precondition-few : length (take (end - 1) (drop 1 b)) ≤ length b
   precondition-few = let a = length-take (end - 1) (drop 1 b) in let c = length-drop 1 b in omega arith
 
-  pub operator-words : (places : List ℕ) → operatorBy places o ≡ countedBy places (take (end - 1) (drop 1 b)) ++ (k ∷ rowsBy places (rowsAt b (end + 1) k))
+  pub operator-words :
+      (places : List ℕ) → operatorBy places o ≡ countedBy places (take (end - 1) (drop 1 b)) ++ (k ∷ rowsBy places (rowsAt b (end + 1) k))
   unfolding operatorBy
   operator-words places = rw (read .precondition, ← read .rows, rows-counted b (end + 1) k (read .parses))
 

@@ -92,7 +92,8 @@ module _ (t : Task) (n rows r : ℕ) (C : List (List ℕ)) where
     unfolding rounds refuse next
     rounds-full k k′ e h = rw (e, fails, rounds, h)
 
-    pub rounds-next : (k k′ : ℕ) → k ≡ suc k′ → fits rows (next t n C) ≡ true → rounds t n rows r k C ≡ rounds t n rows (r + 1) k′ (next t n C)
+    pub rounds-next :
+        (k k′ : ℕ) → k ≡ suc k′ → fits rows (next t n C) ≡ true → rounds t n rows r k C ≡ rounds t n rows (r + 1) k′ (next t n C)
     unfolding rounds next
     rounds-next k k′ e h = rw (e, add-one, fails, rounds, h)
 
