@@ -1,7 +1,7 @@
 -- The groups of all atoms: what the walks leave, in the definitions' words. Assumes nothing.
-use mathlib.Core.Bool.{Bool, true, false, _&&_, _||_, cond}
+use mathlib.Core.Bool.{Bool, true, false, _&&_, cond}
 use mathlib.Core.Path.{_≡_, refl, sym, _∙_, ap, ap₂}
-use mathlib.Core.List.{List, [], _∷_, _++_, List·Memᴰ, List·Memᴰ·head, List·Memᴰ·tail}
+use mathlib.Core.List.{List, [], _∷_, _++_, List·Memᴰ}
 use Prim.Native.Nat.{ℕ, zero, suc, _+_, _*_, _/_, _%_, _≤_, _<_}
 use native.Mathlib.Decide.{decLt, ℕ-discrete}
 use native.Mathlib.Omega.{arith}
@@ -15,7 +15,7 @@ use Rattle.definitions.specs.Clauses.{clauseOf, rowAt}
 use Rattle.definitions.specs.Groups.{groupsBelow, groups, covers, noneOmitted, domainOf, domainWords, placeOf, placeWords, groupWords}
 use Rattle.definitions.proofs.LiteralLaws.{Shape, is, isnt, shape, list-low}
 use Rattle.definitions.proofs.EncodeLaws.{same-bool}
-use Rattle.definitions.proofs.ListLaws.{member-in, member-of}
+use Rattle.definitions.proofs.ListLaws.{any-agree, all-agree, member-in, member-of}
 use Rattle.definitions.proofs.GroupLaws.{in-mem, mem-in}
 use Rattle.definitions.proofs.PlaceLaws as places
 use Rattle.clause.specs.Rows.{clausesOf, ClausesRead, RightRows}
@@ -77,18 +77,6 @@ module _ (C : List (List ℕ)) (N : ℕ) (ps ss : List ℕ) (n : ℕ) (grouped :
           let f : getD ps (2 * (i / 2) + 1) 0 ≡ getD ps i 0 = ap (λ (k : ℕ). getD ps k 0) e in
           omega arith
 
--- ---- tests that agree on the elements
-module _ {A : Type 0} (p q : A → Bool) where
-  pub all-same : (xs : List A) → ((x : A) → List·Memᴰ x xs → p x ≡ q x) → all p xs ≡ all q xs
-  unfolding all
-  all-same [] h = refl
-  all-same (x ∷ xs) h = ap₂ _&&_ (h x (List·Memᴰ·head refl)) (all-same xs (λ y m. h y (List·Memᴰ·tail m)))
-
-  pub any-same : (xs : List A) → ((x : A) → List·Memᴰ x xs → p x ≡ q x) → any p xs ≡ any q xs
-  unfolding any
-  any-same [] h = refl
-  any-same (x ∷ xs) h = ap₂ _||_ (h x (List·Memᴰ·head refl)) (any-same xs (λ y m. h y (List·Memᴰ·tail m)))
-
 -- ---- omitted none
 module _ (C : List (List ℕ)) (N : ℕ) (ps : List ℕ) (placed : Placed C N ps) (v : ℕ) where
   G : List (List ℕ)
@@ -114,8 +102,8 @@ module _ (C : List (List ℕ)) (N : ℕ) (ps : List ℕ) (placed : Placed C N ps
       → any (liesIn ps v) C ≡ noneOmitted C (getD (groupsBelow C N) v [])
   unfolding noneOmitted covers liesIn G
   omitted-is lows =
-      any-same (liesIn ps v) (covers (getD G v [])) C
-      (λ f mf. all-same (inGroup ps v) (λ l. positive l && member (atom l) (getD G v [])) f (λ l ml. literal-in l (lows f mf l ml)))
+      any-agree (liesIn ps v) (covers (getD G v [])) C
+      (λ f mf. all-agree (inGroup ps v) (λ l. positive l && member (atom l) (getD G v [])) f (λ l ml. literal-in l (lows f mf l ml)))
 
 one-low : (n v : ℕ) → getD (replicate n 1) v 0 ≤ 1
 one-low zero v = omega arith

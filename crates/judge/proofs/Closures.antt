@@ -15,6 +15,12 @@ use Rattle.judge.specs.Judging.{canFire}
 use Rattle.judge.specs.Promise.{ConsistentClosure}
 use Rattle.judge.proofs.Firing.{closure-held, held-fires}
 
+-- the literals of clauses that are read
+pub within-rows :
+    {atoms : ℕ} {ws : List ℕ} → ClausesRead atoms ws → (f : List ℕ) → List·Memᴰ f (clausesOf ws) → (l : ℕ)
+    → List·Memᴰ l f → l < 2 * atoms
+within-rows {atoms} {ws} read = clause-below atoms ws (read-right atoms ws read)
+
 module _ (atoms : ℕ) (ws ls ms : List ℕ) where
   pub closure-consistent : ConsistentClosure atoms ws ls ms → ConsistentMarks atoms ms
   closure-consistent c = consistent-by atoms ms (closure atoms (clausesOf ws) ls) (c .marked) (c .consistent)
@@ -27,7 +33,9 @@ module _ (atoms : ℕ) (ws ls ms : List ℕ) where
 
   -- the same marks
   pub closure-copied :
-      (ms′ : List ℕ) → ConsistentClosure atoms ws ls ms → ((S : List ℕ) → Marked atoms ms S → Marked atoms ms′ S) → ConsistentClosure atoms ws ls ms′
+      (ms′ :
+          List ℕ) → ConsistentClosure atoms ws ls ms → ((S : List ℕ) → Marked atoms ms S
+          → Marked atoms ms′ S) → ConsistentClosure atoms ws ls ms′
   closure-copied ms′ c copied = record { consistent = c .consistent; marked = copied (closure atoms (clausesOf ws) ls) (c .marked) }
 
   -- an equal list
@@ -36,26 +44,26 @@ module _ (atoms : ℕ) (ws ls ms : List ℕ) where
 
   -- literals that lie in the closure
   module _ (read : ClausesRead atoms ws) (cs : List ℕ) (held : allIn (closure atoms (clausesOf ws) ls) cs ≡ true) where
-    within : (f : List ℕ) → List·Memᴰ f (clausesOf ws) → (l : ℕ) → List·Memᴰ l f → l < 2 * atoms
-    within = clause-below atoms ws (read-right atoms ws read)
-
     pub closure-with : ConsistentClosure atoms ws ls ms → ConsistentClosure atoms ws (ls ++ cs) ms
     closure-with c =
-        let e = sym (closure-held atoms (clausesOf ws) within ls cs held) in
+        let e = sym (closure-held atoms (clausesOf ws) (within-rows read) ls cs held) in
         record {
           consistent = subst (λ (K : List ℕ). contradictory atoms K ≡ false) e (c .consistent);
           marked = subst (λ (K : List ℕ). Marked atoms ms K) e (c .marked);
         }
 
     pub closure-fires : ConsistentClosure atoms ws ls ms → true ≡ canFire atoms (clausesOf ws) ls cs
-    closure-fires c = held-fires atoms (clausesOf ws) within ls cs held (c .consistent)
+    closure-fires c = held-fires atoms (clausesOf ws) (within-rows read) ls cs held (c .consistent)
 
 pub contradictory-start :
-    (N : ℕ) (C : List (List ℕ)) (ls ls′ : List ℕ) → ls ≡ ls′ → contradictory N (closure N C ls) ≡ true → contradictory N (closure N C ls′) ≡ true
+    (N : ℕ) (C : List (List ℕ)) (ls ls′ : List ℕ) → ls ≡ ls′ → contradictory N (closure N C ls) ≡ true
+    → contradictory N (closure N C ls′) ≡ true
 contradictory-start N C ls ls′ e h = subst (λ (x : List ℕ). contradictory N (closure N C x) ≡ true) e h
 
 pub consistent-copied :
-    (atoms : ℕ) (ms ms′ : List ℕ) → ConsistentMarks atoms ms → ((S : List ℕ) → Marked atoms ms S → Marked atoms ms′ S) → ConsistentMarks atoms ms′
+    (atoms :
+        ℕ) (ms ms′ : List ℕ) → ConsistentMarks atoms ms → ((S : List ℕ) → Marked atoms ms S
+        → Marked atoms ms′ S) → ConsistentMarks atoms ms′
 consistent-copied atoms ms ms′ c copied = consistent-by atoms ms′ (c .set) (copied (c .set) (c .marked)) (c .consistent)
 
 pub consistent-room : (atoms : ℕ) (ms : List ℕ) → ConsistentMarks atoms ms → 2 * atoms ≤ length ms

@@ -13,18 +13,23 @@ use Rattle.definitions.specs.Image.{Row, Operator}
 use Rattle.definitions.specs.Closure.{has, bit, closure, contradictory}
 use Rattle.definitions.specs.Kept.{kept}
 use Rattle.definitions.proofs.ListLaws.{table-at, table-length}
-use Rattle.judge.specs.Judging.{flagsOf, flagMore, isOther, lacksOther, violates, someViolates, failFlags}
+use Rattle.judge.specs.Judging.{flagsOf, flagMore, lacksFlag, violates, someViolates, failFlags}
 use Rattle.judge.proofs.Violations.{kept-contradictory, kept-rows}
 
 -- two tests that agree on the clauses give the same flags
-pub flag-agree : (t u : List ℕ → Bool) (D : List (List ℕ)) (s : List ℕ) → ((f : List ℕ) → List·Memᴰ f D → t f ≡ u f) → flagMore t D s ≡ flagMore u D s
+pub flag-agree :
+    (t u : List ℕ → Bool) (D : List (List ℕ)) (s : List ℕ) → ((f : List ℕ) → List·Memᴰ f D → t f ≡ u f)
+    → flagMore t D s ≡ flagMore u D s
 unfolding flagMore
 flag-agree t u [] s h = refl
 flag-agree t u (f ∷ D) [] h = refl
-flag-agree t u (f ∷ D) (x ∷ s) h = ap₂ (λ b r. cond b 1 x ∷ r) (h f (List·Memᴰ·head refl)) (flag-agree t u D s (λ g m. h g (List·Memᴰ·tail m)))
+flag-agree t u (f ∷ D) (x ∷ s) h =
+    ap₂ (λ b r. cond b 1 x ∷ r) (h f (List·Memᴰ·head refl)) (flag-agree t u D s (λ g m. h g (List·Memᴰ·tail m)))
 
 -- a test that no clause passes gives none
-pub flag-none : (t : List ℕ → Bool) (D : List (List ℕ)) (s : List ℕ) → ((f : List ℕ) → List·Memᴰ f D → t f ≡ false) → flagMore t D s ≡ s
+pub flag-none :
+    (t : List ℕ → Bool) (D : List (List ℕ)) (s : List ℕ) → ((f : List ℕ) → List·Memᴰ f D → t f ≡ false)
+    → flagMore t D s ≡ s
 unfolding flagMore
 flag-none t [] s h = refl
 flag-none t (f ∷ D) [] h = refl
@@ -54,7 +59,9 @@ flag-length t (f ∷ D) [] = refl
 flag-length t (f ∷ D) (x ∷ s) = ap suc (flag-length t D s)
 
 -- ---- in place: what is left at clause i
-module _ (t : List ℕ → Bool) (D : List (List ℕ)) (s : List ℕ) (i : ℕ) (f : List ℕ) (at : f ≡ getD D i []) (more : i < length D) (room : i < length s) where
+module _
+    (t : List ℕ → Bool) (D : List (List ℕ)) (s : List ℕ) (i : ℕ) (f : List ℕ) (at : f ≡ getD D i []) (more : i < length D)
+    (room : i < length s) where
   flag-here :
       (s′ : List ℕ) → take (suc i) s′ ≡ take i s ++ (cond (t f) 1 (getD s i 0) ∷ []) → drop (suc i) s′ ≡ drop (suc i) s
       → take i s ++ flagMore t (drop i D) (drop i s) ≡ take (i + 1) s′ ++ flagMore t (drop (i + 1) D) (drop (i + 1) s′)
@@ -65,7 +72,9 @@ module _ (t : List ℕ → Bool) (D : List (List ℕ)) (s : List ℕ) (i : ℕ) 
       rw (add-one, front, rest, append-snoc, at)
       (ap₂ (λ a b. take i s ++ flagMore t a b) (drop-cons D i [] more) (drop-cons s i 0 room))
 
-  pub flag-set : t f ≡ true → take i s ++ flagMore t (drop i D) (drop i s) ≡ take (i + 1) (set s i 1) ++ flagMore t (drop (i + 1) D) (drop (i + 1) (set s i 1))
+  pub flag-set :
+      t f ≡ true
+      → take i s ++ flagMore t (drop i D) (drop i s) ≡ take (i + 1) (set s i 1) ++ flagMore t (drop (i + 1) D) (drop (i + 1) (set s i 1))
   flag-set h =
       flag-here (set s i 1) (take-suc-set s i 1 room ∙ ap (λ b. take i s ++ (cond b 1 (getD s i 0) ∷ [])) (sym h))
       (drop-set-lt (suc i) s i 1 (omega arith))
@@ -104,12 +113,12 @@ module _ (N : ℕ) (C : List (List ℕ)) (o : Operator) (D : List (List ℕ)) wh
 
 -- ---- the test of one clause
 module _ (l : ℕ) (G f : List ℕ) where
-  pub lacks-missing : member l f ≡ false → lacksOther l G f ≡ false
-  unfolding lacksOther
+  pub lacks-missing : member l f ≡ false → lacksFlag l G f ≡ false
+  unfolding lacksFlag
   lacks-missing h = rw h
 
-  pub lacks-held : member l f ≡ true → lacksOther l G f ≡ not (any (isOther G l) f)
-  unfolding lacksOther
+  pub lacks-held : member l f ≡ true → lacksFlag l G f ≡ not (any (has G) f)
+  unfolding lacksFlag
   lacks-held h = rw h
 
 -- ---- the flags of a set, one after the other
@@ -122,7 +131,9 @@ flags-more K s i x inside ex h k low = go (ℕ-discrete k i)
     go (yes e) = rw (e, getD-set-same s i x 0 inside) ex
     go (no ne) = getD-set-other s i k x 0 ne ∙ h k (omega arith)
 
-pub flags-end : (atoms : ℕ) (K s : List ℕ) (i : ℕ) → length s ≡ 2 * atoms → 2 * atoms ≤ i → ((k : ℕ) → k < i → getD s k 0 ≡ bit (has K k)) → s ≡ flagsOf atoms K
+pub flags-end :
+    (atoms : ℕ) (K s : List ℕ) (i : ℕ) → length s ≡ 2 * atoms → 2 * atoms ≤ i
+    → ((k : ℕ) → k < i → getD s k 0 ≡ bit (has K k)) → s ≡ flagsOf atoms K
 unfolding flagsOf
 flags-end atoms K s i len past h =
     ext-getD 0 s (map (λ l. bit (has K l)) (below (2 * atoms))) (len ∙ sym (table-length (λ l. bit (has K l)) (2 * atoms)))

@@ -10,15 +10,15 @@ use lib.ListN.{length, getD, set, length-set}
 use lib.Seq.{getD-set-same, getD-set-other, set-getD, ext-getD}
 use borrow.Author.Tests.{eqb-true, eqb-false, eq-eqb, ne-eqb}
 use Rattle.definitions.specs.Lists.{any, all, keep, range, below}
-use Rattle.definitions.specs.Literal.{complement}
+use Rattle.definitions.specs.Literal.{positive, complement}
 use Rattle.definitions.specs.Image.{Row, Operator, Task}
 use Rattle.definitions.specs.Synthesis.{guarantees}
 use Rattle.definitions.specs.Closure.{has, bit, closure, contradictory}
-use Rattle.definitions.specs.Kept.{rowsWith, allIn, madeTrue, staysTrue, guaranteed}
-use Rattle.definitions.proofs.ListLaws.{decide, table-at, table-length}
+use Rattle.definitions.specs.Kept.{rowsWith, allIn, surelyFires, neverFires, madeTrue, staysTrue, guaranteed}
+use Rattle.definitions.proofs.ListLaws.{decide, all-agree, table-at, table-length}
 use Rattle.propagation.proofs.Sets.{complement-back}
 use Rattle.propagation.proofs.Marks.{bit-back}
-use Rattle.judge.specs.Judging.{flagsOf, addEffects, canFire, dropChanged, guaranteedFlags}
+use Rattle.judge.specs.Judging.{flagsOf, isOfKind, addEffects, canFire, dropChanged, guaranteedFlags}
 
 -- ---- tests of kept lists
 module _ {A : Type 0} (t p : A → Bool) where
@@ -27,7 +27,9 @@ module _ {A : Type 0} (t p : A → Bool) where
   any-keep [] = refl
   any-keep (x ∷ xs) = go (t x) refl (any-keep xs)
     where
-      go : (b : Bool) → t x ≡ b → any p (keep t xs) ≡ any (λ x. t x && p x) xs → any p (keep t (x ∷ xs)) ≡ ((t x && p x) || any (λ x. t x && p x) xs)
+      go :
+          (b : Bool) → t x ≡ b → any p (keep t xs) ≡ any (λ x. t x && p x) xs
+          → any p (keep t (x ∷ xs)) ≡ ((t x && p x) || any (λ x. t x && p x) xs)
       go true e k = rw (e, keep, k)
       go false e k = rw (e, keep, k)
 
@@ -42,17 +44,6 @@ module _ {A : Type 0} (t p : A → Bool) where
       go true e k = rw (e, keep, k)
       go false e k = rw (e, keep, k)
 
-module _ {A : Type 0} (p q : A → Bool) (same : (x : A) → p x ≡ q x) where
-  pub any-same : (xs : List A) → any p xs ≡ any q xs
-  unfolding any
-  any-same [] = refl
-  any-same (x ∷ xs) = ap₂ (λ a b. a || b) (same x) (any-same xs)
-
-  pub all-same : (xs : List A) → all p xs ≡ all q xs
-  unfolding all
-  all-same [] = refl
-  all-same (x ∷ xs) = ap₂ (λ a b. a && b) (same x) (all-same xs)
-
 -- ---- complements
 pub complement-eqb : (a b : ℕ) → eqb a (complement b) ≡ eqb (complement a) b
 complement-eqb a b = go (decide (eqb a (complement b)))
@@ -63,13 +54,21 @@ complement-eqb a b = go (decide (eqb a (complement b)))
         h
         ∙ sym (ne-eqb (complement a) b (λ e. eqb-false a (complement b) h (sym (complement-back a) ∙ ap complement e)))
 
-flag-bits : (a b c : Bool) → cond a 1 (cond b (bit c) 0) ≡ bit (a || (c && b))
+-- the flag of a literal, positive or not (p), that a row surely makes true (f), that no row can make false (n), and that lies in K (k)
+flag-bits : (p f n k : Bool) → cond (p && f) 1 (cond n (cond (not p && f) 1 (bit k)) 0) ≡ bit ((f && (p || n)) || (k && n))
 unfolding bit
-flag-bits true b c = refl
-flag-bits false true true = refl
-flag-bits false true false = refl
-flag-bits false false true = refl
-flag-bits false false false = refl
+flag-bits true true n k = refl
+flag-bits true false true true = refl
+flag-bits true false true false = refl
+flag-bits true false false true = refl
+flag-bits true false false false = refl
+flag-bits false true true k = refl
+flag-bits false true false true = refl
+flag-bits false true false false = refl
+flag-bits false false true true = refl
+flag-bits false false true false = refl
+flag-bits false false false true = refl
+flag-bits false false false false = refl
 
 -- ---- one flag after the walks over the rows
 module _ (b : Bool) (S : List ℕ) (i x m : ℕ) (low : m < length S) where
@@ -94,37 +93,62 @@ module _ (b : Bool) (S : List ℕ) (i x m : ℕ) (low : m < length S) where
       go true = length-set S i x
       go false = refl
 
-pub added-length : (K : List ℕ) (qs : List Row) (S : List ℕ) → length (addEffects K qs S) ≡ length S
+pub added-length : (adds : Bool) (K : List ℕ) (qs : List Row) (S : List ℕ) → length (addEffects adds K qs S) ≡ length S
 unfolding addEffects
-added-length K [] S = refl
-added-length K (q ∷ qs) S = added-length K qs (cond (allIn K (q .conditions)) (set S (q .effect) 1) S) ∙ go (allIn K (q .conditions))
+added-length adds K [] S = refl
+added-length adds K (q ∷ qs) S = added-length adds K qs (cond b (set S (q .effect) 1) S) ∙ go b
   where
+    b : Bool
+    b = isOfKind adds (q .effect) && allIn K (q .conditions)
+
     go : (b : Bool) → length (cond b (set S (q .effect) 1) S) ≡ length S
     go true = length-set S (q .effect) 1
     go false = refl
-
-cond-or : (a b : Bool) (x : ℕ) → cond b 1 (cond a 1 x) ≡ cond (a || b) 1 x
-cond-or true true x = refl
-cond-or true false x = refl
-cond-or false b x = refl
 
 cond-and : (a b : Bool) (x : ℕ) → cond b (cond a 0 x) 0 ≡ cond (not a && b) x 0
 cond-and true true x = refl
 cond-and true false x = refl
 cond-and false b x = refl
 
--- the flag of m is set if m is the effect of a row whose conditions lie in K
+-- the flag of m is set if m is the effect of a row of the kind whose conditions lie in K
 pub added-at :
-    (K : List ℕ) (qs : List Row) (S : List ℕ) (m : ℕ) → m < length S
-    → getD (addEffects K qs S) m 0 ≡ cond (any (λ q. eqb (q .effect) m && allIn K (q .conditions)) qs) 1 (getD S m 0)
+    (adds : Bool) (K : List ℕ) (qs : List Row) (S : List ℕ) (m : ℕ) → m < length S
+    → getD (addEffects adds K qs S) m 0
+    ≡ cond (isOfKind adds m && any (λ q. eqb (q .effect) m && allIn K (q .conditions)) qs) 1 (getD S m 0)
 unfolding addEffects any
-added-at K [] S m low = refl
-added-at K (q ∷ qs) S m low =
-    let b = allIn K (q .conditions) in
-    let T = cond b (set S (q .effect) 1) S in
-    added-at K qs T m (subst (λ (k : ℕ). m < k) (sym (set-length b S (q .effect) 1 m low)) low)
-    ∙ ap (λ x. cond (any (λ q. eqb (q .effect) m && allIn K (q .conditions)) qs) 1 x) (set-at-flag b S (q .effect) 1 m low)
-    ∙ cond-or (eqb (q .effect) m && b) (any (λ q. eqb (q .effect) m && allIn K (q .conditions)) qs) (getD S m 0)
+added-at adds K [] S m low = go (isOfKind adds m)
+  where
+    go : (b : Bool) → getD S m 0 ≡ cond (b && false) 1 (getD S m 0)
+    go true = refl
+    go false = refl
+added-at adds K (q ∷ qs) S m low =
+    added-at adds K qs T m (subst (λ (k : ℕ). m < k) (sym (set-length b S (q .effect) 1 m low)) low)
+    ∙ ap (λ x. cond (isOfKind adds m && more) 1 x) (set-at-flag b S (q .effect) 1 m low)
+    ∙ go (decide (eqb (q .effect) m))
+  where
+    b : Bool
+    b = isOfKind adds (q .effect) && allIn K (q .conditions)
+
+    T : List ℕ
+    T = cond b (set S (q .effect) 1) S
+
+    more : Bool
+    more = any (λ q. eqb (q .effect) m && allIn K (q .conditions)) qs
+
+    flag : (k a r : Bool) (x : ℕ) → cond (k && r) 1 (cond (k && a) 1 x) ≡ cond (k && (a || r)) 1 x
+    flag true true true x = refl
+    flag true true false x = refl
+    flag true false r x = refl
+    flag false a r x = refl
+
+    go :
+        (eqb (q .effect) m ≡ true) ⊎ (eqb (q .effect) m ≡ false)
+        → cond (isOfKind adds m && more) 1 (cond (eqb (q .effect) m && b) 1 (getD S m 0))
+        ≡ cond (isOfKind adds m && ((eqb (q .effect) m && allIn K (q .conditions)) || more)) 1 (getD S m 0)
+    go (inl h) =
+        let same : q .effect ≡ m = eqb-true (q .effect) m h in
+        rw (h, ap (isOfKind adds) same) (flag (isOfKind adds m) (allIn K (q .conditions)) more (getD S m 0))
+    go (inr h) = rw h
 
 module _ (N : ℕ) (C : List (List ℕ)) where
   pub dropped-length : (ls : List ℕ) (qs : List Row) (S : List ℕ) → length (dropChanged N C ls qs S) ≡ length S
@@ -151,32 +175,38 @@ module _ (N : ℕ) (C : List (List ℕ)) where
       (set-at-flag b S (complement (q .effect)) 0 m low)
       ∙ cond-and (eqb (complement (q .effect)) m && b) (all (λ q. not (eqb (complement (q .effect)) m && canFire N C ls (q .conditions))) qs) (getD S m 0)
 
-  -- both walks leave the flags of the guaranteed literals
+  -- the walks leave the flags of the guaranteed literals
   module _ (o : Operator) (ls : List ℕ) where
-    made-any : (K : List ℕ) (m : ℕ) → madeTrue N C o K m ≡ any (λ q. eqb (q .effect) m && allIn K (q .conditions)) (o .rows)
-    unfolding madeTrue rowsWith
-    made-any K m = any-keep (λ q. eqb (q .effect) m) (λ q. allIn K (q .conditions)) (o .rows)
+    fires-any : (K : List ℕ) (m : ℕ) → surelyFires o K m ≡ any (λ q. eqb (q .effect) m && allIn K (q .conditions)) (o .rows)
+    unfolding surelyFires rowsWith
+    fires-any K m = any-keep (λ q. eqb (q .effect) m) (λ q. allIn K (q .conditions)) (o .rows)
 
-    safe-all :
-        (m : ℕ) → all (λ q. contradictory N (closure N C (ls ++ q .conditions))) (rowsWith o (complement m)) ≡ all
+    never-all :
+        (m : ℕ) → neverFires N C o ls (complement m) ≡ all
         (λ q. not (eqb (complement (q .effect)) m && canFire N C ls (q .conditions))) (o .rows)
-    unfolding rowsWith canFire
-    safe-all m =
+    unfolding neverFires rowsWith canFire
+    never-all m =
         all-keep (λ q. eqb (q .effect) (complement m)) (λ q. contradictory N (closure N C (ls ++ q .conditions))) (o .rows)
-        ∙ all-same (λ q. not (eqb (q .effect) (complement m)) || contradictory N (closure N C (ls ++ q .conditions)))
+        ∙ all-agree (λ q. not (eqb (q .effect) (complement m)) || contradictory N (closure N C (ls ++ q .conditions)))
         (λ q. not (eqb (complement (q .effect)) m && canFire N C ls (q .conditions)))
-        (λ q.
+        (o .rows)
+        (λ q i.
         ap (λ b. not b || contradictory N (closure N C (ls ++ q .conditions))) (complement-eqb (q .effect) m)
         ∙ go (eqb (complement (q .effect)) m) (contradictory N (closure N C (ls ++ q .conditions))))
-        (o .rows)
       where
         go : (a b : Bool) → (not a || b) ≡ not (a && not b)
         go true true = refl
         go true false = refl
         go false b = refl
 
-    pub guaranteed-walks : addEffects (closure N C ls) (o .rows) (dropChanged N C ls (o .rows) (flagsOf N (closure N C ls))) ≡ guaranteedFlags N C o ls
-    unfolding guaranteedFlags guaranteed staysTrue flagsOf
+    -- the flags of K with the deletes that surely fire, without what a row that can fire makes false, with the adds that surely fire
+    abbrev walked : List ℕ
+    walked =
+        let K = closure N C ls in
+        addEffects true K (o .rows) (dropChanged N C ls (o .rows) (addEffects false K (o .rows) (flagsOf N K)))
+
+    pub guaranteed-walks : walked ≡ guaranteedFlags N C o ls
+    unfolding guaranteedFlags guaranteed madeTrue staysTrue flagsOf isOfKind
     guaranteed-walks = ext-getD 0 G H same (λ m h. at m (subst (λ (k : ℕ). m < k) lenG h))
       where
         K : List ℕ
@@ -185,11 +215,14 @@ module _ (N : ℕ) (C : List (List ℕ)) where
         F : List ℕ
         F = map (λ l. bit (has K l)) (below (2 * N))
 
+        D : List ℕ
+        D = addEffects false K (o .rows) F
+
         E : List ℕ
-        E = dropChanged N C ls (o .rows) F
+        E = dropChanged N C ls (o .rows) D
 
         G : List ℕ
-        G = addEffects K (o .rows) E
+        G = addEffects true K (o .rows) E
 
         H : List ℕ
         H = map (λ m. bit (guaranteed N C o ls K m)) (below (2 * N))
@@ -197,25 +230,30 @@ module _ (N : ℕ) (C : List (List ℕ)) where
         lenF : length F ≡ 2 * N
         lenF = table-length (λ l. bit (has K l)) (2 * N)
 
+        lenD : length D ≡ 2 * N
+        lenD = added-length false K (o .rows) F ∙ lenF
+
         lenE : length E ≡ 2 * N
-        lenE = dropped-length ls (o .rows) F ∙ lenF
+        lenE = dropped-length ls (o .rows) D ∙ lenD
 
         lenG : length G ≡ 2 * N
-        lenG = added-length K (o .rows) E ∙ lenE
+        lenG = added-length true K (o .rows) E ∙ lenE
 
         same : length G ≡ length H
         same = lenG ∙ sym (table-length (λ m. bit (guaranteed N C o ls K m)) (2 * N))
 
         at : (m : ℕ) → m < 2 * N → getD G m 0 ≡ getD H m 0
         at m low =
-            let made = any (λ q. eqb (q .effect) m && allIn K (q .conditions)) (o .rows) in
+            let fires = any (λ q. eqb (q .effect) m && allIn K (q .conditions)) (o .rows) in
             let safe = all (λ q. not (eqb (complement (q .effect)) m && canFire N C ls (q .conditions))) (o .rows) in
-            added-at K (o .rows) E m (subst (λ (k : ℕ). m < k) (sym lenE) low)
-            ∙ ap (λ x. cond made 1 x)
-            (dropped-at ls (o .rows) F m (subst (λ (k : ℕ). m < k) (sym lenF) low)
-            ∙ ap (λ x. cond safe x 0) (table-at (λ l. bit (has K l)) (2 * N) m low))
-            ∙ flag-bits made safe (has K m)
-            ∙ ap₂ (λ a b. bit (a || (has K m && b))) (sym (made-any K m)) (sym (safe-all m))
+            added-at true K (o .rows) E m (subst (λ (k : ℕ). m < k) (sym lenE) low)
+            ∙ ap (λ x. cond (positive m && fires) 1 x)
+            (dropped-at ls (o .rows) D m (subst (λ (k : ℕ). m < k) (sym lenD) low)
+            ∙ ap (λ x. cond safe x 0)
+            (added-at false K (o .rows) F m (subst (λ (k : ℕ). m < k) (sym lenF) low)
+            ∙ ap (λ x. cond (not (positive m) && fires) 1 x) (table-at (λ l. bit (has K l)) (2 * N) m low)))
+            ∙ flag-bits (positive m) fires safe (has K m)
+            ∙ ap₂ (λ a b. bit ((a && (positive m || b)) || (has K m && b))) (sym (fires-any K m)) (sym (never-all m))
             ∙ sym (table-at (λ m. bit (guaranteed N C o ls K m)) (2 * N) m low)
 
     pub guaranteed-has : (m : ℕ) → m < 2 * N → has (guaranteedFlags N C o ls) m ≡ guaranteed N C o ls (closure N C ls) m
@@ -225,22 +263,30 @@ module _ (N : ℕ) (C : List (List ℕ)) where
         ∙ bit-back (guaranteed N C o ls (closure N C ls) m)
 
 -- ---- the walks over the rows, by the row that comes next
-module _ (K : List ℕ) (rs rs′ : List Row) (e : ℕ) (cs S : List ℕ) (next : rs ≡ record { effect = e; conditions = cs } ∷ rs′) where
-  pub add-made : (S′ : List ℕ) → S′ ≡ set S e 1 → allIn K cs ≡ true → addEffects K rs S ≡ addEffects K rs′ S′
+module _ (adds : Bool) (K : List ℕ) (rs rs′ : List Row) (e : ℕ) (cs S : List ℕ) (next : rs ≡ record { effect = e; conditions = cs } ∷ rs′) where
+  pub add-other : isOfKind adds e ≡ false → addEffects adds K rs S ≡ addEffects adds K rs′ S
   unfolding addEffects
-  add-made S′ es h = rw (next, h, es)
+  add-other k = rw (next, k)
 
-  pub add-passed : allIn K cs ≡ false → addEffects K rs S ≡ addEffects K rs′ S
+  pub add-made :
+      (S′ : List ℕ) → S′ ≡ set S e 1 → isOfKind adds e ≡ true → allIn K cs ≡ true
+      → addEffects adds K rs S ≡ addEffects adds K rs′ S′
   unfolding addEffects
-  add-passed h = rw (next, h)
+  add-made S′ es k h = rw (next, k, h, es)
 
-pub add-end : (K : List ℕ) (rs : List Row) (S : List ℕ) → rs ≡ [] → addEffects K rs S ≡ S
+  pub add-passed : isOfKind adds e ≡ true → allIn K cs ≡ false → addEffects adds K rs S ≡ addEffects adds K rs′ S
+  unfolding addEffects
+  add-passed k h = rw (next, k, h)
+
+pub add-end : (adds : Bool) (K : List ℕ) (rs : List Row) (S : List ℕ) → rs ≡ [] → addEffects adds K rs S ≡ S
 unfolding addEffects
-add-end K rs S h = rw h
+add-end adds K rs S h = rw h
 
 module _ (N : ℕ) (C : List (List ℕ)) (ls : List ℕ) where
   module _ (rs rs′ : List Row) (e : ℕ) (cs S : List ℕ) (next : rs ≡ record { effect = e; conditions = cs } ∷ rs′) where
-    pub drop-fires : (l : ℕ) (S′ : List ℕ) → l ≡ complement e → S′ ≡ set S l 0 → canFire N C ls cs ≡ true → dropChanged N C ls rs S ≡ dropChanged N C ls rs′ S′
+    pub drop-fires :
+        (l : ℕ) (S′ : List ℕ) → l ≡ complement e → S′ ≡ set S l 0 → canFire N C ls cs ≡ true
+        → dropChanged N C ls rs S ≡ dropChanged N C ls rs′ S′
     unfolding dropChanged
     drop-fires l S′ el es h = rw (next, h, es, el)
 
@@ -267,14 +313,15 @@ module _ (N : ℕ) (C : List (List ℕ)) (ls : List ℕ) where
   pub drop-start : (rs rs′ : List Row) (S : List ℕ) → rs ≡ rs′ → dropChanged N C ls rs′ S ≡ dropChanged N C ls rs S
   drop-start rs rs′ S h = rw h
 
-pub add-start : (K : List ℕ) (rs rs′ : List Row) (S : List ℕ) → rs ≡ rs′ → addEffects K rs′ S ≡ addEffects K rs S
-add-start K rs rs′ S h = rw h
+pub add-start : (adds : Bool) (K : List ℕ) (rs rs′ : List Row) (S : List ℕ) → rs ≡ rs′ → addEffects adds K rs′ S ≡ addEffects adds K rs S
+add-start adds K rs rs′ S h = rw h
 
 -- by the code's own flags after each walk
 pub guaranteed-made :
-    (N : ℕ) (C : List (List ℕ)) (o : Operator) (ls F E G : List ℕ) → F ≡ flagsOf N (closure N C ls) → E ≡ dropChanged N C ls (o .rows) F
-    → G ≡ addEffects (closure N C ls) (o .rows) E → G ≡ guaranteedFlags N C o ls
-guaranteed-made N C o ls F E G f e g = g ∙ rw (e, f) (guaranteed-walks N C o ls)
+    (N : ℕ) (C : List (List ℕ)) (o : Operator) (ls F D E G : List ℕ) → F ≡ flagsOf N (closure N C ls)
+    → D ≡ addEffects false (closure N C ls) (o .rows) F → E ≡ dropChanged N C ls (o .rows) D
+    → G ≡ addEffects true (closure N C ls) (o .rows) E → G ≡ guaranteedFlags N C o ls
+guaranteed-made N C o ls F D E G f d e g = g ∙ rw (e, d, f) (guaranteed-walks N C o ls)
 
 -- the literals that an operator guarantees, as the synthesis lists them
 keep-range : (p q : ℕ → Bool) (i n : ℕ) → ((l : ℕ) → l < i + n → p l ≡ q l) → keep p (range i n) ≡ keep q (range i n)
@@ -282,7 +329,9 @@ unfolding range keep
 keep-range p q i zero h = refl
 keep-range p q i (suc n) h = go (p i) refl (keep-range p q (suc i) n (λ l k. h l (let z = k in omega arith)))
   where
-    go : (b : Bool) → p i ≡ b → keep p (range (suc i) n) ≡ keep q (range (suc i) n) → keep p (i ∷ range (suc i) n) ≡ keep q (i ∷ range (suc i) n)
+    go :
+        (b : Bool) → p i ≡ b → keep p (range (suc i) n) ≡ keep q (range (suc i) n)
+        → keep p (i ∷ range (suc i) n) ≡ keep q (i ∷ range (suc i) n)
     go true e rec = let f : q i ≡ true = sym (h i (omega arith)) ∙ e in rw (e, f, keep, rec)
     go false e rec = let f : q i ≡ false = sym (h i (omega arith)) ∙ e in rw (e, f, keep, rec)
 

@@ -35,8 +35,8 @@ use Rattle.answer.proofs.Laws.{verdict-refused}
 
 -- what judging asks, of an operator of a task
 pub given-operator :
-    (w c b : List ℕ) (atoms i : ℕ) → Reads w → atoms ≡ taskOf w .atoms → atoms ≤ mostAtoms → i < length (taskOf w .operators) → ClausesRead atoms c
-    → BlockGiven b (taskOf w) i → Given atoms c b
+    (w c b : List ℕ) (atoms i : ℕ) → Reads w → atoms ≡ taskOf w .atoms → atoms ≤ mostAtoms → i < length (taskOf w .operators)
+    → ClausesRead atoms c → BlockGiven b (taskOf w) i → Given atoms c b
 given-operator w c b atoms i task counted few inside rows block =
     record {
       few = few;

@@ -3,7 +3,7 @@ use mathlib.Core.Path.{_≡_, sym, _∙_, ap}
 use mathlib.Core.Bool.{true, false}
 use mathlib.Core.Logic.{_⊎_, inl, inr}
 use mathlib.Core.List.{List, [], _∷_, _++_, List·Memᴰ}
-use Prim.Native.Nat.{ℕ, _*_}
+use Prim.Native.Nat.{ℕ, _*_, _<_}
 use lib.ListN.{length, replicate}
 use Rattle.definitions.specs.Lists.{any, member}
 use Rattle.definitions.specs.Literal.{complement, allBelow}
@@ -15,7 +15,7 @@ use Rattle.definitions.proofs.LiteralLaws.{list-low}
 use Rattle.clause.specs.Rows.{rowCount, clausesOf}
 use Rattle.clause.proofs.RowLaws.{clause-of, clauses-length}
 use Rattle.definitions.proofs.RowsRead.{right-list}
-use Rattle.judge.specs.Judging.{guaranteedFlags, lacksOther, violates, someViolates, failFlags, flagMore}
+use Rattle.judge.specs.Judging.{guaranteedFlags, lacksFlag, violates, someViolates, failFlags, flagMore}
 use Rattle.judge.specs.Promise.{Judged}
 use Rattle.judge.proofs.Violations.{violates-none, violates-passed, violates-lacking}
 use Rattle.judge.proofs.Flagged.{flag-agree, flag-none, rows-on, rows-end, rows-fail, contradictory-fail}
@@ -37,18 +37,20 @@ module _ (N : ℕ) (C : List (List ℕ)) (o : Operator) (D : List (List ℕ)) (e
   unfolding r
   row-contradictory h = sym (flag-none (violates N C o r) D s (λ f m. violates-none N C o r f h))
 
-  -- the clauses are judged by the guaranteed literals
+  -- the clauses are judged by the guaranteed literals, where the row is one of the operator's and clauses and conditions are over the N atoms
   pub row-judged :
-      ((f : List ℕ) → List·Memᴰ f D → allBelow (2 * N) f ≡ true) → contradictory N (closure N C (o .precondition ++ cs)) ≡ false
-      → (l : ℕ) (s′ : List ℕ) → l ≡ complement e → s′ ≡ flagMore (lacksOther l (guaranteedFlags N C o (o .precondition ++ cs))) D s
+      ((f : List ℕ) → List·Memᴰ f C → (m : ℕ) → List·Memᴰ m f → m < 2 * N) → allBelow (2 * N) cs ≡ true
+      → ((f : List ℕ) → List·Memᴰ f D → allBelow (2 * N) f ≡ true) → contradictory N (closure N C (o .precondition ++ cs)) ≡ false
+      → (l : ℕ) (s′ : List ℕ) → l ≡ complement e → List·Memᴰ (record { effect = e; conditions = cs }) (o .rows)
+      → s′ ≡ flagMore (lacksFlag l (guaranteedFlags N C o (o .precondition ++ cs))) D s
       → s′ ≡ flagMore (violates N C o (record { effect = e; conditions = cs })) D s
   unfolding r
-  row-judged low closed l s′ el h =
+  row-judged within low-cs low closed l s′ el there h =
       h
       ∙ rw el
       (sym
-      (flag-agree (violates N C o r) (lacksOther (complement e) (guaranteedFlags N C o (o .precondition ++ cs))) D s
-      (λ f m. violates-lacking N C o r f (low f m) closed)))
+      (flag-agree (violates N C o r) (lacksFlag (complement e) (guaranteedFlags N C o (o .precondition ++ cs))) D s
+      (λ f m. violates-lacking N C o within r there low-cs closed f (low f m))))
 
   -- the walk over the rows
   module _ (rs rs′ : List Row) (next : rs ≡ record { effect = e; conditions = cs } ∷ rs′) where
@@ -59,7 +61,9 @@ module _ (N : ℕ) (C : List (List ℕ)) (o : Operator) (D : List (List ℕ)) (e
     walk-on s′ h = ap (λ x. flagMore (someViolates N C o x) D s) next ∙ rows-on N C o D r rs′ s ∙ ap (flagMore (someViolates N C o rs′) D) (sym h)
 
     -- no judged clause holds the complement of the effect
-    pub walk-passed : (l : ℕ) → l ≡ complement e → any (member l) D ≡ false → flagMore (someViolates N C o rs) D s ≡ flagMore (someViolates N C o rs′) D s
+    pub walk-passed :
+        (l : ℕ) → l ≡ complement e → any (member l) D ≡ false
+        → flagMore (someViolates N C o rs) D s ≡ flagMore (someViolates N C o rs′) D s
     unfolding r
     walk-passed l el h = walk-on s (sym (flag-none (violates N C o r) D s (λ f m. violates-passed N C o r f (rw el at (not-held f m (decide (member l f)))))))
       where
@@ -72,7 +76,9 @@ pub walk-start :
     → flagMore (someViolates N C o rs′) D s ≡ flagMore (someViolates N C o rs) D s
 walk-start N C o D rs rs′ s h = rw h
 
-pub walk-end : (N : ℕ) (C : List (List ℕ)) (o : Operator) (D : List (List ℕ)) (rs : List Row) (s : List ℕ) → rs ≡ [] → flagMore (someViolates N C o rs) D s ≡ s
+pub walk-end :
+    (N : ℕ) (C : List (List ℕ)) (o : Operator) (D : List (List ℕ)) (rs : List Row) (s : List ℕ) → rs ≡ []
+    → flagMore (someViolates N C o rs) D s ≡ s
 walk-end N C o D rs s h = rw h (rows-end N C o D s)
 
 -- from flags that are all taken away

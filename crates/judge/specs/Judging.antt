@@ -3,10 +3,9 @@ use mathlib.Core.Bool.{Bool, true, false, not, _&&_, cond}
 use mathlib.Core.Path.{_≡_}
 use mathlib.Core.List.{List, [], _∷_, _++_, map}
 use Prim.Native.Nat.{ℕ, _*_}
-use lib.Dec.{eqb}
 use lib.ListN.{set}
 use Rattle.definitions.specs.Lists.{any, below, member}
-use Rattle.definitions.specs.Literal.{complement}
+use Rattle.definitions.specs.Literal.{positive, complement}
 use Rattle.definitions.specs.Image.{Row, Operator}
 use Rattle.definitions.specs.Closure.{has, bit, closure, contradictory}
 use Rattle.definitions.specs.Kept.{allIn, guaranteed, keptCase, kept}
@@ -15,10 +14,14 @@ use Rattle.definitions.specs.Kept.{allIn, guaranteed, keptCase, kept}
 unfoldable pub flagsOf : ℕ → List ℕ → List ℕ
 flagsOf N K = map (λ l. bit (has K l)) (below (2 * N))
 
--- the flags with those of the effects of the rows whose conditions lie in K
-unfoldable pub addEffects : List ℕ → List Row → List ℕ → List ℕ
-addEffects K [] S = S
-addEffects K (q ∷ qs) S = addEffects K qs (cond (allIn K (q .conditions)) (set S (q .effect) 1) S)
+-- a row with effect e adds an atom, or deletes one
+unfoldable pub isOfKind : Bool → ℕ → Bool
+isOfKind adds e = cond adds (positive e) (not (positive e))
+
+-- the flags with those of the effects of the rows of one kind whose conditions lie in K
+unfoldable pub addEffects : Bool → List ℕ → List Row → List ℕ → List ℕ
+addEffects adds K [] S = S
+addEffects adds K (q ∷ qs) S = addEffects adds K qs (cond (isOfKind adds (q .effect) && allIn K (q .conditions)) (set S (q .effect) 1) S)
 
 module _ (N : ℕ) (C : List (List ℕ)) where
   -- a row with conditions cs can fire where C and ls hold, as far as the closure says
@@ -34,7 +37,7 @@ module _ (N : ℕ) (C : List (List ℕ)) where
   unfoldable pub guaranteedFlags : Operator → List ℕ → List ℕ
   guaranteedFlags o ls = map (λ m. bit (guaranteed N C o ls (closure N C ls) m)) (below (2 * N))
 
-  -- the row falsifies a literal of f and no other literal of f is guaranteed
+  -- the row falsifies a literal of f, and its case does not pass
   unfoldable pub violates : Operator → Row → List ℕ → Bool
   violates o r f =
       let l = complement (r .effect) in
@@ -49,15 +52,11 @@ module _ (N : ℕ) (C : List (List ℕ)) where
   unfoldable pub failFlags : Operator → List (List ℕ) → List ℕ
   failFlags o D = map (λ f. bit (not (kept N C o f))) D
 
--- m is another literal than l and has its flag in G
-unfoldable pub isOther : List ℕ → ℕ → ℕ → Bool
-isOther G l m = let g = has G m in not (eqb m l) && g
-
--- f holds l, and no other literal of f has its flag in G
-unfoldable pub lacksOther : ℕ → List ℕ → List ℕ → Bool
-lacksOther l G f =
-    let other = any (isOther G l) f in
-    member l f && not other
+-- f holds l, and no literal of f has its flag in G
+unfoldable pub lacksFlag : ℕ → List ℕ → List ℕ → Bool
+lacksFlag l G f =
+    let flagged = any (has G) f in
+    member l f && not flagged
 
 -- the flags of the clauses with those that pass the test
 unfoldable pub flagMore : (List ℕ → Bool) → List (List ℕ) → List ℕ → List ℕ

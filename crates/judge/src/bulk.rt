@@ -1,13 +1,14 @@
 // All judged clauses under one operator.
 ghost use mathlib.Core.Path.{_≡_};
-ghost use mathlib.Core.List.{List};
+ghost use mathlib.Core.List.{List, List·Memᴰ};
 ghost use Prim.Native.Nat.{ℕ, _*_, _≤_};
 ghost use lib.ListN.{length};
 ghost use Rattle.definitions.specs.Lists.{any, member};
 ghost use Rattle.definitions.specs.Literal.{complement};
+ghost use Rattle.definitions.specs.Closure.{has};
 ghost use Rattle.definitions.specs.Clauses.{clauseOf};
 ghost use Rattle.clause.specs.Rows.{rowCount, clausesOf};
-ghost use Rattle.judge.specs.Judging.{lacksOther, isOther, flagMore, guaranteedFlags, violates, someViolates, failFlags, Guarantees};
+ghost use Rattle.judge.specs.Judging.{lacksFlag, flagMore, guaranteedFlags, violates, someViolates, failFlags, Guarantees};
 ghost use Rattle.judge.specs.Promise.{Given, BulkGiven, ConsistentClosure, ClosedGiven, FlagsGuaranteed};
 ghost use Rattle.propagation.specs.Marks.{Asked, ConsistentMarks};
 ghost use Rattle.task.specs.Walk.{row, operatorIn};
@@ -15,23 +16,13 @@ use propagation::Closing;
 use task::block::BlockHead;
 use task::block::RowPart;
 
-// Whether a literal other than `l` has its flag.
-fn is_other(m: u16, l: u16, flags: &[u8]) -> bool
-    ensures { λ r. ⌜ r ≡ isOther (now (flags .entry)) l m ⌝ }
-{
-    if m == l {
-        return false;
-    }
-    literal::flags::has(flags, literal::wide(m))
-}
-
-// Whether some literal of a list, other than `l`, has its flag.
-fn other_flagged(literals: &[u16], l: u16, flags: &[u8]) -> bool
-    ensures { λ r. ⌜ r ≡ any (isOther (now (flags .entry)) l) (now (literals .entry)) ⌝ }
+// Whether some literal of a list has its flag.
+fn some_flagged(literals: &[u16], flags: &[u8]) -> bool
+    ensures { λ r. ⌜ r ≡ any (has (now (flags .entry))) (now (literals .entry)) ⌝ }
 {
     let mut i: usize = 0;
     while i < literals.len() {
-        if is_other(literals[i], l, flags) {
+        if literal::flags::has(flags, literal::wide(literals[i])) {
             return true;
         }
         i += 1;
@@ -39,14 +30,14 @@ fn other_flagged(literals: &[u16], l: u16, flags: &[u8]) -> bool
     false
 }
 
-// Whether the clause of a row holds `l` and no other literal that has its flag.
-fn lacks_other(row: &[u16], l: u16, flags: &[u8]) -> bool
-    ensures { λ r. ⌜ r ≡ lacksOther l (now (flags .entry)) (clauseOf (now (row .entry))) ⌝ }
+// Whether the clause of a row holds `l` and no literal that has its flag.
+fn lacks_flag(row: &[u16], l: u16, flags: &[u8]) -> bool
+    ensures { λ r. ⌜ r ≡ lacksFlag l (now (flags .entry)) (clauseOf (now (row .entry))) ⌝ }
 {
     if !clause::has_literal(row, l) {
         return false;
     }
-    !other_flagged(clause::literals(row), l, flags)
+    !some_flagged(clause::literals(row), flags)
 }
 
 // Whether some judged clause holds `l`.
@@ -64,24 +55,24 @@ fn some_holds(judged: &[u16], l: u16) -> bool
     false
 }
 
-// Flags the judged clauses that hold `l` and no other literal that has its flag.
+// Flags the judged clauses that hold `l` and no literal that has its flag.
 fn flag_lacking(judged: &[u16], l: u16, flags: &[u8], fails: &mut [u8])
     requires { ⌜ length (now fails) ≡ rowCount (now judged) ⌝ }
-    ensures { λ _. ⌜ now (fails .exit) ≡ flagMore (lacksOther l (now (flags .entry))) (clausesOf (now (judged .entry))) (now (fails .entry)) ⌝ }
+    ensures { λ _. ⌜ now (fails .exit) ≡ flagMore (lacksFlag l (now (flags .entry))) (clausesOf (now (judged .entry))) (now (fails .entry)) ⌝ }
 {
     let count = clause::rows(judged);
     let mut i: usize = 0;
     while i < count {
         let at = i;
         i += 1;
-        if !lacks_other(clause::row(judged, at), l, flags) {
+        if !lacks_flag(clause::row(judged, at), l, flags) {
             continue;
         }
         fails[at] = 1;
     }
 }
 
-// Flags the judged clauses that hold `l` and no other literal that the operator guarantees, where the marks are those of a closure.
+// Flags the judged clauses that hold `l` and no literal that the operator guarantees, where the marks are those of a closure.
 fn flag_violated(
     clauses: &[u16],
     judged: &[u16],
@@ -92,7 +83,7 @@ fn flag_violated(
     fails: &mut [u8],
 )
     requires { ⌜ Given atoms (now clauses) (now block) × ConsistentMarks atoms (now marks) × (length (now fails) ≡ rowCount (now judged)) ⌝ }
-    ensures { λ _. ⌜ ((ls : List ℕ) → ConsistentClosure atoms (now (clauses .entry)) ls (now (marks .entry)) → now (fails .exit) ≡ flagMore (lacksOther l (guaranteedFlags atoms (clausesOf (now (clauses .entry))) (operatorIn (now (block .entry))) ls)) (clausesOf (now (judged .entry))) (now (fails .entry))) ⌝ }
+    ensures { λ _. ⌜ ((ls : List ℕ) → ConsistentClosure atoms (now (clauses .entry)) ls (now (marks .entry)) → now (fails .exit) ≡ flagMore (lacksFlag l (guaranteedFlags atoms (clausesOf (now (clauses .entry))) (operatorIn (now (block .entry))) ls)) (clausesOf (now (judged .entry))) (now (fails .entry))) ⌝ }
 {
     let mut flags = literal::room::marks();
     let size = 2 * atoms;
@@ -102,7 +93,7 @@ fn flag_violated(
 
 // Flags the judged clauses that a row with these conditions violates, where `l` is the complement of its effect and `base` has
 // the marks of the clauses' and the precondition's closure and `flags` the literals guaranteed by it. Conditions that are marked
-// add nothing to that closure.
+// add nothing to that closure. Since the row can fire, `l` itself is guaranteed only if an add row of it surely fires.
 fn judge_row(
     clauses: &[u16],
     judged: &[u16],
@@ -116,7 +107,7 @@ fn judge_row(
     fails: &mut [u8],
 )
     requires { ⌜ ClosedGiven atoms (now clauses) (now judged) (now block) (now base) (now fails) × Asked atoms (now clauses) (now conditions) (now marks) × FlagsGuaranteed atoms (now clauses) (now block) (now base) (now flags) ⌝ }
-    ensures { λ _. ⌜ ((e : ℕ) → l ≡ complement e → now (fails .exit) ≡ flagMore (violates atoms (clausesOf (now (clauses .entry))) (operatorIn (now (block .entry))) (row e (now (conditions .entry)))) (clausesOf (now (judged .entry))) (now (fails .entry))) ⌝ }
+    ensures { λ _. ⌜ ((e : ℕ) → l ≡ complement e → List·Memᴰ (row e (now (conditions .entry))) (operatorIn (now (block .entry)) .rows) → now (fails .exit) ≡ flagMore (violates atoms (clausesOf (now (clauses .entry))) (operatorIn (now (block .entry))) (row e (now (conditions .entry)))) (clausesOf (now (judged .entry))) (now (fails .entry))) ⌝ }
 {
     if propagation::holds_all(base, conditions) {
         flag_lacking(judged, l, flags, fails);

@@ -10,11 +10,16 @@ ghost use Rattle.clause.specs.Rows.{clausesOf};
 ghost use Rattle.task.specs.Walk.{blockParses, operatorIn};
 ghost use Rattle.propagation.specs.Marks.{Marked, ConsistentMarks, Asked};
 ghost use Rattle.judge.specs.Promise.{Given, ConsistentClosure, FlagsGuaranteed};
-ghost use Rattle.judge.specs.Judging.{flagsOf, canFire, addEffects, dropChanged};
+ghost use Rattle.judge.specs.Judging.{flagsOf, canFire, isOfKind, addEffects, dropChanged};
 use literal::Literal;
 use propagation::Closing;
 use task::block::BlockHead;
 use task::block::RowPart;
+
+// The kinds of rows that a pass over an operator's rows takes.
+const ADDS: bool = true;
+
+const DELETES: bool = false;
 
 // The complement of a row's effect.
 pub fn complement(effect: usize) -> u16
@@ -93,10 +98,22 @@ fn drop_changed(
     }
 }
 
-// Flags the effects of the rows whose conditions are marked.
-fn add_effects(block: &[u16], marks: &[u8], flags: &mut [u8])
+// Whether a row with this effect adds an atom, if `adds`, or deletes one, if not.
+fn is_of_kind(effect: usize, adds: bool) -> bool
+    requires { ⌜ effect < 65536 ⌝ }
+    ensures { λ r. ⌜ r ≡ isOfKind adds effect ⌝ }
+{
+    let positive = (Literal {
+        code: effect as u16,
+    })
+        .is_positive();
+    if adds { positive } else { !positive }
+}
+
+// Flags the effects of the rows whose conditions are marked: of those that add an atom, if `adds`, of those that delete one, if not.
+fn add_effects(block: &[u16], marks: &[u8], adds: bool, flags: &mut [u8])
     requires { ⌜ blockParses (now block) ≡ true ⌝ }
-    ensures { λ _. ⌜ ((atoms : ℕ) (K : List ℕ) → operatorRight atoms (operatorIn (now (block .entry))) ≡ true → Marked atoms (now (marks .entry)) K → now (flags .exit) ≡ addEffects K (operatorIn (now (block .entry)) .rows) (now (flags .entry))) ⌝ }
+    ensures { λ _. ⌜ ((atoms : ℕ) (K : List ℕ) → operatorRight atoms (operatorIn (now (block .entry))) ≡ true → Marked atoms (now (marks .entry)) K → now (flags .exit) ≡ addEffects adds K (operatorIn (now (block .entry)) .rows) (now (flags .entry))) ⌝ }
 {
     let BlockHead { end, rows } = task::block::head(block);
     let mut at = end + 1;
@@ -105,6 +122,9 @@ fn add_effects(block: &[u16], marks: &[u8], flags: &mut [u8])
         let RowPart { effect, from, end } = task::block::row(block, at, left);
         at = end;
         left -= 1;
+        if !is_of_kind(effect, adds) {
+            continue;
+        }
         if !propagation::holds_all(marks, &block[from..end]) {
             continue;
         }
@@ -113,6 +133,7 @@ fn add_effects(block: &[u16], marks: &[u8], flags: &mut [u8])
 }
 
 // Flags the literals that an operator guarantees, where the marks are those of the closure of the clauses and literals that hold before it.
+// A delete that surely fires makes its literal true only if no add row of the atom can fire; an add does so whatever is deleted.
 pub fn flag_guaranteed(clauses: &[u16], block: &[u16], marks: &[u8], atoms: usize, flags: &mut [u8])
     requires { ⌜ Given atoms (now clauses) (now block) × ConsistentMarks atoms (now marks) × (length (now flags) ≡ 2 * atoms) ⌝ }
     ensures { λ _. ⌜ FlagsGuaranteed atoms (now (clauses .entry)) (now (block .entry)) (now (marks .entry)) (now (flags .exit)) ⌝ }
@@ -120,6 +141,7 @@ pub fn flag_guaranteed(clauses: &[u16], block: &[u16], marks: &[u8], atoms: usiz
     let mut work = literal::room::marks();
     let end = 2 * atoms;
     flag_marked(marks, atoms, flags);
+    add_effects(block, marks, DELETES, flags);
     drop_changed(clauses, block, marks, atoms, &mut work[..end], flags);
-    add_effects(block, marks, flags);
+    add_effects(block, marks, ADDS, flags);
 }

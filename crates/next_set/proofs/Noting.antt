@@ -1,10 +1,10 @@
 -- The test of all operators: the flags of the clauses that fail, and which operators fail clauses of how many literals. Assumes nothing.
-use mathlib.Core.Bool.{Bool, true, false, not, _&&_, _||_, false≢true, and-false}
+use mathlib.Core.Bool.{Bool, true, false, not, _&&_, _||_, and-false}
 use mathlib.Core.Logic.{_⊎_, inl, inr}
 use mathlib.Core.Option.{Option}
 use mathlib.Core.Path.{_≡_, refl, sym, _∙_, ap, subst}
 use mathlib.Core.List.{List, [], _∷_, _++_, map, List·Memᴰ, List·Memᴰ·head, List·Memᴰ·tail}
-use Prim.Native.Nat.{ℕ, zero, suc, _+_, _*_, _≤_, _<_}
+use Prim.Native.Nat.{ℕ, _+_, _*_, _≤_, _<_}
 use native.Mathlib.Omega.{arith}
 use lib.Dec.{eqb}
 use lib.ListN.{length, getD, take, drop, set, replicate, length-replicate, getD-replicate}
@@ -16,11 +16,10 @@ use Rattle.definitions.specs.Closure.{has, bit}
 use Rattle.definitions.specs.Clauses.{width}
 use Rattle.definitions.specs.Kept.{kept}
 use Rattle.definitions.specs.Step.{operatorAt}
-use Rattle.definitions.proofs.ListLaws.{decide}
+use Rattle.definitions.proofs.ListLaws.{any-agree, decide}
 use Rattle.definitions.proofs.Walks.{left-here, any-on, any-end}
 use Rattle.judge.specs.Judging.{flagMore}
 use Rattle.judge.proofs.Flagged.{flag-set, flag-stay, flag-end}
-use Rattle.judge.proofs.Violations.{any-agree}
 use Rattle.clause_set.specs.Put.{putAll}
 use Rattle.next_set.specs.Build.{failsBelow, someFails, addedBy}
 use Rattle.next_set.specs.Post.{FlagsAdded, FailuresNoted}
@@ -179,7 +178,9 @@ module _ (t : Task) (C : List (List ℕ)) where
               ∙ rw (other-operator C sizes fails i j k (λ e. omega arith) low high) (b .left i k (omega arith) low high (rw same at room));
         }
       where
-        here : (i k : ℕ) → 1 ≤ k → k ≤ width → width * i + k < length due → (i < j) ⊎ (i ≡ j) → has due′ (width * i + k) ≡ someFails t C k (operatorAt t i)
+        here :
+            (i k : ℕ) → 1 ≤ k → k ≤ width → width * i + k < length due → (i < j) ⊎ (i ≡ j)
+            → has due′ (width * i + k) ≡ someFails t C k (operatorAt t i)
         here i k low high room (inl h) =
             a .noted (width * i + k) room ∙ rw (other-operator C sizes fails i j k (λ e. omega arith) low high) (b .done i k h low high room)
         here i k low high room (inr e) =

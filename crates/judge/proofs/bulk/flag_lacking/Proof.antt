@@ -7,7 +7,7 @@ use native.Mathlib.Omega.{arith}
 use lib.ListN.{length, take, drop, length-set}
 use borrow.Author.Tests.{not-true, not-false}
 use Rattle.clause.specs.Rows.{rowCount, clausesOf}
-use Rattle.judge.specs.Judging.{lacksOther, flagMore}
+use Rattle.judge.specs.Judging.{lacksFlag, flagMore}
 use Rattle.clause.proofs.RowLaws.{clauses-length}
 use Rattle.judge.proofs.Rows.{clause-read}
 use Rattle.judge.proofs.Flagged.{flag-set, flag-stay, flag-end}
@@ -18,7 +18,7 @@ use Rattle.judge.proofs.bulk.flag_lacking.Tie as tie
 abbrev Inv-loop : tie.InvT-loop
 Inv-loop judged l flags fails₀ count i₀ fails i =
     (i ≤ count) × (count ≡ rowCount judged) × (length fails ≡ count) × (length fails ≡ length fails₀) ×
-    (flagMore (lacksOther l flags) (clausesOf judged) fails₀ ≡ take i fails ++ flagMore (lacksOther l flags) (drop i (clausesOf judged)) (drop i fails))
+    (flagMore (lacksFlag l flags) (clausesOf judged) fails₀ ≡ take i fails ++ flagMore (lacksFlag l flags) (drop i (clausesOf judged)) (drop i fails))
 
 abbrev μ-loop : tie.MeasureT-loop
 μ-loop judged l flags fails₀ count i₀ fails i = count - i
@@ -66,8 +66,8 @@ add-i c = search needs
 row-requires : tie.Need-row-requires Inv-loop μ-loop
 row-requires c κs = omega (arith, c .before .loop .inv .1)
 
-lacks-other-requires : tie.Need-lacks-other-requires Inv-loop μ-loop
-lacks-other-requires c κs = search needs
+lacks-flag-requires : tie.Need-lacks-flag-requires Inv-loop μ-loop
+lacks-flag-requires c κs = search needs
 
 loop-less : tie.Need-loop-less Inv-loop μ-loop
 loop-less c = search needs
@@ -82,11 +82,11 @@ loop-again c =
       i .2,
       i .3,
       i .4
-          ∙ flag-stay (lacksOther _ _) (clausesOf w) _ _ _
+          ∙ flag-stay (lacksFlag _ _) (clausesOf w) _ _ _
           (clause-read w _ _ _ h (c .before .before .row .ensures) refl)
           (omega (arith, clauses-length w))
           (omega (arith, i .2))
-          (sym (c .before .lacks-other .ensures) ∙ not-true _ (c .if1 .taken)),
+          (sym (c .before .lacks-flag .ensures) ∙ not-true _ (c .if1 .taken)),
     )
 
 slice-write-fails : tie.Need-slice-write-fails Inv-loop μ-loop
@@ -105,11 +105,11 @@ loop-again-2 c =
       simp length-set (i .2),
       simp length-set (i .3),
       i .4
-          ∙ flag-set (lacksOther _ _) (clausesOf w) _ _ _
+          ∙ flag-set (lacksFlag _ _) (clausesOf w) _ _ _
           (clause-read w _ _ _ h (c .before .before .row .ensures) refl)
           (omega (arith, clauses-length w))
           (omega (arith, i .2))
-          (sym (c .before .lacks-other .ensures) ∙ not-false _ (c .if1 .left)),
+          (sym (c .before .lacks-flag .ensures) ∙ not-false _ (c .if1 .left)),
     )
 
 same-length : tie.Need-same-length Inv-loop μ-loop
@@ -119,7 +119,7 @@ returns : tie.Need-returns Inv-loop μ-loop
 returns c =
     let i = c .before .loop .inv in
     let w = now (at-start-from-after-loop c .args .judged) in
-    sym (i .4 ∙ flag-end (lacksOther _ _) (clausesOf w) (c .before .loop .fails) (c .before .loop .i) (omega (arith, i .1, clauses-length w)))
+    sym (i .4 ∙ flag-end (lacksFlag _ _) (clausesOf w) (c .before .loop .fails) (c .before .loop .i) (omega (arith, i .1, clauses-length w)))
 
 pub flag-lacking-spec : {M : Type 1} → statement M
 flag-lacking-spec =
@@ -131,7 +131,7 @@ flag-lacking-spec =
     loop-holds
     add-i
     row-requires
-    lacks-other-requires
+    lacks-flag-requires
     loop-less
     loop-again
     slice-write-fails

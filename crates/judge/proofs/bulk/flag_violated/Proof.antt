@@ -6,7 +6,7 @@ use native.Mathlib.Omega.{arith}
 use lib.ListN.{length}
 use lib.Seq.{length-take-le}
 use Rattle.clause.specs.Rows.{clausesOf}
-use Rattle.judge.specs.Judging.{lacksOther, flagMore}
+use Rattle.judge.specs.Judging.{lacksFlag, flagMore}
 use Rattle.judge.proofs.Parts.{CameBack, came-back}
 use borrow.Author.Needs.{needs}
 use Rattle.judge.proofs.bulk.flag_violated.Statement.{statement}
@@ -71,7 +71,7 @@ returns c =
     let d = flagged-from-flag-lacking l in
     let a = start (d .before) .args in
     λ ls closed. l .flag-lacking .ensures
-    ∙ ap (λ G. flagMore (lacksOther (a .l) G) (clausesOf (a .judged .now)) (a .fails .now)) (back d .part ∙ d .flag-guaranteed .ensures ls closed)
+    ∙ ap (λ G. flagMore (lacksFlag (a .l) G) (clausesOf (a .judged .now)) (a .fails .now)) (back d .part ∙ d .flag-guaranteed .ensures ls closed)
 
 pub flag-violated-spec : {M : Type 1} → statement M
 flag-violated-spec =

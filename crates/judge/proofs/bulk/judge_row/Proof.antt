@@ -4,8 +4,8 @@ use denote.Ref.{now}
 use native.Mathlib.Omega.{arith}
 use Rattle.clause.specs.Rows.{clausesOf}
 use Rattle.propagation.proofs.Marks.{marked-room, says-consistent, says-contradictory}
-use Rattle.judge.specs.Judging.{lacksOther, flagMore}
-use Rattle.judge.proofs.Closures.{closure-consistent, closure-says, closure-copied, closure-with}
+use Rattle.judge.specs.Judging.{lacksFlag, flagMore}
+use Rattle.judge.proofs.Closures.{within-rows, closure-consistent, closure-says, closure-copied, closure-with}
 use Rattle.judge.proofs.RowWalk.{judged-low, row-contradictory, row-judged}
 use borrow.Author.Needs.{needs}
 use Rattle.judge.proofs.bulk.judge_row.Statement.{statement}
@@ -123,15 +123,15 @@ same-length c = search needs
 
 returns : tie.Need-returns
 returns c =
-    λ e el.
+    λ e el there.
     let a = at-start-from-slice-known3 c .args in
     let p = at-start-from-slice-known3 c .pre in
     let held =
     sym (after-holds-all-from-slice-known3 c .holds-all .ensures _ _ (p .0 .closed .marked) (p .1 .below))
     ∙ then1 (after-flag-lacking-arg c) .if1 .taken in
     let closed = closure-with _ _ _ _ (p .0 .given .rows) _ held (p .0 .closed) in
-    row-judged _ _ _ _ e _ _ (judged-low _ _ (p .0 .judged)) (closed .consistent) _ _ el
-    (c .before .before .flag-lacking .ensures ∙ ap (λ G. flagMore (lacksOther (a .l) G) (clausesOf (now (a .judged))) (now (a .fails))) (p .2 _ closed))
+    row-judged _ _ _ _ e _ _ (within-rows (p .0 .given .rows)) (p .1 .below) (judged-low _ _ (p .0 .judged)) (closed .consistent) _ _ el there
+    (c .before .before .flag-lacking .ensures ∙ ap (λ G. flagMore (lacksFlag (a .l) G) (clausesOf (now (a .judged))) (now (a .fails))) (p .2 _ closed))
 
 copy-requires : tie.Need-copy-requires
 copy-requires c κs = let p = at-start-from-copy-arg c .pre in (marked-room _ _ _ (p .0 .closed .marked), p .1 .room)
@@ -161,7 +161,7 @@ same-length-2 c = search needs
 
 returns-2 : tie.Need-returns-2
 returns-2 c =
-    λ e el.
+    λ e el there.
     let p = at-start-from-enum-told c .pre in
     let k = after-extend (after-marks2-of-enum-told c) .extend .ensures .1 _ (after-copy-from-enum-told c .copy .ensures .1 _ (p .0 .closed .marked)) in
     row-contradictory _ _ _ _ e _ _ (says-contradictory _ _ _ _ _ k (c .enum-told .given .1))
@@ -174,11 +174,12 @@ same-length-4 c = search needs
 
 returns-3 : tie.Need-returns-3
 returns-3 c =
-    λ e el.
+    λ e el there.
     let p = at-start-from-slice-known6 c .pre in
     let k = after-extend-from-slice-known6 c .extend .ensures .1 _ (after-copy-from-slice-known6 c .copy .ensures .1 _ (p .0 .closed .marked)) in
     let closed = closure-says _ _ _ _ (says-consistent _ _ _ _ _ k (after-enum-told2 (after-flag-violated-arg2 c) .enum-told2 .given .1)) in
-    row-judged _ _ _ _ e _ _ (judged-low _ _ (p .0 .judged)) (closed .consistent) _ _ el (c .before .before .flag-violated .ensures _ closed)
+    row-judged _ _ _ _ e _ _ (within-rows (p .0 .given .rows)) (p .1 .below) (judged-low _ _ (p .0 .judged)) (closed .consistent) _ _ el there
+    (c .before .before .flag-violated .ensures _ closed)
 
 pub judge-row-spec : {M : Type 1} → statement M
 judge-row-spec =

@@ -7,7 +7,7 @@ use Rattle.clause.specs.Rows.{clausesOf}
 use Rattle.task.specs.Walk.{operatorIn, rowsAt}
 use Rattle.task.proofs.Blocks.{rows-none}
 use Rattle.judge.specs.Judging.{someViolates, flagMore}
-use Rattle.judge.proofs.BlockRows.{Left, left-start, left-next, effect-low, conditions-low}
+use Rattle.judge.proofs.BlockRows.{Left, left-start, left-next, row-among, effect-low, conditions-low}
 use Rattle.judge.proofs.RowWalk.{walk-start, walk-on, walk-passed, walk-end}
 use borrow.Author.Needs.{needs}
 use Rattle.judge.proofs.bulk.judge_rows.Statement.{statement}
@@ -178,7 +178,9 @@ loop-again-2 c =
       k .kept .1 .1 .1 .1 .1 .1 .1 .0 ∙ i .0,
       k .kept .1 .1 .1 .1 .1 .1 .1 .1 .1 .0 ∙ i .1,
       left-next _ _ _ _ _ _ _ (i .2) r,
-      i .3 ∙ walk-on _ _ _ _ _ _ _ _ _ (r .row) _ (k .ensures _ (after-complement-from-slice-known4 c .complement .ensures)),
+      i .3
+          ∙ walk-on _ _ _ _ _ _ _ _ _ (r .row) _
+          (k .ensures _ (after-complement-from-slice-known4 c .complement .ensures) (row-among _ _ _ _ _ _ _ (i .2) r)),
     )
 
 same-length : tie.Need-same-length Inv-loop μ-loop

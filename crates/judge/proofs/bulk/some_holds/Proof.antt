@@ -15,7 +15,8 @@ use Rattle.judge.proofs.bulk.some_holds.Statement.{statement}
 use Rattle.judge.proofs.bulk.some_holds.Tie as tie
 
 abbrev Inv-loop : tie.InvT-loop
-Inv-loop judged l count i₀ i = (i ≤ count) × (count ≡ rowCount judged) × (any (member l) (clausesOf judged) ≡ any (member l) (drop i (clausesOf judged)))
+Inv-loop judged l count i₀ i =
+    (i ≤ count) × (count ≡ rowCount judged) × (any (member l) (clausesOf judged) ≡ any (member l) (drop i (clausesOf judged)))
 
 abbrev μ-loop : tie.MeasureT-loop
 μ-loop judged l count i₀ i = count - i
