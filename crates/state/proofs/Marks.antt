@@ -1,32 +1,37 @@
 -- Laws of the marks: their walks, and that they are the effects of the fired rows. Assumes nothing.
 use mathlib.Core.Path.{_≡_, refl, sym, ap, _∙_}
-use mathlib.Core.List.{List, [], _∷_, map, List·Memᴰ, List·Memᴰ·head, List·Memᴰ·tail}
-use mathlib.Core.Bool.{Bool, true, false, cond, not, _&&_, _||_, or-false, or-true, or-assoc}
-use Prim.Native.Nat.{ℕ, zero, suc, _+_, _-_, _*_, _≤_, _<_}
+use mathlib.Core.List.{List, [], _∷_, map}
+use mathlib.Core.Bool.{Bool, true, false, cond, Bool·beq, _&&_, _||_, and-true, and-false, or-false, or-true, or-assoc}
+use Prim.Native.Nat.{ℕ, zero, suc, _+_, _*_, _≤_, _<_}
 use native.Mathlib.Numerals.{add-one}
 use native.Mathlib.Nat.{not-suc-le-zero, le-of-suc-le-suc}
 use native.Mathlib.Omega.{arith}
-use lib.ListN.{length, getD, take, drop, set, drop-of-length-le, List·getD-eq-default, length-set, replicate, length-replicate, getD-replicate}
+use lib.ListN.{length, getD, take, drop, set, drop-of-length-le, length-set, replicate, length-replicate, getD-replicate}
 use lib.Seq.{drop-cons, getD-set-same, getD-set-other, ext-getD}
-use lib.Dec.{ltb, eqb}
-use borrow.Author.Tests.{eq-eqb, eqb-true, eqb-false, ltb-true, ltb-false}
-use Rattle.definitions.specs.Lists.{any, all, keep, below, member}
-use Rattle.definitions.specs.Literal.{atom, positive, complement, literalList, stateOf}
-use Rattle.definitions.specs.Image.{Row, Operator, Task, initialState, rowRight, operatorRight}
-use Rattle.definitions.specs.Step.{fires, effects, conflict, after, result}
+use lib.Dec.{eqb}
+use borrow.Author.Tests.{eq-eqb, eqb-true, eqb-false}
+use Rattle.definitions.specs.Lists.{any, keep, below, member}
+use Rattle.definitions.specs.Literal.{atom, positive, stateOf}
+use Rattle.definitions.specs.Image.{Row, Operator, Task, initialState}
+use Rattle.definitions.specs.Step.{fires, effects, after, result}
 use Rattle.definitions.specs.Closure.{has}
-use Rattle.definitions.proofs.ListLaws.{never, and-left, and-right, and-both, or-false-left, or-false-right, any-in, any-of, all-at}
-use Rattle.definitions.proofs.ListLaws.{keep-of, member-in, member-of, map-of, table-at, table-length}
-use Rattle.definitions.proofs.LiteralLaws.{Shape, is, isnt, shape, atom-even, atom-odd, complement-low}
-use Rattle.definitions.proofs.EncodeLaws.{same-bool}
+use Rattle.definitions.proofs.ListLaws.{and-left, or-false-left, or-false-right, member-in, map-in, table-at, table-length}
+use Rattle.definitions.proofs.LiteralLaws.{Shape, is, isnt, shape, atom-even, atom-odd, positive-even, positive-odd}
+use Rattle.definitions.proofs.StepLaws.{fired-of, value-at}
+use Rattle.literal.specs.Literal.{literalOf}
 use Rattle.literal.specs.Mark.{markIf}
 use Rattle.literal.proofs.Mark.{mark-length}
-use Rattle.state.specs.Marks.{markFired, bothMarked, conflictIn, makeTrue, changed, unmarked, Settled, setTrue}
+use Rattle.state.specs.Marks.{markFired, due, makeTrue, changed, unmarked, setTrue}
+
+-- the effects of rows, fired or not
+abbrev effectsOf : List Row → List ℕ
+effectsOf rows = map (λ r. r .effect) rows
 
 -- ---- marking
 -- one row of the walk, and the end
 pub fired-next :
-    (s : List ℕ) (rows rest : List Row) (r : Row) (t : Bool) (m m′ : List ℕ) → rows ≡ r ∷ rest → t ≡ fires s r → m′ ≡ markIf t m (r .effect)
+    (s : List ℕ) (rows rest : List Row) (r : Row) (t : Bool) (m m′ : List ℕ)
+    → rows ≡ r ∷ rest → t ≡ fires s r → m′ ≡ markIf t m (r .effect)
     → markFired s rows m ≡ markFired s rest m′
 fired-next s rows rest r t m m′ er et em = rw (er, em, et)
 
@@ -54,17 +59,17 @@ set-has m e l h = go (eqb l e) refl
 -- a mark is set where it was set before, or a row with that effect fires
 fired-has :
     (s : List ℕ) (rows : List Row) (m : List ℕ) (l : ℕ) → l < length m
-    → has (markFired s rows m) l ≡ (has m l || member l (map (λ r. r .effect) (keep (fires s) rows)))
+    → has (markFired s rows m) l ≡ (has m l || member l (effectsOf (keep (fires s) rows)))
 unfolding keep member any
 fired-has s [] m l h = sym (or-false (has m l))
 fired-has s (r ∷ rows) m l h = go (fires s r) refl (λ m h. fired-has s rows m l h)
   where
     more : List ℕ
-    more = map (λ q. q .effect) (keep (fires s) rows)
+    more = effectsOf (keep (fires s) rows)
 
     go :
         (b : Bool) → fires s r ≡ b → ((m : List ℕ) → l < length m → has (markFired s rows m) l ≡ (has m l || member l more))
-        → has (markFired s rows (markIf (fires s r) m (r .effect))) l ≡ (has m l || member l (map (λ q. q .effect) (keep (fires s) (r ∷ rows))))
+        → has (markFired s rows (markIf (fires s r) m (r .effect))) l ≡ (has m l || member l (effectsOf (keep (fires s) (r ∷ rows))))
     go true e rec =
         rw (e, keep)
         (rec (set m (r .effect) 1) (rw (length-set m (r .effect) 1) h)
@@ -72,109 +77,126 @@ fired-has s (r ∷ rows) m l h = go (fires s r) refl (λ m h. fired-has s rows m
         ∙ or-assoc (has m l) (eqb l (r .effect)) (member l more))
     go false e rec = rw (e, keep) (rec m h)
 
--- ---- conflict, change and unmarking: one row of each walk, and the end
+-- ---- change and unmarking: one row of each walk, and the end
 module _ (m : List ℕ) (rows rest : List Row) (r : Row) (er : rows ≡ r ∷ rest) where
-  pub conflict-found : (b : Bool) → b ≡ bothMarked m (r .effect) → b ≡ true → conflictIn m rows ≡ true
-  unfolding conflictIn any
-  conflict-found b eb e = rw (er, ← eb, e)
-
-  pub conflict-on : (b : Bool) → b ≡ bothMarked m (r .effect) → b ≡ false → conflictIn m rows ≡ conflictIn m rest
-  unfolding conflictIn any
-  conflict-on b eb e = rw (er, ← eb, e)
-
-  pub changed-next : (s s′ : List ℕ) (b : Bool) → b ≡ has m (r .effect) → s′ ≡ makeTrue b s (r .effect) → changed m rows s ≡ changed m rest s′
-  changed-next s s′ b eb es = rw (er, es, eb)
+  pub changed-next :
+      (adds : Bool) (s s′ : List ℕ) (b : Bool) → b ≡ due m adds (r .effect) → s′ ≡ makeTrue b s (r .effect)
+      → changed m adds rows s ≡ changed m adds rest s′
+  changed-next adds s s′ b eb es = rw (er, es, eb)
 
   pub unmarked-next : (m′ : List ℕ) → m′ ≡ set m (r .effect) 0 → unmarked rows m ≡ unmarked rest m′
   unmarked-next m′ em = rw (er, em)
 
 module _ (m : List ℕ) (rows : List Row) (er : rows ≡ []) where
-  pub conflict-end : conflictIn m rows ≡ false
-  unfolding conflictIn any
-  conflict-end = rw er
-
-  pub changed-end : (s : List ℕ) → changed m rows s ≡ s
-  changed-end s = rw er
+  pub changed-end : (adds : Bool) (s : List ℕ) → changed m adds rows s ≡ s
+  changed-end adds s = rw er
 
   pub unmarked-end : unmarked rows m ≡ m
   unmarked-end = rw er
 
-pub both-off : (m : List ℕ) (l : ℕ) → has m l ≡ false → false ≡ bothMarked m l
-unfolding bothMarked
-both-off m l e = rw e
+-- the test of one effect, by the sign p of its literal
+module _ (m : List ℕ) (adds : Bool) (l : ℕ) (p : Bool) (ep : p ≡ positive l) where
+  pub due-not : Bool·beq p adds ≡ false → false ≡ due m adds l
+  unfolding due
+  due-not e = rw (← ep, e)
 
-pub both-on : (m : List ℕ) (l : ℕ) (r : Bool) → has m l ≡ true → r ≡ has m (complement l) → r ≡ bothMarked m l
-unfolding bothMarked
-both-on m l r e f = rw (e, f)
-
--- a marked literal is one of the marks
-pub has-low : (m : List ℕ) (l : ℕ) → has m l ≡ true → l < length m
-unfolding has
-has-low m l e = go (ltb l (length m)) refl
-  where
-    go : (b : Bool) → ltb l (length m) ≡ b → l < length m
-    go true h = ltb-true l (length m) h
-    go false h =
-        let x : getD m l 0 ≡ 0 = List·getD-eq-default m 0 (ltb-false l (length m) h) in
-        let y : getD m l 0 ≡ 1 = eqb-true (getD m l 0) 1 e in
-        absurd (omega arith)
+  pub due-has : Bool·beq p adds ≡ true → (b : Bool) → b ≡ has m l → b ≡ due m adds l
+  unfolding due
+  due-has e b eb = rw (← ep, e, eb)
 
 make-length : (b : Bool) (s : List ℕ) (l : ℕ) → length (makeTrue b s l) ≡ length s
 make-length true s l = length-set s (atom l) (cond (positive l) 1 0)
 make-length false s l = refl
 
-changed-length : (m : List ℕ) (rows : List Row) (s : List ℕ) → length (changed m rows s) ≡ length s
-changed-length m [] s = refl
-changed-length m (r ∷ rows) s = changed-length m rows (makeTrue (has m (r .effect)) s (r .effect)) ∙ make-length (has m (r .effect)) s (r .effect)
+-- ---- what one pass over the rows makes of atom a
+literal-atom : (a : ℕ) (b : Bool) → atom (literalOf a b) ≡ a
+literal-atom a true = atom-even a
+literal-atom a false = atom-odd a
 
--- some row has a marked effect on atom a
-touches : List ℕ → ℕ → List Row → Bool
-touches m a rows = any (λ r. has m (r .effect) && eqb (atom (r .effect)) a) rows
+literal-positive : (a : ℕ) (b : Bool) → positive (literalOf a b) ≡ b
+literal-positive a true = positive-even a
+literal-positive a false = positive-odd a
 
--- the value that an atom gets where every marked effect on it gives value v
-module _ (m : List ℕ) (a v : ℕ) where
-  changed-at :
-      (rows : List Row) (s : List ℕ) → a < length s
-      → ((r : Row) → List·Memᴰ r rows → has m (r .effect) ≡ true → atom (r .effect) ≡ a → cond (positive (r .effect)) 1 0 ≡ v)
-      → getD (changed m rows s) a 0 ≡ cond (touches m a rows) v (getD s a 0)
-  unfolding touches any
-  changed-at [] s low gives = refl
-  changed-at (r ∷ rows) s low gives = go (has m (r .effect)) refl (λ s low. changed-at rows s low (λ q k. gives q (List·Memᴰ·tail k)))
-    where
-      same : (t : Bool) → cond t v v ≡ v
-      same true = refl
-      same false = refl
+literal-same : (l : ℕ) → literalOf (atom l) (positive l) ≡ l
+literal-same l = go (shape l)
+  where
+    go : Shape l → literalOf (atom l) (positive l) ≡ l
+    go (is l a e x y c) = rw (x, y) (sym e)
+    go (isnt l a e x y c) = rw (x, y) (sym e)
 
-      hit :
-          (b : Bool) → eqb (atom (r .effect)) a ≡ b → has m (r .effect) ≡ true
-          → ((s : List ℕ) → a < length s → getD (changed m rows s) a 0 ≡ cond (touches m a rows) v (getD s a 0))
-          → getD (changed m rows (makeTrue true s (r .effect))) a 0 ≡ cond (eqb (atom (r .effect)) a || touches m a rows) v (getD s a 0)
-      hit true e h rec =
-          let p : atom (r .effect) ≡ a = eqb-true (atom (r .effect)) a e in
-          let x : getD (set s (atom (r .effect)) (cond (positive (r .effect)) 1 0)) a 0 ≡ v =
-          ap (λ (k : ℕ). getD (set s k (cond (positive (r .effect)) 1 0)) a 0) p
-          ∙ getD-set-same s a (cond (positive (r .effect)) 1 0) 0 low
-          ∙ gives r (List·Memᴰ·head refl) h p in
-          rec (makeTrue true s (r .effect)) (rw (make-length true s (r .effect)) low) ∙ rw (x, e) (same (touches m a rows))
-      hit false e h rec =
-          rec (makeTrue true s (r .effect)) (rw (make-length true s (r .effect)) low)
-          ∙ rw (e, getD-set-other s (atom (r .effect)) a (cond (positive (r .effect)) 1 0) 0 (λ q. eqb-false (atom (r .effect)) a e (sym q)))
+same-sign : (a b : Bool) → Bool·beq a b ≡ true → a ≡ b
+same-sign true true e = refl
+same-sign false false e = refl
+same-sign true false e = sym e
+same-sign false true e = e
 
-      go :
-          (b : Bool) → has m (r .effect) ≡ b → ((s : List ℕ) → a < length s → getD (changed m rows s) a 0 ≡ cond (touches m a rows) v (getD s a 0))
-          → getD (changed m rows (makeTrue (has m (r .effect)) s (r .effect))) a 0 ≡ cond
-          ((has m (r .effect) && eqb (atom (r .effect)) a) || touches m a rows) v (getD s a 0)
-      go true h rec = rw h (hit (eqb (atom (r .effect)) a) refl h rec)
-      go false h rec = rw h (rec s low)
+beq-self : (b : Bool) → Bool·beq b b ≡ true
+beq-self true = refl
+beq-self false = refl
+
+module _ (m : List ℕ) (adds : Bool) where
+  changed-length : (rows : List Row) (s : List ℕ) → length (changed m adds rows s) ≡ length s
+  changed-length [] s = refl
+  changed-length (r ∷ rows) s =
+      changed-length rows (makeTrue (due m adds (r .effect)) s (r .effect)) ∙ make-length (due m adds (r .effect)) s (r .effect)
+
+  module _ (a : ℕ) where
+    -- the literal of a that this pass makes true, and the value that a then has
+    abbrev own : ℕ
+    own = literalOf a adds
+
+    abbrev value : ℕ
+    value = cond adds 1 0
+
+    -- one effect
+    made-at : (e : ℕ) (s : List ℕ) → a < length s → getD (makeTrue (due m adds e) s e) a 0 ≡ cond (has m own && eqb own e) value (getD s a 0)
+    unfolding due
+    made-at e s low = go (eqb own e) refl
+      where
+        own-made : (b : Bool) → getD (makeTrue b s own) a 0 ≡ cond b value (getD s a 0)
+        own-made true =
+            ap (λ (b : Bool). getD (set s (atom own) (cond b 1 0)) a 0) (literal-positive a adds)
+            ∙ ap (λ (k : ℕ). getD (set s k value) a 0) (literal-atom a adds)
+            ∙ getD-set-same s a value 0 low
+        own-made false = refl
+
+        other-made : (b : Bool) → due m adds e ≡ b → eqb own e ≡ false → getD (makeTrue b s e) a 0 ≡ getD s a 0
+        other-made true h n =
+            let sign = same-sign (positive e) adds (and-left (Bool·beq (positive e) adds) (has m e) h) in
+            getD-set-other s (atom e) a (cond (positive e) 1 0) 0
+            (λ q. eqb-false own e n (ap (λ (k : ℕ). literalOf k adds) q ∙ ap (literalOf (atom e)) (sym sign) ∙ literal-same e))
+        other-made false h n = refl
+
+        go : (b : Bool) → eqb own e ≡ b → getD (makeTrue (due m adds e) s e) a 0 ≡ cond (has m own && b) value (getD s a 0)
+        go true q = rw (← eqb-true own e q, literal-positive a adds, beq-self adds, and-true (has m own)) (own-made (has m own))
+        go false q = rw (and-false (has m own)) (other-made (due m adds e) refl q)
+
+    -- all rows
+    changed-at :
+        (rows : List Row) (s : List ℕ) → a < length s
+        → getD (changed m adds rows s) a 0 ≡ cond (has m own && member own (effectsOf rows)) value (getD s a 0)
+    unfolding member any
+    changed-at [] s low = rw (and-false (has m own))
+    changed-at (r ∷ rows) s low =
+        let e = r .effect in
+        changed-at rows (makeTrue (due m adds e) s e) (rw (make-length (due m adds e) s e) low)
+        ∙ ap (cond (has m own && member own (effectsOf rows)) value) (made-at e s low)
+        ∙ either (has m own) (eqb own e) (member own (effectsOf rows)) (getD s a 0)
+      where
+        either : (h b t : Bool) (x : ℕ) → cond (h && t) value (cond (h && b) value x) ≡ cond (h && (b || t)) value x
+        either false b t x = refl
+        either true false t x = refl
+        either true true true x = refl
+        either true true false x = refl
 
 -- what is left of the marks at l, where the rows' effects are cleared
-unmarked-at : (rows : List Row) (m : List ℕ) (l : ℕ) → l < length m → getD (unmarked rows m) l 0 ≡ cond (member l (map (λ r. r .effect) rows)) 0 (getD m l 0)
+unmarked-at : (rows : List Row) (m : List ℕ) (l : ℕ) → l < length m → getD (unmarked rows m) l 0 ≡ cond (member l (effectsOf rows)) 0 (getD m l 0)
 unfolding member any
 unmarked-at [] m l h = refl
 unmarked-at (r ∷ rows) m l h = go (eqb l (r .effect)) refl (unmarked-at rows (set m (r .effect) 0) l (rw (length-set m (r .effect) 0) h))
   where
     es : List ℕ
-    es = map (λ q. q .effect) rows
+    es = effectsOf rows
 
     same : (t : Bool) → _≡_ {A = ℕ} (cond t 0 0) 0
     same true = refl
@@ -193,22 +215,24 @@ unmarked-length : (rows : List Row) (m : List ℕ) → length (unmarked rows m) 
 unmarked-length [] m = refl
 unmarked-length (r ∷ rows) m = unmarked-length rows (set m (r .effect) 0) ∙ length-set m (r .effect) 0
 
-fired-value : (s : List ℕ) (rows : List Row) (m : List ℕ) (l : ℕ) → (member l (map (λ r. r .effect) rows) ≡ false) → getD (markFired s rows m) l 0 ≡ getD m l 0
+fired-value :
+    (s : List ℕ) (rows : List Row) (m : List ℕ) (l : ℕ) → member l (effectsOf rows) ≡ false
+    → getD (markFired s rows m) l 0 ≡ getD m l 0
 unfolding member any
 fired-value s [] m l h = refl
 fired-value s (r ∷ rows) m l h =
-    fired-value s rows (markIf (fires s r) m (r .effect)) l (or-false-right (eqb l (r .effect)) (member l (map (λ q. q .effect) rows)) h)
+    fired-value s rows (markIf (fires s r) m (r .effect)) l (or-false-right (eqb l (r .effect)) (member l (effectsOf rows)) h)
     ∙ go (fires s r)
   where
     go : (b : Bool) → getD (markIf b m (r .effect)) l 0 ≡ getD m l 0
-    go true = getD-set-other m (r .effect) l 1 0 (eqb-false l (r .effect) (or-false-left (eqb l (r .effect)) (member l (map (λ q. q .effect) rows)) h))
+    go true = getD-set-other m (r .effect) l 1 0 (eqb-false l (r .effect) (or-false-left (eqb l (r .effect)) (member l (effectsOf rows)) h))
     go false = refl
 
 -- marking and unmarking leaves no mark
 pub marks-gone : (s : List ℕ) (rows : List Row) (n : ℕ) → unmarked rows (markFired s rows (replicate n 0)) ≡ replicate n 0
 marks-gone s rows n =
     ext-getD 0 (unmarked rows m) z (unmarked-length rows m ∙ fired-length s rows z)
-    (λ l h. at l (let e = unmarked-length rows m in omega arith) (member l (map (λ r. r .effect) rows)) refl)
+    (λ l h. at l (let e = unmarked-length rows m in omega arith) (member l (effectsOf rows)) refl)
   where
     z : List ℕ
     z = replicate n 0
@@ -216,139 +240,61 @@ marks-gone s rows n =
     m : List ℕ
     m = markFired s rows z
 
-    at : (l : ℕ) → l < length m → (b : Bool) → member l (map (λ r. r .effect) rows) ≡ b → getD (unmarked rows m) l 0 ≡ getD z l 0
+    at : (l : ℕ) → l < length m → (b : Bool) → member l (effectsOf rows) ≡ b → getD (unmarked rows m) l 0 ≡ getD z l 0
     at l h true e =
         let low : l < n = let x = fired-length s rows z in let y = length-replicate {A = ℕ} n 0 in omega arith in
         unmarked-at rows m l h ∙ rw e (sym (getD-replicate n l 0 0 low))
     at l h false e = unmarked-at rows m l h ∙ rw e (fired-value s rows z l e)
 
--- ---- the marks of an operator, from none
-module _ (N : ℕ) (s : List ℕ) (o : Operator) (m : List ℕ) (em : m ≡ markFired s (o .rows) (replicate (2 * N) 0)) where
-  pub marks-length : length m ≡ 2 * N
-  marks-length = ap length em ∙ fired-length s (o .rows) (replicate (2 * N) 0) ∙ length-replicate (2 * N) 0
-
-  marks-has : (l : ℕ) → l < 2 * N → has m l ≡ member l (effects s o)
+-- ---- the marks of an operator, from none: first the deletes and then the adds made true is the step
+module _ (s : List ℕ) (o : Operator) (m : List ℕ) (em : m ≡ markFired s (o .rows) (replicate (2 * length s) 0)) where
+  marks-has : (l : ℕ) → l < 2 * length s → has m l ≡ member l (effects s o)
   unfolding effects has
   marks-has l h =
       ap (λ (z : List ℕ). eqb (getD z l 0) 1) em
-      ∙ fired-has s (o .rows) (replicate (2 * N) 0) l (rw length-replicate h)
-      ∙ ap (λ (x : ℕ). eqb x 1 || member l (map (λ r. r .effect) (keep (fires s) (o .rows)))) (getD-replicate (2 * N) l 0 0 h)
+      ∙ fired-has s (o .rows) (replicate (2 * length s) 0) l (rw length-replicate h)
+      ∙ ap (λ (x : ℕ). eqb x 1 || member l (effectsOf (keep (fires s) (o .rows)))) (getD-replicate (2 * length s) l 0 0 h)
 
-  module _ (right : operatorRight N o ≡ true) where
-    row-low : (r : Row) → List·Memᴰ r (o .rows) → r .effect < 2 * N
-    unfolding operatorRight rowRight
-    row-low r k =
-        let z = all-at (rowRight N) (and-right (literalList N (o .precondition)) (all (rowRight N) (o .rows)) right) k in
-        ltb-true (r .effect) (2 * N) (and-left (ltb (r .effect) (2 * N)) (literalList N (r .conditions)) z)
+  -- the marked effects of the rows are those that fired
+  marks-fired : (l : ℕ) → l < 2 * length s → (has m l && member l (effectsOf (o .rows))) ≡ member l (effects s o)
+  marks-fired l h = rw (marks-has l h) (go (member l (effects s o)) refl)
+    where
+      go : (b : Bool) → member l (effects s o) ≡ b → (b && member l (effectsOf (o .rows))) ≡ b
+      go true q = let f = fired-of s o l q in rw (f .same) (member-in (map-in (λ r. r .effect) (f .mem)))
+      go false q = refl
 
-    -- a fired effect is that of a row
-    record Source (l : ℕ) : Type 0 where
-      row : Row
-      mem : List·Memᴰ row (o .rows)
-      same : l ≡ row .effect
+  pass-at :
+      (adds : Bool) (t : List ℕ) (a : ℕ) → length t ≡ length s → a < length s
+      → getD (changed m adds (o .rows) t) a 0 ≡ cond (member (literalOf a adds) (effects s o)) (cond adds 1 0) (getD t a 0)
+  pass-at adds t a size h =
+      changed-at m adds a (o .rows) t (omega arith)
+      ∙ ap (λ (b : Bool). cond b (cond adds 1 0) (getD t a 0)) (marks-fired (literalOf a adds) (low adds))
+    where
+      low : (b : Bool) → literalOf a b < 2 * length s
+      low true = omega arith
+      low false = omega arith
 
-    source : (l : ℕ) → member l (effects s o) ≡ true → Source l
-    unfolding effects
-    source l h =
-        let x = map-of (λ r. r .effect) (keep (fires s) (o .rows)) (member-of l _ h) in
-        record { row = x .it; mem = keep-of (fires s) (o .rows) (x .mem) .0; same = x .same }
+  pub marks-result : changed m true (o .rows) (changed m false (o .rows) s) ≡ result s o
+  unfolding result after
+  marks-result =
+      ext-getD 0 (changed m true (o .rows) t) (result s o) (long ∙ sym (table-length (after s (effects s o)) (length s)))
+      (λ a h.
+      let low : a < length s = omega (arith, long) in
+      pass-at true t a size low ∙ ap (cond (member (2 * a) (effects s o)) 1) (pass-at false s a refl low) ∙ sym (value-at s o a low))
+    where
+      t : List ℕ
+      t = changed m false (o .rows) s
 
-    effect-low : (l : ℕ) → member l (effects s o) ≡ true → l < 2 * N
-    effect-low l h = let x = source l h in rw (x .same) (row-low (x .row) (x .mem))
+      size : length t ≡ length s
+      size = changed-length m false (o .rows) s
 
-    -- some atom is both added and deleted
-    pub marks-conflict : conflictIn m (o .rows) ≡ conflict (effects s o)
-    unfolding conflictIn bothMarked conflict
-    marks-conflict = same-bool (conflictIn m (o .rows)) (conflict es) there back
-      where
-        es : List ℕ
-        es = effects s o
-
-        there : conflictIn m (o .rows) ≡ true → conflict es ≡ true
-        there h =
-            let w = any-of (λ r. bothMarked m (r .effect)) (o .rows) h in
-            let e = w .it .effect in
-            let low = row-low (w .it) (w .mem) in
-            let p = sym (marks-has e low) ∙ and-left (has m e) (has m (complement e)) (w .passes) in
-            let q = sym (marks-has (complement e) (complement-low N e low)) ∙ and-right (has m e) (has m (complement e)) (w .passes) in
-            any-in (λ l. member (complement l) es) (member-of e es p) q
-
-        back : conflict es ≡ true → conflictIn m (o .rows) ≡ true
-        back h =
-            let w = any-of (λ l. member (complement l) es) es h in
-            let l = w .it in
-            let inside : member l es ≡ true = member-in (w .mem) in
-            let x = source l inside in
-            let p : has m l ≡ true = marks-has l (effect-low l inside) ∙ inside in
-            let q : has m (complement l) ≡ true = marks-has (complement l) (effect-low (complement l) (w .passes)) ∙ w .passes in
-            any-in (λ r. bothMarked m (r .effect)) (x .mem) (rw (← x .same) (and-both p q))
-
-    -- without conflict, a fired effect gives its atom's value
-    module _ (calm : conflict (effects s o) ≡ false) where
-      es : List ℕ
-      es = effects s o
-
-      not-both : (l : ℕ) → member l es ≡ true → member (complement l) es ≡ true → ⊥
-      unfolding conflict es
-      not-both l p q = never (any-in (λ e. member (complement e) es) (member-of l es p) q) calm
-
-      gives : (l : ℕ) → member l es ≡ true → cond (positive l) 1 0 ≡ after s es (atom l)
-      unfolding after
-      gives l h = go (shape l)
-        where
-          go : Shape l → cond (positive l) 1 0 ≡ after s es (atom l)
-          go (is k a e x y c) = rw (y, x, ← e, h)
-          go (isnt k a e x y c) =
-              let p : member (2 * a) es ≡ false = not-member (2 * a) (λ q. not-both l h (ap (λ (z : ℕ). member z es) c ∙ q)) in
-              rw (y, x, p, ← e, h)
-            where
-              not-member : (z : ℕ) → (member z es ≡ true → ⊥) → member z es ≡ false
-              not-member z n = go′ (member z es) refl
-                where
-                  go′ : (b : Bool) → member z es ≡ b → member z es ≡ false
-                  go′ true q = absurd (n q)
-                  go′ false q = q
-
-      stays : (a : ℕ) → a < N → touches m a (o .rows) ≡ false → getD s a 0 ≡ after s es a
-      unfolding after touches es
-      stays a low h = rw (off (2 * a) (atom-even a) (omega arith), off (2 * a + 1) (atom-odd a) (omega arith))
-        where
-          off : (l : ℕ) → atom l ≡ a → l < 2 * N → member l es ≡ false
-          off l p k = go (member l es) refl
-            where
-              go : (b : Bool) → member l es ≡ b → member l es ≡ false
-              go false q = q
-              go true q =
-                  let x = source l q in
-                  never
-                  (any-in (λ r. has m (r .effect) && eqb (atom (r .effect)) a) (x .mem)
-                  (rw (← x .same) (and-both (marks-has l k ∙ q) (eq-eqb (atom l) a p))))
-                  h
-
-      pub marks-result : length s ≡ N → changed m (o .rows) s ≡ result s o
-      unfolding result es
-      marks-result size =
-          ext-getD 0 (changed m (o .rows) s) (map (after s es) (below (length s)))
-          (changed-length m (o .rows) s ∙ sym (table-length (after s es) (length s)))
-          (λ a h.
-          let l = changed-length m (o .rows) s in
-          let low : a < length s = omega arith in
-          at a low (touches m a (o .rows)) refl ∙ sym (table-at (after s es) (length s) a low))
-        where
-          at : (a : ℕ) → a < length s → (b : Bool) → touches m a (o .rows) ≡ b → getD (changed m (o .rows) s) a 0 ≡ after s es a
-          at a low b e = value ∙ rw e (by b e)
-            where
-              value : getD (changed m (o .rows) s) a 0 ≡ cond (touches m a (o .rows)) (after s es a) (getD s a 0)
-              value =
-                  changed-at m a (after s es a) (o .rows) s low
-                  (λ r k h p. gives (r .effect) (sym (marks-has (r .effect) (row-low r k)) ∙ h) ∙ ap (after s es) p)
-
-              by : (b : Bool) → touches m a (o .rows) ≡ b → cond b (after s es a) (getD s a 0) ≡ after s es a
-              by true e = refl
-              by false e = stays a (omega arith) e
+      long : length (changed m true (o .rows) t) ≡ length s
+      long = changed-length m true (o .rows) t ∙ size
 
 -- ---- the initial state
-pub true-on : (s s′ xs : List ℕ) (i x : ℕ) → i < length xs → x ≡ getD xs i 0 → s′ ≡ set s x 1 → setTrue s (drop i xs) ≡ setTrue s′ (drop (i + 1) xs)
+pub true-on :
+    (s s′ xs : List ℕ) (i x : ℕ) → i < length xs → x ≡ getD xs i 0 → s′ ≡ set s x 1
+    → setTrue s (drop i xs) ≡ setTrue s′ (drop (i + 1) xs)
 true-on s s′ xs i x h ex es = let one = add-one i in rw (drop-cons xs i 0 h, ← ex, es, one)
 
 pub true-end : (s xs : List ℕ) (i : ℕ) → length xs ≤ i → setTrue s (drop i xs) ≡ s
@@ -396,11 +342,3 @@ pub take-zeros : (k n : ℕ) → k ≤ n → take k (replicate {A = ℕ} n 0) �
 take-zeros zero n h = refl
 take-zeros (suc k) zero h = absurd (not-suc-le-zero h)
 take-zeros (suc k) (suc n) h = ap (λ (l : List ℕ). 0 ∷ l) (take-zeros k n (le-of-suc-le-suc h))
-
--- what was settled, by the test for conflict
-module _ (m : List ℕ) (rows : List Row) (s s′ : List ℕ) (b : Bool) (eb : b ≡ conflictIn m rows) where
-  pub settled-not : b ≡ true → Settled m rows s s false
-  settled-not e = record { answer = sym (ap not (sym eb ∙ e)); state = refl }
-
-  pub settled-done : b ≡ false → s′ ≡ changed m rows s → Settled m rows s s′ true
-  settled-done e h = record { answer = sym (ap not (sym eb ∙ e)); state = h }

@@ -1,4 +1,4 @@
-// States of a task: setting to the initial state, steps, goal tests and list runs (questions 1 to 7 and 18 to 21).
+// States of a task: setting to the initial state, steps, goal tests and list runs (questions 1 to 7 and 18 to 20).
 ghost use mathlib.Core.Path.{_≡_};
 ghost use mathlib.Core.Bool.{true};
 ghost use Prim.Native.Nat.{_*_};
@@ -19,7 +19,7 @@ use answer::Refusal;
 use answer::Tested;
 use answer::Verdict;
 
-pub mod effect; // effect.rt: the effects of one operator in a state
+mod effect; // effect.rt: the effects of one operator in a state
 
 // Reads an image and a state: questions 1 to 7 and 18.
 pub fn read_state(image: &[u16], state: &[u8]) -> Verdict
@@ -45,24 +45,26 @@ fn precondition_holds(block: &[u16], state: &[u8]) -> bool
     literal::all_true(state, &block[1..end])
 }
 
-// A step by the block of its operator, with marks that are all zero before and after: questions 20 and 21.
+// A step by the block of its operator, with marks that are all zero before and after: question 20.
 fn step_block(block: &[u16], state: &mut [u8], marks: &mut [u8]) -> Verdict
     requires { ⌜ Applies (now block) (now state) (now marks) ⌝ }
-    ensures { λ r. ⌜ (outcome (verdictAnswer r) (now (state .exit)) ≡ becomes (now (state .entry)) (applied (now (state .entry)) (operatorIn (now (block .entry))))) × (now (marks .exit) ≡ now (marks .entry)) ⌝ }
+    ensures { λ r. ⌜ (outcome (verdictAnswer r) (now (state .exit))
+        ≡ becomes (now (state .entry)) (applied (now (state .entry)) (operatorIn (now (block .entry)))))
+        × (now (marks .exit) ≡ now (marks .entry)) ⌝ }
 {
     if !precondition_holds(block, state) {
         return answer::refuse(Refusal::PRECONDITION);
     }
-    if !effect::apply(block, state, marks) {
-        return answer::refuse(Refusal::CONFLICT);
-    }
+    effect::apply(block, state, marks);
     Verdict::Fine
 }
 
-// A step in a task's state, with marks for its literals that are all zero before and after: questions 19 to 21.
+// A step in a task's state, with marks for its literals that are all zero before and after: questions 19 and 20.
 fn step_marked(image: &[u16], state: &mut [u8], operator: usize, marks: &mut [u8]) -> Verdict
     requires { ⌜ Standing (now image) (now state) × (now marks ≡ replicate (2 * taskOf (now image) .atoms) 0) ⌝ }
-    ensures { λ r. ⌜ (outcome (verdictAnswer r) (now (state .exit)) ≡ becomes (now (state .entry)) (step (taskOf (now (image .entry))) (now (state .entry)) operator)) × (now (marks .exit) ≡ now (marks .entry)) ⌝ }
+    ensures { λ r. ⌜ (outcome (verdictAnswer r) (now (state .exit))
+        ≡ becomes (now (state .entry)) (step (taskOf (now (image .entry))) (now (state .entry)) operator))
+        × (now (marks .exit) ≡ now (marks .entry)) ⌝ }
 {
     if task::operators(image) <= operator {
         return answer::refuse(Refusal::OPERATOR_NUMBER);
@@ -70,10 +72,11 @@ fn step_marked(image: &[u16], state: &mut [u8], operator: usize, marks: &mut [u8
     step_block(task::operator_block(image, operator), state, marks)
 }
 
-// A step in a task's state: questions 19 to 21.
+// A step in a task's state: questions 19 and 20.
 fn step_read(image: &[u16], state: &mut [u8], operator: u16) -> Verdict
     requires { ⌜ Standing (now image) (now state) ⌝ }
-    ensures { λ r. ⌜ outcome (verdictAnswer r) (now (state .exit)) ≡ becomes (now (state .entry)) (step (taskOf (now (image .entry))) (now (state .entry)) operator) ⌝ }
+    ensures { λ r. ⌜ outcome (verdictAnswer r) (now (state .exit))
+        ≡ becomes (now (state .entry)) (step (taskOf (now (image .entry))) (now (state .entry)) operator) ⌝ }
 {
     let mut marks = [0u8; literal::MOST_LITERALS];
     let count = 2 * task::atoms(image);
@@ -82,7 +85,8 @@ fn step_read(image: &[u16], state: &mut [u8], operator: u16) -> Verdict
 
 // A step, done in the lent state.
 pub fn step(image: &[u16], state: &mut [u8], operator: u16) -> Verdict
-    ensures { λ r. ⌜ outcome (verdictAnswer r) (now (state .exit)) ≡ becomes (now (state .entry)) (stepTask (now (image .entry)) (now (state .entry)) operator) ⌝ }
+    ensures { λ r. ⌜ outcome (verdictAnswer r) (now (state .exit))
+        ≡ becomes (now (state .entry)) (stepTask (now (image .entry)) (now (state .entry)) operator) ⌝ }
 {
     let reading = read_state(image, state);
     if let Verdict::Refused(f) = reading {
@@ -91,10 +95,11 @@ pub fn step(image: &[u16], state: &mut [u8], operator: u16) -> Verdict
     step_read(image, state, operator)
 }
 
-// The steps of a list in a task's state, with marks for its literals that are all zero: questions 19 to 21 of each operator of the list.
+// The steps of a list in a task's state, with marks for its literals that are all zero: questions 19 and 20 of each operator of the list.
 fn run_marked(image: &[u16], state: &mut [u8], list: &[u16], marks: &mut [u8]) -> Counted
     requires { ⌜ Standing (now image) (now state) × (now marks ≡ replicate (2 * taskOf (now image) .atoms) 0) ⌝ }
-    ensures { λ r. ⌜ outcome (countAnswer r) (now (state .exit)) ≡ runFrom (step (taskOf (now (image .entry)))) (now (state .entry)) 0 (now (list .entry)) ⌝ }
+    ensures { λ r. ⌜ outcome (countAnswer r) (now (state .exit))
+        ≡ runFrom (step (taskOf (now (image .entry)))) (now (state .entry)) 0 (now (list .entry)) ⌝ }
 {
     let mut steps: usize = 0;
     while steps < list.len() {
@@ -114,10 +119,11 @@ fn run_marked(image: &[u16], state: &mut [u8], list: &[u16], marks: &mut [u8]) -
     Counted::Count(steps)
 }
 
-// The steps of a list in a task's state: questions 19 to 21 of each operator of the list.
+// The steps of a list in a task's state: questions 19 and 20 of each operator of the list.
 fn run_read(image: &[u16], state: &mut [u8], list: &[u16]) -> Counted
     requires { ⌜ Standing (now image) (now state) ⌝ }
-    ensures { λ r. ⌜ outcome (countAnswer r) (now (state .exit)) ≡ runFrom (step (taskOf (now (image .entry)))) (now (state .entry)) 0 (now (list .entry)) ⌝ }
+    ensures { λ r. ⌜ outcome (countAnswer r) (now (state .exit))
+        ≡ runFrom (step (taskOf (now (image .entry)))) (now (state .entry)) 0 (now (list .entry)) ⌝ }
 {
     let mut marks = [0u8; literal::MOST_LITERALS];
     let count = 2 * task::atoms(image);
@@ -167,7 +173,8 @@ pub fn write_initial(image: &[u16], state: &mut [u8])
 
 // Sets a state to the initial one.
 pub fn set_initial(image: &[u16], state: &mut [u8]) -> Verdict
-    ensures { λ r. ⌜ outcome (verdictAnswer r) (now (state .exit)) ≡ becomes (now (state .entry)) (startTask (now (image .entry)) (now (state .entry))) ⌝ }
+    ensures { λ r. ⌜ outcome (verdictAnswer r) (now (state .exit))
+        ≡ becomes (now (state .entry)) (startTask (now (image .entry)) (now (state .entry))) ⌝ }
 {
     let reading = task::read(image);
     if let Verdict::Refused(f) = reading {

@@ -1,11 +1,8 @@
--- `state::step_block`: the questions in order, each with the answers before it.
-use mathlib.Core.Path.{_≡_, refl, sym, _∙_}
-use mathlib.Core.Bool.{true}
+-- `state::step_block`: question 20, and then the operator is applied.
+use mathlib.Core.Path.{refl, sym, _∙_}
 use borrow.Author.Tests.{not-true, not-false}
-use Rattle.definitions.specs.Literal.{allTrue}
 use Rattle.answer.proofs.Laws.{outcome-of}
-use Rattle.task.specs.Walk.{operatorIn}
-use Rattle.state.proofs.Calls.{applied-20, applied-21, applied-done}
+use Rattle.state.proofs.Calls.{applied-20, applied-done}
 use borrow.Author.Needs.{needs}
 use Rattle.state.proofs.step_block.Statement.{statement}
 use Rattle.state.proofs.step_block.Tie as tie
@@ -14,23 +11,20 @@ use Rattle.state.proofs.step_block.Tie as tie
 abbrev at-state : tie.After-slice-known4 → tie.After-state
 at-state c = c .before .before .before
 
-abbrev answered : tie.After-slice-known4 → tie.After-apply
-answered c = at-state c .before
+abbrev made : tie.After-slice-known4 → tie.After-apply
+made c = at-state c .before
 
-abbrev at-else1 : tie.After-apply → tie.Else1
-at-else1 c = c .before .before .before
+abbrev met : tie.After-apply → tie.Else1
+met c = c .before .before .before
 
-abbrev asked : tie.After-apply → tie.After-precondition-holds
-asked c = at-else1 c .before
+abbrev asked : tie.Else1 → tie.After-precondition-holds
+asked c = c .before
 
 abbrev at-slice : tie.After-precondition-holds → tie.After-slice-known
 at-slice c = c .before .before .before
 
 abbrev start : tie.After-precondition-holds → tie.Start
 start c = at-slice c .before .before
-
-met : (d : tie.After-apply) → let s = start (asked d) .args in allTrue (s .state .now) (operatorIn (s .block .now) .precondition) ≡ true
-met d = sym (asked d .precondition-holds .ensures) ∙ not-false _ (d .before .before .before .if1 .left)
 
 precondition-holds-requires : tie.Need-precondition-holds-requires
 precondition-holds-requires c κs = search needs
@@ -47,10 +41,7 @@ returns c =
     (outcome-of _ _ _ _ (c .refuse .ensures) (applied-20 _ _ (sym (q .precondition-holds .ensures) ∙ not-true _ (c .before .if1 .taken))), refl)
 
 apply-requires : tie.Need-apply-requires
-apply-requires c κs = start (c .before .before .before) .pre
-
-refuse-requires-2 : tie.Need-refuse-requires-2
-refuse-requires-2 c κs = search needs
+apply-requires c κs = start (asked (c .before .before)) .pre
 
 same-length-2 : tie.Need-same-length-2
 same-length-2 c = search needs
@@ -60,19 +51,11 @@ same-length-3 c = search needs
 
 returns-2 : tie.Need-returns-2
 returns-2 c =
-    let d = answered (c .before .before) in
-    (outcome-of _ _ _ _ (c .refuse2 .ensures) (applied-21 _ _ (met d) _ _ (d .apply .ensures .0) (not-true _ (c .before .if2 .taken))), d .apply .ensures .1)
-
-same-length-4 : tie.Need-same-length-4
-same-length-4 c = search needs
-
-same-length-5 : tie.Need-same-length-5
-same-length-5 c = search needs
-
-returns-3 : tie.Need-returns-3
-returns-3 c =
-    let d = answered (c .before) in
-    (applied-done _ _ (met d) _ _ (d .apply .ensures .0) (not-false _ (c .if2 .left)), d .apply .ensures .1)
+    let d = made c in
+    let q = met d in (
+      applied-done _ _ (sym (asked q .precondition-holds .ensures) ∙ not-false _ (q .if1 .left)) _ (d .apply .ensures .0),
+      d .apply .ensures .1,
+    )
 
 pub step-block-spec : {M : Type 1} → statement M
 step-block-spec =
@@ -83,10 +66,6 @@ step-block-spec =
     same-length
     returns
     apply-requires
-    refuse-requires-2
     same-length-2
     same-length-3
-    returns-2
-    same-length-4
-    same-length-5
-    returns-3)
+    returns-2)

@@ -49,7 +49,7 @@ step-block-requires : tie.Need-step-block-requires
 step-block-requires c κs =
     let g = c .before .before in
     let s = start (g .before .before) in
-    applies _ _ _ _ (s .pre .0) (s .pre .1) _ (there (g .before)) (g .operator-block .ensures)
+    applies _ _ _ _ (s .pre .0) (s .pre .1) _ (g .operator-block .ensures)
 
 same-length : tie.Need-same-length
 same-length c = search needs

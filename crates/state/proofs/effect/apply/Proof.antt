@@ -1,24 +1,27 @@
--- `state::effect::apply`: what is marked is what the rows that fire make true.
-use Rattle.state.proofs.Calls.{few-marks, marks-cleared, rows-applied}
+-- `state::effect::apply`: the marks are those of the effects that fire, so the deletes and then the adds that are marked make the step.
+use Rattle.state.proofs.Calls.{marks-cleared, rows-applied}
 use borrow.Author.Needs.{needs}
 use Rattle.state.proofs.effect.apply.Statement.{statement}
 use Rattle.state.proofs.effect.apply.Tie as tie
 
--- the calls in order, and the start
-abbrev at-marks : tie.After-settle-arg2 → tie.After-marks
-at-marks c = c .before .before .before
+-- the calls, from the last to the first, and the start
+abbrev at-state2 : tie.After-unmark → tie.After-state2
+at-state2 c = c .before .before .before
 
-abbrev fired : tie.After-settle-arg2 → tie.After-mark-fired
-fired c = at-marks c .before
+abbrev added : tie.After-unmark → tie.After-change2
+added c = at-state2 c .before
 
-abbrev at-state : tie.After-unmark → tie.After-state
-at-state c = c .before .before .before
+abbrev at-slice4 : tie.After-change2 → tie.After-slice-known4
+at-slice4 c = c .before .before .before
 
-abbrev settled : tie.After-unmark → tie.After-settle
-settled c = at-state c .before
+abbrev deleted : tie.After-change2 → tie.After-change
+deleted c = at-slice4 c .before .before
 
-abbrev before-settle : tie.After-settle → tie.After-settle-arg2
-before-settle c = c .before
+abbrev at-slice3 : tie.After-change → tie.After-slice-known3
+at-slice3 c = c .before .before .before
+
+abbrev fired : tie.After-change → tie.After-mark-fired
+fired c = at-slice3 c .before .before
 
 abbrev at-slice2 : tie.After-mark-fired → tie.After-slice-known2
 at-slice2 c = c .before .before .before
@@ -29,11 +32,11 @@ start c = at-slice2 c .before .before .before
 mark-fired-requires : tie.Need-mark-fired-requires
 mark-fired-requires c κs = search needs
 
-settle-requires : tie.Need-settle-requires
-settle-requires c κs =
-    let f = fired c in
-    let s = start f in
-    (s .pre .parses, few-marks _ _ _ (s .pre) _ (f .mark-fired .ensures))
+change-requires : tie.Need-change-requires
+change-requires c κs = search needs
+
+change-requires-2 : tie.Need-change-requires-2
+change-requires-2 c κs = search needs
 
 unmark-requires : tie.Need-unmark-requires
 unmark-requires c κs = search needs
@@ -47,10 +50,10 @@ same-length-2 c = search needs
 returns : tie.Need-returns
 returns c =
     let u = c .before .before in
-    let e = settled u in
-    let f = fired (before-settle e) in
+    let d = deleted (added u) in
+    let f = fired d in
     let s = start f in (
-      rows-applied _ _ _ (s .pre) _ (f .mark-fired .ensures) _ _ (e .settle .ensures),
+      rows-applied _ _ _ (s .pre) _ (f .mark-fired .ensures) _ _ (d .change .ensures) (added u .change2 .ensures),
       marks-cleared _ _ _ (s .pre) _ (f .mark-fired .ensures) _ (u .unmark .ensures),
     )
 
@@ -59,7 +62,8 @@ apply-spec =
     tie.close
     (tie.spec
     mark-fired-requires
-    settle-requires
+    change-requires
+    change-requires-2
     unmark-requires
     same-length
     same-length-2
