@@ -67,11 +67,10 @@ module _ (b s m : List ℕ) (a : Applies b s m) (m′ : List ℕ) (em : m′ ≡
 
   pub marks-cleared : (m″ : List ℕ) → m″ ≡ unmarked (operatorIn b .rows) m′ → m″ ≡ m
   marks-cleared m″ e =
-      e ∙ ap (unmarked (operatorIn b .rows)) marked ∙ marks-gone s (operatorIn b .rows) (2 * length s) ∙ sym (a .blank)
+      e ∙ ap (unmarked (operatorIn b .rows)) marked ∙ marks-gone s (operatorIn b) (2 * length s) ∙ sym (a .blank)
 
   -- the deletes are made true, and then the adds
   pub rows-applied :
       (s′ s″ : List ℕ) → s′ ≡ changed m′ false (operatorIn b .rows) s → s″ ≡ changed m′ true (operatorIn b .rows) s′
       → s″ ≡ result s (operatorIn b)
-  rows-applied s′ s″ e f =
-      f ∙ ap (changed m′ true (operatorIn b .rows)) e ∙ marks-result s (operatorIn b) m′ marked
+  rows-applied s′ s″ e f = f ∙ rw (e, marked) (marks-result s (operatorIn b))

@@ -1,7 +1,7 @@
 -- Laws of the marks: their walks, and that they are the effects of the fired rows. Assumes nothing.
-use mathlib.Core.Path.{_≡_, refl, sym, ap, _∙_}
+use mathlib.Core.Path.{_≡_, refl, sym, ap, subst, _∙_}
 use mathlib.Core.List.{List, [], _∷_, map}
-use mathlib.Core.Bool.{Bool, true, false, cond, Bool·beq, _&&_, _||_, and-true, and-false, or-false, or-true, or-assoc}
+use mathlib.Core.Bool.{Bool, true, false, cond, Bool·beq, _||_}
 use Prim.Native.Nat.{ℕ, zero, suc, _+_, _*_, _≤_, _<_}
 use native.Mathlib.Numerals.{add-one}
 use native.Mathlib.Nat.{not-suc-le-zero, le-of-suc-le-suc}
@@ -9,26 +9,57 @@ use native.Mathlib.Omega.{arith}
 use lib.ListN.{length, getD, take, drop, set, drop-of-length-le, length-set, replicate, length-replicate, getD-replicate}
 use lib.Seq.{drop-cons, getD-set-same, getD-set-other, ext-getD}
 use lib.Dec.{eqb}
-use borrow.Author.Tests.{eq-eqb, eqb-true, eqb-false}
+use borrow.Author.Tests.{eqb-true, eqb-false}
 use Rattle.definitions.specs.Lists.{any, keep, below, member}
 use Rattle.definitions.specs.Literal.{atom, positive, stateOf}
 use Rattle.definitions.specs.Image.{Row, Operator, Task, initialState}
 use Rattle.definitions.specs.Step.{fires, effects, after, result}
 use Rattle.definitions.specs.Closure.{has}
-use Rattle.definitions.proofs.ListLaws.{and-left, or-false-left, or-false-right, member-in, map-in, table-at, table-length}
+use Rattle.definitions.proofs.ListLaws.{never, and-left, and-right, keep-in, keep-of, member-in, member-of, map-in, map-of}
+use Rattle.definitions.proofs.ListLaws.{table-at, table-length}
 use Rattle.definitions.proofs.LiteralLaws.{Shape, is, isnt, shape, atom-even, atom-odd, positive-even, positive-odd}
+use Rattle.definitions.proofs.EncodeLaws.{same-bool}
 use Rattle.definitions.proofs.StepLaws.{fired-of, value-at}
 use Rattle.literal.specs.Literal.{literalOf}
 use Rattle.literal.specs.Mark.{markIf}
-use Rattle.literal.proofs.Mark.{mark-length}
-use Rattle.state.specs.Marks.{markFired, due, makeTrue, changed, unmarked, setTrue}
+use Rattle.state.specs.Marks.{setAll, markFired, due, makeTrue, changed, unmarked}
 
 -- the effects of rows, fired or not
 abbrev effectsOf : List Row → List ℕ
 effectsOf rows = map (λ r. r .effect) rows
 
--- ---- marking
--- one row of the walk, and the end
+-- ---- a byte at each place of a list: one place of the walk, the end, and what is then there
+pub set-on :
+    (s s′ xs : List ℕ) (i x : ℕ) → i < length xs → x ≡ getD xs i 0 → s′ ≡ set s x 1
+    → setAll 1 (drop i xs) s ≡ setAll 1 (drop (i + 1) xs) s′
+set-on s s′ xs i x h ex es = let one = add-one i in rw (drop-cons xs i 0 h, ← ex, es, one)
+
+pub set-end : (s xs : List ℕ) (i : ℕ) → length xs ≤ i → setAll 1 (drop i xs) s ≡ s
+set-end s xs i h = rw (drop-of-length-le xs {i = i} h)
+
+set-length : (v : ℕ) (xs s : List ℕ) → length (setAll v xs s) ≡ length s
+set-length v [] s = refl
+set-length v (x ∷ xs) s = set-length v xs (set s x v) ∙ length-set s x v
+
+set-at : (v : ℕ) (xs s : List ℕ) (i : ℕ) → i < length s → getD (setAll v xs s) i 0 ≡ cond (member i xs) v (getD s i 0)
+unfolding member any
+set-at v [] s i h = refl
+set-at v (x ∷ xs) s i h = go (eqb i x) refl (set-at v xs (set s x v) i (rw (length-set s x v) h))
+  where
+    same : (t : Bool) → cond t v v ≡ v
+    same true = refl
+    same false = refl
+
+    go :
+        (b : Bool) → eqb i x ≡ b → getD (setAll v xs (set s x v)) i 0 ≡ cond (member i xs) v (getD (set s x v) i 0)
+        → getD (setAll v xs (set s x v)) i 0 ≡ cond (eqb i x || member i xs) v (getD s i 0)
+    go true e rest =
+        let p : i ≡ x = eqb-true i x e in
+        let q : getD (set s x v) i 0 ≡ v = rw (← p) (getD-set-same s i v 0 h) in
+        rest ∙ rw (q, e) (same (member i xs))
+    go false e rest = rest ∙ rw (getD-set-other s x i v 0 (eqb-false i x e), e)
+
+-- ---- the walks over the rows: one row of each, and the end
 pub fired-next :
     (s : List ℕ) (rows rest : List Row) (r : Row) (t : Bool) (m m′ : List ℕ)
     → rows ≡ r ∷ rest → t ≡ fires s r → m′ ≡ markIf t m (r .effect)
@@ -38,46 +69,6 @@ fired-next s rows rest r t m m′ er et em = rw (er, em, et)
 pub fired-end : (s : List ℕ) (rows : List Row) (m : List ℕ) → rows ≡ [] → markFired s rows m ≡ m
 fired-end s rows m e = rw e
 
-fired-length : (s : List ℕ) (rows : List Row) (m : List ℕ) → length (markFired s rows m) ≡ length m
-fired-length s [] m = refl
-fired-length s (r ∷ rows) m = fired-length s rows (markIf (fires s r) m (r .effect)) ∙ mark-length (fires s r) m (r .effect)
-
-set-has : (m : List ℕ) (e l : ℕ) → l < length m → has (set m e 1) l ≡ (has m l || eqb l e)
-unfolding has
-set-has m e l h = go (eqb l e) refl
-  where
-    go : (b : Bool) → eqb l e ≡ b → eqb (getD (set m e 1) l 0) 1 ≡ (eqb (getD m l 0) 1 || eqb l e)
-    go true p =
-        let same : e ≡ l = sym (eqb-true l e p) in
-        let h′ : e < length m = rw same h in
-        eq-eqb _ 1 (ap (λ (k : ℕ). getD (set m e 1) k 0) (sym same) ∙ getD-set-same m e 1 0 h′)
-        ∙ sym (ap (λ (b : Bool). eqb (getD m l 0) 1 || b) p ∙ or-true (eqb (getD m l 0) 1))
-    go false p =
-        ap (λ (x : ℕ). eqb x 1) (getD-set-other m e l 1 0 (eqb-false l e p))
-        ∙ sym (ap (λ (b : Bool). eqb (getD m l 0) 1 || b) p ∙ or-false (eqb (getD m l 0) 1))
-
--- a mark is set where it was set before, or a row with that effect fires
-fired-has :
-    (s : List ℕ) (rows : List Row) (m : List ℕ) (l : ℕ) → l < length m
-    → has (markFired s rows m) l ≡ (has m l || member l (effectsOf (keep (fires s) rows)))
-unfolding keep member any
-fired-has s [] m l h = sym (or-false (has m l))
-fired-has s (r ∷ rows) m l h = go (fires s r) refl (λ m h. fired-has s rows m l h)
-  where
-    more : List ℕ
-    more = effectsOf (keep (fires s) rows)
-
-    go :
-        (b : Bool) → fires s r ≡ b → ((m : List ℕ) → l < length m → has (markFired s rows m) l ≡ (has m l || member l more))
-        → has (markFired s rows (markIf (fires s r) m (r .effect))) l ≡ (has m l || member l (effectsOf (keep (fires s) (r ∷ rows))))
-    go true e rec =
-        rw (e, keep)
-        (rec (set m (r .effect) 1) (rw (length-set m (r .effect) 1) h)
-        ∙ ap (λ (b : Bool). b || member l more) (set-has m (r .effect) l h)
-        ∙ or-assoc (has m l) (eqb l (r .effect)) (member l more))
-    go false e rec = rw (e, keep) (rec m h)
-
--- ---- change and unmarking: one row of each walk, and the end
 module _ (m : List ℕ) (rows rest : List Row) (r : Row) (er : rows ≡ r ∷ rest) where
   pub changed-next :
       (adds : Bool) (s s′ : List ℕ) (b : Bool) → b ≡ due m adds (r .effect) → s′ ≡ makeTrue b s (r .effect)
@@ -104,11 +95,57 @@ module _ (m : List ℕ) (adds : Bool) (l : ℕ) (p : Bool) (ep : p ≡ positive 
   unfolding due
   due-has e b eb = rw (← ep, e, eb)
 
-make-length : (b : Bool) (s : List ℕ) (l : ℕ) → length (makeTrue b s l) ≡ length s
-make-length true s l = length-set s (atom l) (cond (positive l) 1 0)
-make-length false s l = refl
+-- a literal that is due is marked, and has the sign
+module _ (m : List ℕ) (adds : Bool) (l : ℕ) (h : due m adds l ≡ true) where
+  due-marked : has m l ≡ true
+  unfolding due
+  due-marked = and-right (Bool·beq (positive l) adds) (has m l) h
 
--- ---- what one pass over the rows makes of atom a
+  due-sign : positive l ≡ adds
+  unfolding due
+  due-sign = go (positive l) adds (and-left (Bool·beq (positive l) adds) (has m l) h)
+    where
+      go : (a b : Bool) → Bool·beq a b ≡ true → a ≡ b
+      go true true e = refl
+      go false false e = refl
+      go true false e = sym e
+      go false true e = e
+
+-- ---- each walk puts one byte at the places of a list
+fired-all : (s : List ℕ) (rows : List Row) (m : List ℕ) → markFired s rows m ≡ setAll 1 (effectsOf (keep (fires s) rows)) m
+unfolding keep
+fired-all s [] m = refl
+fired-all s (r ∷ rows) m = go (fires s r) refl (fired-all s rows)
+  where
+    go :
+        (b : Bool) → fires s r ≡ b → ((m : List ℕ) → markFired s rows m ≡ setAll 1 (effectsOf (keep (fires s) rows)) m)
+        → markFired s (r ∷ rows) m ≡ setAll 1 (effectsOf (keep (fires s) (r ∷ rows))) m
+    go true e rec = rw (e, keep) (rec (set m (r .effect) 1))
+    go false e rec = rw (e, keep) (rec m)
+
+unmarked-all : (rows : List Row) (m : List ℕ) → unmarked rows m ≡ setAll 0 (effectsOf rows) m
+unmarked-all [] m = refl
+unmarked-all (r ∷ rows) m = unmarked-all rows (set m (r .effect) 0)
+
+module _ (m : List ℕ) (adds : Bool) where
+  -- the atoms of the marked effects of this sign
+  abbrev atomsDue : List Row → List ℕ
+  atomsDue rows = map atom (keep (due m adds) (effectsOf rows))
+
+  changed-all : (rows : List Row) (s : List ℕ) → changed m adds rows s ≡ setAll (cond adds 1 0) (atomsDue rows) s
+  unfolding keep
+  changed-all [] s = refl
+  changed-all (r ∷ rows) s = go (due m adds (r .effect)) refl (changed-all rows)
+    where
+      go :
+          (b : Bool) → due m adds (r .effect) ≡ b → ((s : List ℕ) → changed m adds rows s ≡ setAll (cond adds 1 0) (atomsDue rows) s)
+          → changed m adds (r ∷ rows) s ≡ setAll (cond adds 1 0) (atomsDue (r ∷ rows)) s
+      go true e rec =
+          rw (e, keep)
+          (ap (λ (b : Bool). changed m adds rows (set s (atom (r .effect)) (cond b 1 0))) (due-sign m adds (r .effect) e) ∙ rec _)
+      go false e rec = rw (e, keep) (rec s)
+
+-- ---- the literal of an atom and a sign
 literal-atom : (a : ℕ) (b : Bool) → atom (literalOf a b) ≡ a
 literal-atom a true = atom-even a
 literal-atom a false = atom-odd a
@@ -124,219 +161,134 @@ literal-same l = go (shape l)
     go (is l a e x y c) = rw (x, y) (sym e)
     go (isnt l a e x y c) = rw (x, y) (sym e)
 
-same-sign : (a b : Bool) → Bool·beq a b ≡ true → a ≡ b
-same-sign true true e = refl
-same-sign false false e = refl
-same-sign true false e = sym e
-same-sign false true e = e
+-- ---- the marks of an operator, from none
+module _ (s : List ℕ) (o : Operator) where
+  abbrev marks : ℕ → List ℕ
+  marks n = markFired s (o .rows) (replicate n 0)
 
-beq-self : (b : Bool) → Bool·beq b b ≡ true
-beq-self true = refl
-beq-self false = refl
+  -- an effect that fired is that of a row
+  fired-row : (l : ℕ) → member l (effects s o) ≡ true → member l (effectsOf (o .rows)) ≡ true
+  fired-row l h = let f = fired-of s o l h in rw (f .same) (member-in (map-in (λ r. r .effect) (f .mem)))
 
-module _ (m : List ℕ) (adds : Bool) where
-  changed-length : (rows : List Row) (s : List ℕ) → length (changed m adds rows s) ≡ length s
-  changed-length [] s = refl
-  changed-length (r ∷ rows) s =
-      changed-length rows (makeTrue (due m adds (r .effect)) s (r .effect)) ∙ make-length (due m adds (r .effect)) s (r .effect)
+  marks-at : (n l : ℕ) → l < n → getD (marks n) l 0 ≡ cond (member l (effects s o)) 1 0
+  unfolding effects
+  marks-at n l h =
+      ap (λ (z : List ℕ). getD z l 0) (fired-all s (o .rows) (replicate n 0))
+      ∙ set-at 1 (effects s o) (replicate n 0) l (rw length-replicate h)
+      ∙ ap (cond (member l (effects s o)) 1) (getD-replicate n l 0 0 h)
 
-  module _ (a : ℕ) where
-    -- the literal of a that this pass makes true, and the value that a then has
-    abbrev own : ℕ
-    own = literalOf a adds
+  marks-length : (n : ℕ) → length (marks n) ≡ n
+  marks-length n =
+      ap length (fired-all s (o .rows) (replicate n 0))
+      ∙ set-length 1 (effectsOf (keep (fires s) (o .rows))) (replicate n 0)
+      ∙ length-replicate n 0
 
-    abbrev value : ℕ
-    value = cond adds 1 0
-
-    -- one effect
-    made-at : (e : ℕ) (s : List ℕ) → a < length s → getD (makeTrue (due m adds e) s e) a 0 ≡ cond (has m own && eqb own e) value (getD s a 0)
-    unfolding due
-    made-at e s low = go (eqb own e) refl
-      where
-        own-made : (b : Bool) → getD (makeTrue b s own) a 0 ≡ cond b value (getD s a 0)
-        own-made true =
-            ap (λ (b : Bool). getD (set s (atom own) (cond b 1 0)) a 0) (literal-positive a adds)
-            ∙ ap (λ (k : ℕ). getD (set s k value) a 0) (literal-atom a adds)
-            ∙ getD-set-same s a value 0 low
-        own-made false = refl
-
-        other-made : (b : Bool) → due m adds e ≡ b → eqb own e ≡ false → getD (makeTrue b s e) a 0 ≡ getD s a 0
-        other-made true h n =
-            let sign = same-sign (positive e) adds (and-left (Bool·beq (positive e) adds) (has m e) h) in
-            getD-set-other s (atom e) a (cond (positive e) 1 0) 0
-            (λ q. eqb-false own e n (ap (λ (k : ℕ). literalOf k adds) q ∙ ap (literalOf (atom e)) (sym sign) ∙ literal-same e))
-        other-made false h n = refl
-
-        go : (b : Bool) → eqb own e ≡ b → getD (makeTrue (due m adds e) s e) a 0 ≡ cond (has m own && b) value (getD s a 0)
-        go true q = rw (← eqb-true own e q, literal-positive a adds, beq-self adds, and-true (has m own)) (own-made (has m own))
-        go false q = rw (and-false (has m own)) (other-made (due m adds e) refl q)
-
-    -- all rows
-    changed-at :
-        (rows : List Row) (s : List ℕ) → a < length s
-        → getD (changed m adds rows s) a 0 ≡ cond (has m own && member own (effectsOf rows)) value (getD s a 0)
-    unfolding member any
-    changed-at [] s low = rw (and-false (has m own))
-    changed-at (r ∷ rows) s low =
-        let e = r .effect in
-        changed-at rows (makeTrue (due m adds e) s e) (rw (make-length (due m adds e) s e) low)
-        ∙ ap (cond (has m own && member own (effectsOf rows)) value) (made-at e s low)
-        ∙ either (has m own) (eqb own e) (member own (effectsOf rows)) (getD s a 0)
-      where
-        either : (h b t : Bool) (x : ℕ) → cond (h && t) value (cond (h && b) value x) ≡ cond (h && (b || t)) value x
-        either false b t x = refl
-        either true false t x = refl
-        either true true true x = refl
-        either true true false x = refl
-
--- what is left of the marks at l, where the rows' effects are cleared
-unmarked-at : (rows : List Row) (m : List ℕ) (l : ℕ) → l < length m → getD (unmarked rows m) l 0 ≡ cond (member l (effectsOf rows)) 0 (getD m l 0)
-unfolding member any
-unmarked-at [] m l h = refl
-unmarked-at (r ∷ rows) m l h = go (eqb l (r .effect)) refl (unmarked-at rows (set m (r .effect) 0) l (rw (length-set m (r .effect) 0) h))
-  where
-    es : List ℕ
-    es = effectsOf rows
-
-    same : (t : Bool) → _≡_ {A = ℕ} (cond t 0 0) 0
-    same true = refl
-    same false = refl
-
-    go :
-        (b : Bool) → eqb l (r .effect) ≡ b → getD (unmarked rows (set m (r .effect) 0)) l 0 ≡ cond (member l es) 0 (getD (set m (r .effect) 0) l 0)
-        → getD (unmarked rows (set m (r .effect) 0)) l 0 ≡ cond (eqb l (r .effect) || member l es) 0 (getD m l 0)
-    go true e rest =
-        let p : l ≡ r .effect = eqb-true l (r .effect) e in
-        let q : getD (set m (r .effect) 0) l 0 ≡ 0 = rw (← p) (getD-set-same m l 0 0 h) in
-        rest ∙ rw (q, e) (same (member l es))
-    go false e rest = rest ∙ rw (getD-set-other m (r .effect) l 0 0 (eqb-false l (r .effect) e), e)
-
-unmarked-length : (rows : List Row) (m : List ℕ) → length (unmarked rows m) ≡ length m
-unmarked-length [] m = refl
-unmarked-length (r ∷ rows) m = unmarked-length rows (set m (r .effect) 0) ∙ length-set m (r .effect) 0
-
-fired-value :
-    (s : List ℕ) (rows : List Row) (m : List ℕ) (l : ℕ) → member l (effectsOf rows) ≡ false
-    → getD (markFired s rows m) l 0 ≡ getD m l 0
-unfolding member any
-fired-value s [] m l h = refl
-fired-value s (r ∷ rows) m l h =
-    fired-value s rows (markIf (fires s r) m (r .effect)) l (or-false-right (eqb l (r .effect)) (member l (effectsOf rows)) h)
-    ∙ go (fires s r)
-  where
-    go : (b : Bool) → getD (markIf b m (r .effect)) l 0 ≡ getD m l 0
-    go true = getD-set-other m (r .effect) l 1 0 (eqb-false l (r .effect) (or-false-left (eqb l (r .effect)) (member l (effectsOf rows)) h))
-    go false = refl
-
--- marking and unmarking leaves no mark
-pub marks-gone : (s : List ℕ) (rows : List Row) (n : ℕ) → unmarked rows (markFired s rows (replicate n 0)) ≡ replicate n 0
-marks-gone s rows n =
-    ext-getD 0 (unmarked rows m) z (unmarked-length rows m ∙ fired-length s rows z)
-    (λ l h. at l (let e = unmarked-length rows m in omega arith) (member l (effectsOf rows)) refl)
-  where
-    z : List ℕ
-    z = replicate n 0
-
-    m : List ℕ
-    m = markFired s rows z
-
-    at : (l : ℕ) → l < length m → (b : Bool) → member l (effectsOf rows) ≡ b → getD (unmarked rows m) l 0 ≡ getD z l 0
-    at l h true e =
-        let low : l < n = let x = fired-length s rows z in let y = length-replicate {A = ℕ} n 0 in omega arith in
-        unmarked-at rows m l h ∙ rw e (sym (getD-replicate n l 0 0 low))
-    at l h false e = unmarked-at rows m l h ∙ rw e (fired-value s rows z l e)
-
--- ---- the marks of an operator, from none: first the deletes and then the adds made true is the step
-module _ (s : List ℕ) (o : Operator) (m : List ℕ) (em : m ≡ markFired s (o .rows) (replicate (2 * length s) 0)) where
-  marks-has : (l : ℕ) → l < 2 * length s → has m l ≡ member l (effects s o)
-  unfolding effects has
-  marks-has l h =
-      ap (λ (z : List ℕ). eqb (getD z l 0) 1) em
-      ∙ fired-has s (o .rows) (replicate (2 * length s) 0) l (rw length-replicate h)
-      ∙ ap (λ (x : ℕ). eqb x 1 || member l (effectsOf (keep (fires s) (o .rows)))) (getD-replicate (2 * length s) l 0 0 h)
-
-  -- the marked effects of the rows are those that fired
-  marks-fired : (l : ℕ) → l < 2 * length s → (has m l && member l (effectsOf (o .rows))) ≡ member l (effects s o)
-  marks-fired l h = rw (marks-has l h) (go (member l (effects s o)) refl)
+  -- marking and unmarking leaves no mark
+  pub marks-gone : (n : ℕ) → unmarked (o .rows) (marks n) ≡ replicate n 0
+  marks-gone n =
+      ext-getD 0 (unmarked (o .rows) (marks n)) (replicate n 0) (long ∙ sym (length-replicate n 0))
+      (λ l h. let low : l < n = omega (arith, long) in at l low ∙ sym (getD-replicate n l 0 0 low))
     where
-      go : (b : Bool) → member l (effects s o) ≡ b → (b && member l (effectsOf (o .rows))) ≡ b
-      go true q = let f = fired-of s o l q in rw (f .same) (member-in (map-in (λ r. r .effect) (f .mem)))
-      go false q = refl
+      long : length (unmarked (o .rows) (marks n)) ≡ n
+      long = ap length (unmarked-all (o .rows) (marks n)) ∙ set-length 0 (effectsOf (o .rows)) (marks n) ∙ marks-length n
+
+      clear : (l : ℕ) (b c : Bool) → member l (effectsOf (o .rows)) ≡ b → member l (effects s o) ≡ c → _≡_ {A = ℕ} (cond b 0 (cond c 1 0)) 0
+      clear l true c e f = refl
+      clear l false false e f = refl
+      clear l false true e f = never (fired-row l f) e
+
+      at : (l : ℕ) → l < n → getD (unmarked (o .rows) (marks n)) l 0 ≡ 0
+      at l low =
+          ap (λ (z : List ℕ). getD z l 0) (unmarked-all (o .rows) (marks n))
+          ∙ set-at 0 (effectsOf (o .rows)) (marks n) l (omega (arith, marks-length n))
+          ∙ ap (cond (member l (effectsOf (o .rows))) 0) (marks-at n l low)
+          ∙ clear l (member l (effectsOf (o .rows))) (member l (effects s o)) refl refl
+
+  -- ---- the marks of the literals of s: first the deletes and then the adds made true is the step
+  abbrev marked : List ℕ
+  marked = marks (2 * length s)
+
+  marked-has : (l : ℕ) → l < 2 * length s → has marked l ≡ member l (effects s o)
+  unfolding has
+  marked-has l h = ap (λ (x : ℕ). eqb x 1) (marks-at (2 * length s) l h) ∙ go (member l (effects s o))
+    where
+      go : (b : Bool) → eqb (cond b 1 0) 1 ≡ b
+      go true = refl
+      go false = refl
+
+  -- an atom is changed in a pass exactly if its literal of that sign fired
+  module _ (adds : Bool) (a : ℕ) (low : literalOf a adds < 2 * length s) where
+    changes : member a (atomsDue marked adds (o .rows)) ≡ true → member (literalOf a adds) (effects s o) ≡ true
+    changes h =
+        let x = map-of atom (keep (due marked adds) (effectsOf (o .rows))) (member-of a _ h) in
+        let d = keep-of (due marked adds) (effectsOf (o .rows)) (x .mem) .1 in
+        let same : literalOf a adds ≡ x .it =
+        ap (λ (k : ℕ). literalOf k adds) (x .same)
+        ∙ ap (literalOf (atom (x .it))) (sym (due-sign marked adds (x .it) d))
+        ∙ literal-same (x .it) in
+        sym (marked-has (literalOf a adds) low) ∙ ap (has marked) same ∙ due-marked marked adds (x .it) d
+
+    changed-by : member (literalOf a adds) (effects s o) ≡ true → member a (atomsDue marked adds (o .rows)) ≡ true
+    changed-by h =
+        let l = literalOf a adds in
+        let d = due-has marked adds l adds (sym (literal-positive a adds)) (self adds) true (sym (marked-has l low ∙ h)) in
+        subst (λ (k : ℕ). member k (atomsDue marked adds (o .rows)) ≡ true) (literal-atom a adds)
+        (member-in (map-in atom (keep-in (due marked adds) (member-of l (effectsOf (o .rows)) (fired-row l h)) (sym d))))
+      where
+        self : (b : Bool) → Bool·beq b b ≡ true
+        self true = refl
+        self false = refl
 
   pass-at :
       (adds : Bool) (t : List ℕ) (a : ℕ) → length t ≡ length s → a < length s
-      → getD (changed m adds (o .rows) t) a 0 ≡ cond (member (literalOf a adds) (effects s o)) (cond adds 1 0) (getD t a 0)
+      → getD (changed marked adds (o .rows) t) a 0 ≡ cond (member (literalOf a adds) (effects s o)) (cond adds 1 0) (getD t a 0)
   pass-at adds t a size h =
-      changed-at m adds a (o .rows) t (omega arith)
-      ∙ ap (λ (b : Bool). cond b (cond adds 1 0) (getD t a 0)) (marks-fired (literalOf a adds) (low adds))
+      ap (λ (z : List ℕ). getD z a 0) (changed-all marked adds (o .rows) t)
+      ∙ set-at (cond adds 1 0) (atomsDue marked adds (o .rows)) t a (omega arith)
+      ∙ ap (λ (b : Bool). cond b (cond adds 1 0) (getD t a 0))
+      (same-bool (member a (atomsDue marked adds (o .rows))) (member (literalOf a adds) (effects s o))
+      (changes adds a (low adds))
+      (changed-by adds a (low adds)))
     where
       low : (b : Bool) → literalOf a b < 2 * length s
       low true = omega arith
       low false = omega arith
 
-  pub marks-result : changed m true (o .rows) (changed m false (o .rows) s) ≡ result s o
+  changed-length : (adds : Bool) (t : List ℕ) → length (changed marked adds (o .rows) t) ≡ length t
+  changed-length adds t = ap length (changed-all marked adds (o .rows) t) ∙ set-length (cond adds 1 0) (atomsDue marked adds (o .rows)) t
+
+  pub marks-result : changed marked true (o .rows) (changed marked false (o .rows) s) ≡ result s o
   unfolding result after
   marks-result =
-      ext-getD 0 (changed m true (o .rows) t) (result s o) (long ∙ sym (table-length (after s (effects s o)) (length s)))
+      ext-getD 0 (changed marked true (o .rows) t) (result s o) (long ∙ sym (table-length (after s (effects s o)) (length s)))
       (λ a h.
       let low : a < length s = omega (arith, long) in
-      pass-at true t a size low ∙ ap (cond (member (2 * a) (effects s o)) 1) (pass-at false s a refl low) ∙ sym (value-at s o a low))
+      pass-at true t a (changed-length false s) low
+      ∙ ap (cond (member (2 * a) (effects s o)) 1) (pass-at false s a refl low)
+      ∙ sym (value-at s o a low))
     where
       t : List ℕ
-      t = changed m false (o .rows) s
+      t = changed marked false (o .rows) s
 
-      size : length t ≡ length s
-      size = changed-length m false (o .rows) s
-
-      long : length (changed m true (o .rows) t) ≡ length s
-      long = changed-length m true (o .rows) t ∙ size
+      long : length (changed marked true (o .rows) t) ≡ length s
+      long = changed-length true t ∙ changed-length false s
 
 -- ---- the initial state
-pub true-on :
-    (s s′ xs : List ℕ) (i x : ℕ) → i < length xs → x ≡ getD xs i 0 → s′ ≡ set s x 1
-    → setTrue s (drop i xs) ≡ setTrue s′ (drop (i + 1) xs)
-true-on s s′ xs i x h ex es = let one = add-one i in rw (drop-cons xs i 0 h, ← ex, es, one)
-
-pub true-end : (s xs : List ℕ) (i : ℕ) → length xs ≤ i → setTrue s (drop i xs) ≡ s
-true-end s xs i h = rw (drop-of-length-le xs {i = i} h)
-
-true-length : (s xs : List ℕ) → length (setTrue s xs) ≡ length s
-true-length s [] = refl
-true-length s (x ∷ xs) = true-length (set s x 1) xs ∙ length-set s x 1
-
-true-at : (s xs : List ℕ) (a : ℕ) → a < length s → getD (setTrue s xs) a 0 ≡ cond (member a xs) 1 (getD s a 0)
-unfolding member any
-true-at s [] a h = refl
-true-at s (x ∷ xs) a h = go (eqb a x) refl (true-at (set s x 1) xs a (rw (length-set s x 1) h))
-  where
-    same : (t : Bool) → _≡_ {A = ℕ} (cond t 1 1) 1
-    same true = refl
-    same false = refl
-
-    go :
-        (b : Bool) → eqb a x ≡ b → getD (setTrue (set s x 1) xs) a 0 ≡ cond (member a xs) 1 (getD (set s x 1) a 0)
-        → getD (setTrue (set s x 1) xs) a 0 ≡ cond (eqb a x || member a xs) 1 (getD s a 0)
-    go true e rest =
-        let p : a ≡ x = eqb-true a x e in
-        let q : getD (set s x 1) a 0 ≡ 1 = rw (← p) (getD-set-same s a 1 0 h) in
-        rest ∙ rw (q, e) (same (member a xs))
-    go false e rest = rest ∙ rw (getD-set-other s x a 1 0 (eqb-false a x e), e)
-
-pub initial-made : (t : Task) (s : List ℕ) → length s ≡ t .atoms → setTrue (replicate (length s) 0) (t .initial) ≡ initialState t
+pub initial-made : (t : Task) (s : List ℕ) → length s ≡ t .atoms → setAll 1 (t .initial) (replicate (length s) 0) ≡ initialState t
 unfolding initialState stateOf
 initial-made t s size =
-    ext-getD 0 (setTrue z (t .initial)) (map (stateOf (t .initial)) (below (t .atoms))) (long ∙ sym (table-length (stateOf (t .initial)) (t .atoms)))
+    ext-getD 0 (setAll 1 (t .initial) z) (map (stateOf (t .initial)) (below (t .atoms))) (long ∙ sym (table-length (stateOf (t .initial)) (t .atoms)))
     (λ a h.
     let low : a < t .atoms = omega (arith, long) in
-    true-at z (t .initial) a (omega (arith, length-replicate {A = ℕ} (length s) 0))
+    set-at 1 (t .initial) z a (omega (arith, length-replicate {A = ℕ} (length s) 0))
     ∙ ap (cond (member a (t .initial)) 1) (getD-replicate (length s) a 0 0 (omega arith))
     ∙ sym (table-at (stateOf (t .initial)) (t .atoms) a low))
   where
     z : List ℕ
     z = replicate (length s) 0
 
-    long : length (setTrue z (t .initial)) ≡ t .atoms
-    long = true-length z (t .initial) ∙ length-replicate (length s) 0 ∙ size
+    long : length (setAll 1 (t .initial) z) ≡ t .atoms
+    long = set-length 1 (t .initial) z ∙ length-replicate (length s) 0 ∙ size
 
 pub take-zeros : (k n : ℕ) → k ≤ n → take k (replicate {A = ℕ} n 0) ≡ replicate k 0
 take-zeros zero n h = refl

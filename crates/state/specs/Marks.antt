@@ -9,6 +9,11 @@ use Rattle.definitions.specs.Step.{fires}
 use Rattle.definitions.specs.Closure.{has}
 use Rattle.literal.specs.Mark.{markIf}
 
+-- the byte v at each place of a list
+abbrev pub setAll : ℕ → List ℕ → List ℕ → List ℕ
+setAll v [] s = s
+setAll v (x ∷ xs) s = setAll v xs (set s x v)
+
 -- the effects of the rows that fire in s, marked in m
 abbrev pub markFired : List ℕ → List Row → List ℕ → List ℕ
 markFired s [] m = m
@@ -32,8 +37,3 @@ changed m adds (r ∷ rs) s = changed m adds rs (makeTrue (due m adds (r .effect
 abbrev pub unmarked : List Row → List ℕ → List ℕ
 unmarked [] m = m
 unmarked (r ∷ rs) m = unmarked rs (set m (r .effect) 0)
-
--- a state with the atoms of a list made true
-abbrev pub setTrue : List ℕ → List ℕ → List ℕ
-setTrue s [] = s
-setTrue s (a ∷ xs) = setTrue (set s a 1) xs

@@ -1,15 +1,18 @@
+-- `state::set_true`: setting all atoms is setting those that are left, in the state so far.
 use Prim.Native.Nat.{_≤_, _-_}
 use mathlib.Core.Path.{_≡_, refl, sym, _∙_}
 use native.Mathlib.Omega.{arith}
 use lib.ListN.{length, drop}
-use Rattle.state.specs.Marks.{setTrue}
-use Rattle.state.proofs.Marks.{true-on, true-end}
+use Rattle.state.specs.Marks.{setAll}
+use Rattle.state.proofs.Marks.{set-on, set-end}
 use borrow.Author.Needs.{needs}
 use Rattle.state.proofs.set_true.Statement.{statement}
 use Rattle.state.proofs.set_true.Tie as tie
 
 abbrev Inv-loop : tie.InvT-loop
-Inv-loop state₀ atoms i₀ state i = (i ≤ length atoms) × ((length state ≡ length state₀) × (setTrue state₀ atoms ≡ setTrue state (drop i atoms)))
+Inv-loop state₀ atoms i₀ state i =
+    (i ≤ length atoms)
+    × ((length state ≡ length state₀) × (setAll 1 atoms state₀ ≡ setAll 1 (drop i atoms) state))
 
 abbrev μ-loop : tie.MeasureT-loop
 μ-loop state₀ atoms i₀ state i = length atoms - i
@@ -55,7 +58,7 @@ loop-again c =
       (
         omega (arith, c .before .before .mark-if .kept .1 .0),
         l .inv .1 .1
-            ∙ true-on (l .state) _ _ (l .i) _ (in-loop (after-wide c) .loop-test .taken) (c .before .before .before .wide .ensures .0)
+            ∙ set-on (l .state) _ _ (l .i) _ (in-loop (after-wide c) .loop-test .taken) (c .before .before .before .wide .ensures .0)
             (c .before .before .mark-if .ensures),
       ),
     )
@@ -66,7 +69,7 @@ same-length c = c .before .loop .inv .1 .0
 returns : tie.Need-returns Inv-loop μ-loop
 returns c =
     let l = c .before .loop in
-    sym (l .inv .1 .1 ∙ true-end (l .state) _ (l .i) (c .loop-test .left))
+    sym (l .inv .1 .1 ∙ set-end (l .state) _ (l .i) (c .loop-test .left))
 
 pub set-true-spec : {M : Type 1} → statement M
 set-true-spec =

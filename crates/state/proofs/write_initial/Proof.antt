@@ -2,8 +2,9 @@
 use mathlib.Core.Path.{ap, _∙_}
 use mathlib.Core.List.{List}
 use Prim.Native.Nat.{ℕ}
+use lib.ListN.{length, replicate}
 use Rattle.task.specs.Reads.{taskOf}
-use Rattle.state.specs.Marks.{setTrue}
+use Rattle.state.specs.Marks.{setAll}
 use Rattle.state.proofs.Marks.{initial-made}
 use borrow.Author.Needs.{needs}
 use Rattle.state.proofs.write_initial.Statement.{statement}
@@ -40,9 +41,10 @@ returns c =
     let i = d .before in
     let e = cleared i in
     let s = start e in
+    let zeros : List ℕ = replicate (length (s .args .state .now)) 0 in
     d .set-true .ensures
-    ∙ ap (λ (z : List ℕ). setTrue z (i .initial .result .now)) (e .clear .ensures)
-    ∙ ap (setTrue _) (i .initial .ensures)
+    ∙ ap (setAll 1 (i .initial .result .now)) (e .clear .ensures)
+    ∙ ap (λ (xs : List ℕ). setAll 1 xs zeros) (i .initial .ensures)
     ∙ initial-made (taskOf (s .args .image .now)) (s .args .state .now) (s .pre .1)
 
 pub write-initial-spec : {M : Type 1} → statement M
