@@ -1,5 +1,5 @@
 -- The flags of the guaranteed literals are what the walks over the operator's rows leave. Assumes nothing.
-use mathlib.Core.Bool.{Bool, true, false, not, _&&_, _||_, cond}
+use mathlib.Core.Bool.{Bool, true, false, Bool·beq, not, _&&_, _||_, cond}
 use mathlib.Core.Logic.{_⊎_, inl, inr}
 use mathlib.Core.Path.{_≡_, refl, sym, _∙_, ap, ap₂, subst}
 use mathlib.Core.List.{List, [], _∷_, _++_, map}
@@ -55,7 +55,8 @@ complement-eqb a b = go (decide (eqb a (complement b)))
         ∙ sym (ne-eqb (complement a) b (λ e. eqb-false a (complement b) h (sym (complement-back a) ∙ ap complement e)))
 
 -- the flag of a literal, positive or not (p), that a row surely makes true (f), that no row can make false (n), and that lies in K (k)
-flag-bits : (p f n k : Bool) → cond (p && f) 1 (cond n (cond (not p && f) 1 (bit k)) 0) ≡ bit ((f && (p || n)) || (k && n))
+flag-bits :
+    (p f n k : Bool) → cond (Bool·beq p true && f) 1 (cond n (cond (Bool·beq p false && f) 1 (bit k)) 0) ≡ bit ((f && (p || n)) || (k && n))
 unfolding bit
 flag-bits true true n k = refl
 flag-bits true false true true = refl
@@ -247,11 +248,11 @@ module _ (N : ℕ) (C : List (List ℕ)) where
             let fires = any (λ q. eqb (q .effect) m && allIn K (q .conditions)) (o .rows) in
             let safe = all (λ q. not (eqb (complement (q .effect)) m && canFire N C ls (q .conditions))) (o .rows) in
             added-at true K (o .rows) E m (subst (λ (k : ℕ). m < k) (sym lenE) low)
-            ∙ ap (λ x. cond (positive m && fires) 1 x)
+            ∙ ap (λ x. cond (isOfKind true m && fires) 1 x)
             (dropped-at ls (o .rows) D m (subst (λ (k : ℕ). m < k) (sym lenD) low)
             ∙ ap (λ x. cond safe x 0)
             (added-at false K (o .rows) F m (subst (λ (k : ℕ). m < k) (sym lenF) low)
-            ∙ ap (λ x. cond (not (positive m) && fires) 1 x) (table-at (λ l. bit (has K l)) (2 * N) m low)))
+            ∙ ap (λ x. cond (isOfKind false m && fires) 1 x) (table-at (λ l. bit (has K l)) (2 * N) m low)))
             ∙ flag-bits (positive m) fires safe (has K m)
             ∙ ap₂ (λ a b. bit ((a && (positive m || b)) || (has K m && b))) (sym (fires-any K m)) (sym (never-all m))
             ∙ sym (table-at (λ m. bit (guaranteed N C o ls K m)) (2 * N) m low)
@@ -263,6 +264,10 @@ module _ (N : ℕ) (C : List (List ℕ)) where
         ∙ bit-back (guaranteed N C o ls (closure N C ls) m)
 
 -- ---- the walks over the rows, by the row that comes next
+pub kind-told : (adds p : Bool) (e : ℕ) {b : Bool} → p ≡ positive e → Bool·beq p adds ≡ b → isOfKind adds e ≡ b
+unfolding isOfKind
+kind-told adds p e ep h = rw (← ep) h
+
 module _ (adds : Bool) (K : List ℕ) (rs rs′ : List Row) (e : ℕ) (cs S : List ℕ) (next : rs ≡ record { effect = e; conditions = cs } ∷ rs′) where
   pub add-other : isOfKind adds e ≡ false → addEffects adds K rs S ≡ addEffects adds K rs′ S
   unfolding addEffects

@@ -1,5 +1,5 @@
 -- Judging in bulk: the literals that an operator guarantees as one set, and all judged clauses for one row after the other. Assumes nothing.
-use mathlib.Core.Bool.{Bool, true, false, not, _&&_, cond}
+use mathlib.Core.Bool.{Bool, true, false, Bool·beq, not, _&&_, cond}
 use mathlib.Core.Path.{_≡_}
 use mathlib.Core.List.{List, [], _∷_, _++_, map}
 use Prim.Native.Nat.{ℕ, _*_}
@@ -14,9 +14,9 @@ use Rattle.definitions.specs.Kept.{allIn, guaranteed, keptCase, kept}
 unfoldable pub flagsOf : ℕ → List ℕ → List ℕ
 flagsOf N K = map (λ l. bit (has K l)) (below (2 * N))
 
--- a row with effect e adds an atom, or deletes one
+-- a row with effect e is of the kind: it adds its atom, or deletes it
 unfoldable pub isOfKind : Bool → ℕ → Bool
-isOfKind adds e = cond adds (positive e) (not (positive e))
+isOfKind adds e = Bool·beq (positive e) adds
 
 -- the flags with those of the effects of the rows of one kind whose conditions lie in K
 unfoldable pub addEffects : Bool → List ℕ → List Row → List ℕ → List ℕ

@@ -10,16 +10,11 @@ ghost use Rattle.clause.specs.Rows.{clausesOf};
 ghost use Rattle.task.specs.Walk.{blockParses, operatorIn};
 ghost use Rattle.propagation.specs.Marks.{Marked, ConsistentMarks, Asked};
 ghost use Rattle.judge.specs.Promise.{Given, ConsistentClosure, FlagsGuaranteed};
-ghost use Rattle.judge.specs.Judging.{flagsOf, canFire, isOfKind, addEffects, dropChanged};
+ghost use Rattle.judge.specs.Judging.{flagsOf, canFire, addEffects, dropChanged};
 use literal::Literal;
 use propagation::Closing;
 use task::block::BlockHead;
 use task::block::RowPart;
-
-// The kinds of rows that a pass over an operator's rows takes.
-const ADDS: bool = true;
-
-const DELETES: bool = false;
 
 // The complement of a row's effect.
 pub fn complement(effect: usize) -> u16
@@ -98,18 +93,6 @@ fn drop_changed(
     }
 }
 
-// Whether a row with this effect adds an atom, if `adds`, or deletes one, if not.
-fn is_of_kind(effect: usize, adds: bool) -> bool
-    requires { ⌜ effect < 65536 ⌝ }
-    ensures { λ r. ⌜ r ≡ isOfKind adds effect ⌝ }
-{
-    let positive = (Literal {
-        code: effect as u16,
-    })
-        .is_positive();
-    if adds { positive } else { !positive }
-}
-
 // Flags the effects of the rows whose conditions are marked: of those that add an atom, if `adds`, of those that delete one, if not.
 fn add_effects(block: &[u16], marks: &[u8], adds: bool, flags: &mut [u8])
     requires { ⌜ blockParses (now block) ≡ true ⌝ }
@@ -122,7 +105,10 @@ fn add_effects(block: &[u16], marks: &[u8], adds: bool, flags: &mut [u8])
         let RowPart { effect, from, end } = task::block::row(block, at, left);
         at = end;
         left -= 1;
-        if !is_of_kind(effect, adds) {
+        let l = Literal {
+            code: effect as u16,
+        };
+        if l.is_positive() != adds {
             continue;
         }
         if !propagation::holds_all(marks, &block[from..end]) {
@@ -141,7 +127,7 @@ pub fn flag_guaranteed(clauses: &[u16], block: &[u16], marks: &[u8], atoms: usiz
     let mut work = literal::room::marks();
     let end = 2 * atoms;
     flag_marked(marks, atoms, flags);
-    add_effects(block, marks, DELETES, flags);
+    add_effects(block, marks, task::block::DELETES, flags);
     drop_changed(clauses, block, marks, atoms, &mut work[..end], flags);
-    add_effects(block, marks, ADDS, flags);
+    add_effects(block, marks, task::block::ADDS, flags);
 }

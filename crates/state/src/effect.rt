@@ -99,7 +99,7 @@ pub fn apply(block: &[u16], state: &mut [u8], marks: &mut [u8])
         × (now (marks .exit) ≡ now (marks .entry)) ⌝ }
 {
     mark_fired(block, state, marks);
-    change(block, marks, false, state); // clears the deleted atoms
-    change(block, marks, true, state); // sets the added atoms
+    change(block, marks, task::block::DELETES, state);
+    change(block, marks, task::block::ADDS, state);
     unmark(block, marks);
 }

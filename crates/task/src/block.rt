@@ -12,6 +12,11 @@ ghost use Rattle.task.specs.Post.{RowRead, BlockRead};
 use answer::Refusal;
 use answer::Verdict;
 
+// The kinds of effect rows, for walks over the rows of one kind.
+pub const ADDS: bool = true;
+
+pub const DELETES: bool = false;
+
 fn both(a: bool, b: bool) -> bool
     ensures { λ r. ⌜ r ≡ (a && b) ⌝ }
 {

@@ -12,7 +12,7 @@ use Rattle.task.proofs.Blocks.{rows-none}
 use Rattle.propagation.specs.Marks.{Marked}
 use Rattle.judge.specs.Judging.{addEffects}
 use Rattle.judge.proofs.BlockRows.{Left, left-start, left-next, conditions-low}
-use Rattle.judge.proofs.Guaranteed.{add-start, add-other, add-made, add-passed, add-end}
+use Rattle.judge.proofs.Guaranteed.{kind-told, add-start, add-other, add-made, add-passed, add-end}
 use borrow.Author.Needs.{needs}
 use Rattle.judge.proofs.guarantee.add_effects.Statement.{statement}
 use Rattle.judge.proofs.guarantee.add_effects.Tie as tie
@@ -31,13 +31,13 @@ abbrev μ-loop : tie.MeasureT-loop
 abbrev at-loop : tie.After-row Inv-loop μ-loop → tie.At-loop Inv-loop μ-loop
 at-loop c = c .before .before
 
-abbrev row-of : tie.After-is-of-kind Inv-loop μ-loop → tie.After-row Inv-loop μ-loop
+abbrev row-of : tie.After-is-positive Inv-loop μ-loop → tie.After-row Inv-loop μ-loop
 row-of c = c .before
 
 abbrev of-kind : tie.After-holds-all Inv-loop μ-loop → tie.Else1 Inv-loop μ-loop
 of-kind c = c .before .before
 
-abbrev kind-of : tie.After-holds-all Inv-loop μ-loop → tie.After-is-of-kind Inv-loop μ-loop
+abbrev kind-of : tie.After-holds-all Inv-loop μ-loop → tie.After-is-positive Inv-loop μ-loop
 kind-of c = of-kind c .before
 
 abbrev held : tie.After-put Inv-loop μ-loop → tie.Else2 Inv-loop μ-loop
@@ -62,8 +62,11 @@ row-requires c κs = (c .before .loop .inv .0, c .loop-test .taken)
 sub-left : tie.Need-sub-left Inv-loop μ-loop
 sub-left c = search needs
 
-is-of-kind-requires : tie.Need-is-of-kind-requires Inv-loop μ-loop
-is-of-kind-requires c κs = c .row .ensures .word
+cast-t16 : tie.Need-cast-t16 Inv-loop μ-loop
+cast-t16 c = search needs
+
+is-positive-requires : tie.Need-is-positive-requires Inv-loop μ-loop
+is-positive-requires c κs = search needs
 
 loop-less : tie.Need-loop-less Inv-loop μ-loop
 loop-less c = search needs
@@ -78,7 +81,7 @@ loop-again c =
       λ atoms K right m.
           let j = i .2 atoms K right m in (
             left-next atoms _ _ _ _ _ _ (j .0) r,
-            j .1 ∙ add-other _ K _ _ _ _ _ (r .row) (sym (k .is-of-kind .ensures) ∙ not-true _ (c .if1 .taken)),
+            j .1 ∙ add-other _ K _ _ _ _ _ (r .row) (kind-told _ _ _ (k .is-positive .ensures) (not-true _ (c .if1 .taken))),
           ),
     )
 
@@ -112,7 +115,7 @@ loop-again-2 c =
           let j = i .2 atoms K right m in (
             left-next atoms _ _ _ _ _ _ (j .0) r,
             j .1
-                ∙ add-passed _ K _ _ _ _ _ (r .row) (sym (k .is-of-kind .ensures) ∙ not-false _ (of-kind h .if1 .left))
+                ∙ add-passed _ K _ _ _ _ _ (r .row) (kind-told _ _ _ (k .is-positive .ensures) (not-false _ (of-kind h .if1 .left)))
                 (sym (h .holds-all .ensures atoms K m (conditions-low atoms _ _ _ _ _ _ (j .0) r)) ∙ not-true _ (c .if2 .taken)),
           ),
     )
@@ -136,7 +139,7 @@ loop-again-3 c =
           let j = i .2 atoms K right m in (
             left-next atoms _ _ _ _ _ _ (j .0) r,
             j .1
-                ∙ add-made _ K _ _ _ _ _ (r .row) _ (p .put .ensures) (sym (k .is-of-kind .ensures) ∙ not-false _ (of-kind h .if1 .left))
+                ∙ add-made _ K _ _ _ _ _ (r .row) _ (p .put .ensures) (kind-told _ _ _ (k .is-positive .ensures) (not-false _ (of-kind h .if1 .left)))
                 (sym (h .holds-all .ensures atoms K m (conditions-low atoms _ _ _ _ _ _ (j .0) r)) ∙ not-false _ (held p .if2 .left)),
           ),
     )
@@ -158,7 +161,8 @@ add-effects-spec =
     loop-holds
     row-requires
     sub-left
-    is-of-kind-requires
+    cast-t16
+    is-positive-requires
     loop-less
     loop-again
     mul-holds-all
