@@ -33,9 +33,6 @@ named-cons r rest w = refl
 pub for-same : (rows : List FdrRow) (m : List ℕ) → NotedFor rows m m
 for-same rows m = record { apart = λ w h. refl }
 
-pub for-both : (rows : List FdrRow) (m m′ m″ : List ℕ) → NotedFor rows m m′ → NotedFor rows m′ m″ → NotedFor rows m m″
-for-both rows m m′ m″ p q = record { apart = λ w h. q .apart w h ∙ p .apart w h }
-
 module _ (rows rest : List FdrRow) (r : FdrRow) (er : rows ≡ r ∷ rest) where
   pub for-next : (m m′ x : List ℕ) → NotedAt (r .variable) m m′ → NotedFor rest m′ x → NotedFor rows m x
   for-next m m′ x one more =
@@ -104,7 +101,9 @@ unnoted-at (r ∷ rows) m v h = go (eqb v (r .variable)) refl (unnoted-at rows (
         rest ∙ rw (q, e) (same (named rows v))
     go false e rest = rest ∙ rw (getD-set-other m (r .variable) v 0 0 (eqb-false v (r .variable) e), e)
 
-pub notes-gone : (rows : List FdrRow) (m₀ m m′ : List ℕ) → m₀ ≡ noChanges → length m ≡ length m₀ → NotedFor rows m₀ m → m′ ≡ unnoted rows m → m′ ≡ m₀
+pub notes-gone :
+    (rows : List FdrRow) (m₀ m m′ : List ℕ) → m₀ ≡ noChanges → length m ≡ length m₀ → NotedFor rows m₀ m → m′ ≡ unnoted rows m
+    → m′ ≡ m₀
 notes-gone rows m₀ m m′ e₀ size nf e =
     e ∙ ext-getD 0 (unnoted rows m) m₀ (unnoted-length rows m ∙ size) (λ v h. at v (let l = unnoted-length rows m in omega arith) (named rows v) refl)
   where
@@ -132,7 +131,9 @@ module _ (D : List Domain) (m : List ℕ) where
   written-length (r ∷ rows) s =
       let x = made (r .variable) (getD s (r .variable) 0) in written-length rows (set s (r .variable) x) ∙ length-set s (r .variable) x
 
-  written-at : (rows : List FdrRow) (s : List ℕ) (v : ℕ) → v < length s → getD (written D m rows s) v 0 ≡ cond (named rows v) (made v (getD s v 0)) (getD s v 0)
+  written-at :
+      (rows : List FdrRow) (s : List ℕ) (v : ℕ) → v < length s
+      → getD (written D m rows s) v 0 ≡ cond (named rows v) (made v (getD s v 0)) (getD s v 0)
   unfolding named any
   written-at [] s v h = refl
   written-at (r ∷ rows) s v h = go (eqb v (r .variable)) refl (written-at rows s₁ v (rw (length-set s (r .variable) x) h))
@@ -194,4 +195,6 @@ module _ (D : List Domain) (m : List ℕ) where
         back : nonesThere D m ≡ true → nonesIn D m rows ≡ true
         back h =
             all-of (λ r. calm-at (r .variable)) rows
-            (λ r k. all-at calm-at h (below-in (length D) (r .variable) (ltb-true (r .variable) (length D) (all-at (λ r. ltb (r .variable) (length D)) low k))))
+            (λ r k.
+            all-at calm-at h
+            (below-in (length D) (r .variable) (ltb-true (r .variable) (length D) (all-at (λ r. ltb (r .variable) (length D)) low k))))

@@ -1,5 +1,5 @@
 -- Laws of the calls: states of a re-encoded task, and questions 19 to 22. Assumes nothing.
-use mathlib.Core.Path.{_≡_, refl, sym, ap, _∙_, subst}
+use mathlib.Core.Path.{_≡_, sym, ap, _∙_, subst}
 use mathlib.Core.List.{List, map, List·Memᴰ}
 use mathlib.Core.Bool.{Bool, true, false, not, _&&_}
 use mathlib.Core.Option.{Option, none, some}
@@ -15,7 +15,7 @@ use Rattle.definitions.specs.Groups.{Domain}
 use Rattle.definitions.specs.Fdr.{FdrRow, FdrOperator, FdrTask, noDomain, atomValues, fdrAllTrue}
 use Rattle.definitions.specs.FdrImage.{isAtomValue, fdrLiteralRight, fdrRowRight, fdrOperatorRight}
 use Rattle.definitions.specs.FdrStep.{isFdrState, fdrFired, fdrConflict, noneThere, fdrAfter, noFdrOperator, fdrStep}
-use Rattle.definitions.proofs.ListLaws.{none-some, and-left, and-right, all-at, all-of, keep-of}
+use Rattle.definitions.proofs.ListLaws.{and-left, and-right, all-at, all-of, keep-of}
 use Rattle.answer.specs.Answer.{refusalAt}
 use Rattle.answer.specs.Reader.{stateAnswer}
 use Rattle.answer.proofs.ReaderCalls.{question-no, question-yes, stays, done, operator-refused, operator-there, image-fine, state-is}
@@ -24,10 +24,10 @@ use Rattle.fdr_image.specs.Walk.{operatorIn}
 use Rattle.fdr_image.specs.Post.{BlockGiven}
 use Rattle.fdr_image.proofs.DomainLaws.{values-length, values-some}
 use Rattle.fdr_image.proofs.Reading.{reads, variables-are, initial-right}
-use Rattle.fdr.specs.Change.{noChanges, noted, noteRows, noteClears, noteFired, nonesIn, written, unnoted, applied, stepped}
+use Rattle.fdr.specs.Change.{noChanges, noted, noteFired, nonesIn, written, unnoted, applied, stepped}
 use Rattle.fdr.specs.Post.{fdrReader, Standing, Applying, LowBlock, Changes, Writes, NotedFor}
 use Rattle.fdr.proofs.StepLaws.{Rows}
-use Rattle.fdr.proofs.Applied.{blank-length, conflict-sets, conflict-clears, calm, nonesThere, changed, nones-is, changed-is, changes-inside}
+use Rattle.fdr.proofs.Applied.{blank-length, conflict, calm, nonesThere, changed, nones-is, changed-is, changes-inside}
 use Rattle.fdr.proofs.ByRows.{nones-by-rows, written-is, notes-gone}
 
 -- questions 17 and 18 are answered yes
@@ -128,41 +128,6 @@ noted-some : (f : Bool) (m : List ℕ) (o : Option (List ℕ)) → noted f m ≡
 unfolding noted
 noted-some f m o e h = sym e ∙ ap (λ (b : Bool). noted b m) h
 
-module _ (s : List ℕ) (rs : List FdrRow) (rows : Rows mostAtoms rs) where
-  fired-conflict : noteFired s rs noChanges ≡ none → fdrConflict rs ≡ true
-  unfolding noteFired noteClears
-  fired-conflict e = go (noteRows s 0 rs noChanges) refl e
-    where
-      go : (o : Option (List ℕ)) → noteRows s 0 rs noChanges ≡ o → noteClears s rs o ≡ none → fdrConflict rs ≡ true
-      go none p e = conflict-sets s rs rows p
-      go (some m) p e = conflict-clears s rs rows m p e
-
-  fired-both :
-      (m′ : List ℕ) → noteFired s rs noChanges ≡ some m′
-      → (m : List ℕ) × (noteRows s 0 rs noChanges ≡ some m) × (noteRows s 1 rs m ≡ some m′)
-  unfolding noteFired noteClears
-  fired-both m′ e = go (noteRows s 0 rs noChanges) refl e
-    where
-      go :
-          (o : Option (List ℕ)) → noteRows s 0 rs noChanges ≡ o → noteClears s rs o ≡ some m′
-          → (m : List ℕ) × (noteRows s 0 rs noChanges ≡ some m) × (noteRows s 1 rs m ≡ some m′)
-      go none p e = none-some e
-      go (some m) p e = (m, p, e)
-
--- both passes, the sets and then the clears
-pub noted-both :
-    (s : List ℕ) (rs : List FdrRow) (m₀ m m′ : List ℕ) (f g : Bool) → noted f m ≡ noteRows s 0 rs m₀ → f ≡ true
-    → noted g m′ ≡ noteRows s 1 rs m
-    → noted g m′ ≡ noteFired s rs m₀
-unfolding noteFired noteClears
-noted-both s rs m₀ m m′ f g e h e′ = e′ ∙ sym (ap (noteClears s rs) (noted-some f m (noteRows s 0 rs m₀) e h))
-
-pub noted-first :
-    (s : List ℕ) (rs : List FdrRow) (m₀ m : List ℕ) (f : Bool) → noted f m ≡ noteRows s 0 rs m₀ → f ≡ false
-    → noted false m ≡ noteFired s rs m₀
-unfolding noteFired noteClears noted
-noted-first s rs m₀ m f e h = sym (ap (noteClears s rs) (noted-none f m (noteRows s 0 rs m₀) e h))
-
 -- ---- the rows of a block, by what is noted
 module _ (w b s m₀ : List ℕ) (a : Applying w b s m₀) where
   abbrev fired : List FdrRow
@@ -194,11 +159,11 @@ module _ (w b s m₀ : List ℕ) (a : Applying w b s m₀) where
     from-blank = e ∙ ap (noteFired s fired) (a .blank)
 
     pub rows-refused : f ≡ false → outcome (refused (refusalAt 21 0 0)) s ≡ becomes s (applied (fdrOf w) s fired)
-    rows-refused h = applied-21 (fdrOf w) s fired (fired-conflict s fired rows (noted-none f m (noteFired s fired noChanges) from-blank h))
+    rows-refused h = applied-21 (fdrOf w) s fired (conflict s fired rows (noted-none f m (noteFired s fired noChanges) from-blank h))
 
     module _ (free : f ≡ true) where
-      both : (m₁ : List ℕ) × (noteRows s 0 fired noChanges ≡ some m₁) × (noteRows s 1 fired m₁ ≡ some m)
-      both = fired-both s fired rows m (noted-some f m (noteFired s fired noChanges) from-blank free)
+      all-noted : noteFired s fired noChanges ≡ some m
+      all-noted = noted-some f m (noteFired s fired noChanges) from-blank free
 
       module _ (D : List Domain) (eD : D ≡ fdrOf w .domains) where
         low-variables : LowBlock (length D) b
@@ -207,7 +172,7 @@ module _ (w b s m₀ : List ℕ) (a : Applying w b s m₀) where
         changes-there : Changes D m
         changes-there =
             subst (λ (x : List Domain). Changes x m) (sym eD)
-            (changes-inside s fired rows (both .0) (both .1) m (both .2) (fdrOf w) few
+            (changes-inside s fired rows m all-noted (fdrOf w) few
             (values-some (fdrOf w .domains) (fdrOf w .initial) (initial-right w (a .standing .reads)))
             (fired-inside (fdrOf w .domains) (operatorIn b) few (a .right) s))
 
@@ -224,10 +189,10 @@ module _ (w b s m₀ : List ℕ) (a : Applying w b s m₀) where
           nones : r ≡ noneThere (fdrOf w) s fired
           nones =
               er ∙ nones-by-rows D m (operatorIn b .rows) nf (low-variables .low) ∙ ap (λ (x : List Domain). nonesThere x m) eD
-              ∙ nones-is s fired rows (both .0) (both .1) m (both .2) (fdrOf w)
+              ∙ nones-is s fired rows m all-noted (fdrOf w)
 
           no-conflict : fdrConflict fired ≡ false
-          no-conflict = calm s fired rows (both .0) (both .1) m (both .2)
+          no-conflict = calm s fired rows m all-noted
 
           pub nones-refused : r ≡ false → outcome (refused (refusalAt 22 0 0)) s ≡ becomes s (applied (fdrOf w) s fired)
           nones-refused h = applied-22 (fdrOf w) s fired no-conflict (sym nones ∙ h)
@@ -238,7 +203,7 @@ module _ (w b s m₀ : List ℕ) (a : Applying w b s m₀) where
           rows-done h s′ es =
               applied-done (fdrOf w) s fired no-conflict (sym nones ∙ h) s′
               (es ∙ written-is D m (operatorIn b .rows) nf s ∙ ap (λ (x : List Domain). changed x m 0 s) eD
-              ∙ changed-is s fired rows (both .0) (both .1) m (both .2) (fdrOf w) (a .standing .size))
+              ∙ changed-is s fired rows m all-noted (fdrOf w) (a .standing .size))
 
 -- what a step by a block asks
 pub applying :

@@ -3,7 +3,7 @@ use Prim.Native.Nat.{ℕ, zero, suc, _+_, _-_}
 use mathlib.Core.List.{List, [], _∷_, map}
 use mathlib.Core.Bool.{Bool, true, false, not, cond, _&&_}
 use mathlib.Core.Option.{Option, none, some}
-use lib.Dec.{eqb}
+use lib.Dec.{eqb, ltb}
 use lib.ListN.{length, getD, set, replicate}
 use Rattle.definitions.specs.Literal.{mostAtoms}
 use Rattle.definitions.specs.Lists.{any, all, below}
@@ -24,45 +24,30 @@ unfoldable pub noted : Bool → List ℕ → Option (List ℕ)
 noted true m = some m
 noted false m = none
 
--- a set: of a variable that is set already only to the same value
+-- a set: it beats a clear noted before it; of a variable that is set already only to the same value
 unfoldable pub noteSet : ℕ → ℕ → List ℕ → Option (List ℕ)
 noteSet v x m =
-    elim (eqb (getD m v 0) 0) [ true ↦ some (set m v (x + 2)) | false ↦ noted (eqb (getD m v 0) (x + 2)) m ]
+    elim (ltb (getD m v 0) 2) [ true ↦ some (set m v (x + 2)) | false ↦ noted (eqb (getD m v 0) (x + 2)) m ]
 
--- a clear, with all sets noted: not of a value that is set; otherwise of the present value of a variable that is not set
-unfoldable pub noteClear : List ℕ → ℕ → ℕ → List ℕ → Option (List ℕ)
-noteClear s v x m =
-    elim (eqb (getD m v 0) (x + 2)) [
-      | true ↦ none
-      | false ↦ some (cond (eqb (getD m v 0) 0 && eqb (getD s v 0) x) (set m v 1) m)
-    ]
+-- a clear: of the present value of a variable for which nothing is noted; it gives way to a set noted before it
+unfoldable pub noteClear : List ℕ → ℕ → ℕ → List ℕ → List ℕ
+noteClear s v x m = cond (eqb (getD m v 0) 0 && eqb x (getD s v 0)) (set m v 1) m
 
 unfoldable pub noteKind : List ℕ → Kind → ℕ → ℕ → List ℕ → Option (List ℕ)
 noteKind s Set v x m = noteSet v x m
-noteKind s Clear v x m = noteClear s v x m
+noteKind s Clear v x m = some (noteClear s v x m)
 noteKind s Other v x m = some m
-
--- a row, in the pass for rows of one kind
-unfoldable pub noteWords : List ℕ → ℕ → ℕ → ℕ → ℕ → List ℕ → Option (List ℕ)
-noteWords s pass k v x m = elim (eqb k pass) [ true ↦ noteKind s (kindOf k) v x m | false ↦ some m ]
 
 unfoldable pub noteIf : Bool → Option (List ℕ) → List ℕ → Option (List ℕ)
 noteIf fires o m = elim fires [ true ↦ o | false ↦ some m ]
 
-abbrev pub noteRow : List ℕ → ℕ → FdrRow → List ℕ → Option (List ℕ)
-noteRow s pass r m = noteWords s pass (r .kind) (r .variable) (r .value) m
+abbrev pub noteRow : List ℕ → FdrRow → List ℕ → Option (List ℕ)
+noteRow s r m = noteKind s (kindOf (r .kind)) (r .variable) (r .value) m
 
-unfoldable pub noteRows : List ℕ → ℕ → List FdrRow → List ℕ → Option (List ℕ)
-noteRows s pass [] m = some m
-noteRows s pass (r ∷ rs) m = elim (noteRow s pass r m) [ none ↦ none | some m′ ↦ noteRows s pass rs m′ ]
-
--- the clears, after the sets
-unfoldable pub noteClears : List ℕ → List FdrRow → Option (List ℕ) → Option (List ℕ)
-noteClears s rs none = none
-noteClears s rs (some m) = noteRows s 1 rs m
-
+-- the fired rows, one after the other
 unfoldable pub noteFired : List ℕ → List FdrRow → List ℕ → Option (List ℕ)
-noteFired s rs m = noteClears s rs (noteRows s 0 rs m)
+noteFired s [] m = some m
+noteFired s (r ∷ rs) m = elim (noteRow s r m) [ none ↦ none | some m′ ↦ noteFired s rs m′ ]
 
 -- what becomes of a variable of value x
 unfoldable pub become : Domain → ℕ → ℕ → ℕ

@@ -11,7 +11,7 @@ ghost use Rattle.definitions.specs.Fdr.{noDomain, fdrAllTrue};
 ghost use Rattle.definitions.specs.FdrImage.{domainsIn, literalsIn};
 ghost use Rattle.definitions.specs.FdrStep.{fdrFired};
 ghost use Rattle.fdr_image.specs.Walk.{kindOf, operatorIn};
-ghost use Rattle.fdr.specs.Change.{noted, noteSet, noteClear, noteKind, noteWords, noteIf, noteRows, noteFired, become, nonesIn, written, unnoted};
+ghost use Rattle.fdr.specs.Change.{noted, noteSet, noteClear, noteKind, noteIf, noteFired, become, nonesIn, written, unnoted};
 ghost use Rattle.fdr.specs.Post.{LowBlock, Changed, Changes, Writes, NotedAt, NotedFor};
 
 // What becomes of a variable: it stays, it becomes none, or it becomes the value x, noted as x more than `FIRST_VALUE`.
@@ -21,84 +21,80 @@ const TO_NONE: usize = 1;
 
 const FIRST_VALUE: usize = 2;
 
-// The kinds of the rows that a pass over the rows notes.
-const SETS: u16 = 0;
-
-const CLEARS: u16 = 1;
-
-// Notes a set. False if the variable is set to another value.
+// Notes a set, which beats a clear noted before it. False if the variable is set to another value.
 fn note_set(changes: &mut [usize], variable: usize, value: usize) -> bool
     requires { ⌜ (variable < length (now changes)) × (value < 65536) ⌝ }
-    ensures { λ r. ⌜ (noted r (now (changes .exit)) ≡ noteSet variable value (now (changes .entry))) × NotedAt variable (now (changes .entry)) (now (changes .exit)) ⌝ }
+    ensures { λ r. ⌜ (noted r (now (changes .exit)) ≡ noteSet variable value (now (changes .entry)))
+        × NotedAt variable (now (changes .entry)) (now (changes .exit)) ⌝ }
 {
     let change = changes[variable];
     let set = value + FIRST_VALUE;
-    if change == STAYS {
+    if change < FIRST_VALUE {
         changes[variable] = set;
         return true;
     }
     change == set
 }
 
-// Notes a clear, once all sets are noted. False if the variable is set to this value.
-fn note_clear(changes: &mut [usize], state: &[u16], variable: usize, value: usize) -> bool
-    requires { ⌜ (variable < length (now changes)) × (value < 65536) ⌝ }
-    ensures { λ r. ⌜ (noted r (now (changes .exit)) ≡ noteClear (now (state .entry)) variable value (now (changes .entry))) × NotedAt variable (now (changes .entry)) (now (changes .exit)) ⌝ }
+// Notes a clear of the present value, if nothing is noted for the variable: a set noted before it stays.
+fn note_clear(changes: &mut [usize], state: &[u16], variable: usize, value: usize)
+    requires { ⌜ variable < length (now changes) ⌝ }
+    ensures { λ _. ⌜ (now (changes .exit) ≡ noteClear (now (state .entry)) variable value (now (changes .entry)))
+        × NotedAt variable (now (changes .entry)) (now (changes .exit)) ⌝ }
 {
     let change = changes[variable];
-    let set = value + FIRST_VALUE;
     let present = super::truth::value(state, variable);
-    if change == set {
-        return false;
-    }
     if change != STAYS {
-        return true;
+        return;
     }
     if present != value {
-        return true;
+        return;
     }
     changes[variable] = TO_NONE;
-    true
 }
 
 fn note_kind(changes: &mut [usize], state: &[u16], word: u16, variable: usize, value: usize) -> bool
     requires { ⌜ (variable < length (now changes)) × (value < 65536) ⌝ }
-    ensures { λ r. ⌜ (noted r (now (changes .exit)) ≡ noteKind (now (state .entry)) (kindOf word) variable value (now (changes .entry))) × NotedAt variable (now (changes .entry)) (now (changes .exit)) ⌝ }
+    ensures { λ r. ⌜ (noted r (now (changes .exit)) ≡ noteKind (now (state .entry)) (kindOf word) variable value (now (changes .entry)))
+        × NotedAt variable (now (changes .entry)) (now (changes .exit)) ⌝ }
 {
     let kind = fdr_image::block::kind_of(word);
     match kind {
         fdr_image::block::Kind::Set => note_set(changes, variable, value),
-        fdr_image::block::Kind::Clear => note_clear(changes, state, variable, value),
+        fdr_image::block::Kind::Clear => {
+            note_clear(changes, state, variable, value);
+            true
+        }
         fdr_image::block::Kind::Other => true,
     }
 }
 
-// Notes a row, if it is of the kind that this pass notes and fires.
+// Notes a row, if it fires. False at a conflict with what was noted before it.
 fn note_row(
     changes: &mut [usize],
     state: &[u16],
     conditions: &[u16],
-    pass: u16,
     kind: u16,
     variable: usize,
     value: usize,
 ) -> bool
     requires { ⌜ (variable < length (now changes)) × (value < 65536) ⌝ }
-    ensures { λ r. ⌜ (noted r (now (changes .exit)) ≡ noteIf (fdrAllTrue (now (state .entry)) (literalsIn (now (conditions .entry)))) (noteWords (now (state .entry)) pass kind variable value (now (changes .entry))) (now (changes .entry))) × NotedAt variable (now (changes .entry)) (now (changes .exit)) ⌝ }
+    ensures { λ r. ⌜ (noted r (now (changes .exit)) ≡ noteIf (fdrAllTrue (now (state .entry)) (literalsIn (now (conditions .entry))))
+        (noteKind (now (state .entry)) (kindOf kind) variable value (now (changes .entry))) (now (changes .entry)))
+        × NotedAt variable (now (changes .entry)) (now (changes .exit)) ⌝ }
 {
-    if kind != pass {
-        return true;
-    }
     if !super::truth::all_true(state, conditions) {
         return true;
     }
     note_kind(changes, state, kind, variable, value)
 }
 
-// Notes the rows of one kind that fire in a state. False at a conflict.
-fn note_rows(block: &[u16], state: &[u16], pass: u16, changes: &mut [usize]) -> bool
+// Notes the rows that fire in a state. False at a conflict.
+pub fn note(block: &[u16], state: &[u16], changes: &mut [usize]) -> bool
     requires { ⌜ LowBlock mostAtoms (now block) × (length (now changes) ≡ mostAtoms) ⌝ }
-    ensures { λ r. ⌜ (noted r (now (changes .exit)) ≡ noteRows (now (state .entry)) pass (fdrFired (now (state .entry)) (operatorIn (now (block .entry)))) (now (changes .entry))) × NotedFor (operatorIn (now (block .entry)) .rows) (now (changes .entry)) (now (changes .exit)) ⌝ }
+    ensures { λ r. ⌜ (noted r (now (changes .exit)) ≡ noteFired (now (state .entry))
+        (fdrFired (now (state .entry)) (operatorIn (now (block .entry)))) (now (changes .entry)))
+        × NotedFor (operatorIn (now (block .entry)) .rows) (now (changes .entry)) (now (changes .exit)) ⌝ }
 {
     let head = fdr_image::block::head(block);
     let mut at = head.end + 1;
@@ -112,24 +108,13 @@ fn note_rows(block: &[u16], state: &[u16], pass: u16, changes: &mut [usize]) -> 
             end,
         } = fdr_image::block::row(block, at, left);
         let conditions = &block[from..end];
-        if !note_row(changes, state, conditions, pass, kind, variable, value) {
+        if !note_row(changes, state, conditions, kind, variable, value) {
             return false;
         }
         at = end;
         left -= 1;
     }
     true
-}
-
-// Notes the rows that fire in a state. False at a conflict.
-pub fn note(block: &[u16], state: &[u16], changes: &mut [usize]) -> bool
-    requires { ⌜ LowBlock mostAtoms (now block) × (length (now changes) ≡ mostAtoms) ⌝ }
-    ensures { λ r. ⌜ (noted r (now (changes .exit)) ≡ noteFired (now (state .entry)) (fdrFired (now (state .entry)) (operatorIn (now (block .entry)))) (now (changes .entry))) × NotedFor (operatorIn (now (block .entry)) .rows) (now (changes .entry)) (now (changes .exit)) ⌝ }
-{
-    if !note_rows(block, state, SETS, changes) {
-        return false;
-    }
-    note_rows(block, state, CLEARS, changes)
 }
 
 // Whether a variable becomes none, which is omitted.
@@ -181,7 +166,8 @@ fn new_value(domains: &[u16], change: usize, variable: usize, old: u16) -> u16
 // Writes the change of the variables that the rows name into the state. A variable named twice is written twice, with the same value.
 pub fn write(block: &[u16], domains: &[u16], changes: &[usize], state: &mut [u16])
     requires { ⌜ Writes (domainsIn (now domains)) (now block) (now changes) (now state) ⌝ }
-    ensures { λ _. ⌜ now (state .exit) ≡ written (domainsIn (now (domains .entry))) (now (changes .entry)) (operatorIn (now (block .entry)) .rows) (now (state .entry)) ⌝ }
+    ensures { λ _. ⌜ now (state .exit) ≡ written (domainsIn (now (domains .entry))) (now (changes .entry))
+        (operatorIn (now (block .entry)) .rows) (now (state .entry)) ⌝ }
 {
     let head = fdr_image::block::head(block);
     let mut at = head.end + 1;

@@ -1,9 +1,23 @@
+-- `fdr::change::note_kind`: a set, a clear, or nothing.
 use mathlib.Core.Path.{sym, _∙_}
 use Rattle.fdr.proofs.Notes.{kind-set, kind-clear, kind-other}
 use Rattle.fdr.proofs.ByRows.{at-same}
 use borrow.Author.Needs.{needs}
 use Rattle.fdr.proofs.change.note_kind.Statement.{statement}
 use Rattle.fdr.proofs.change.note_kind.Tie as tie
+
+-- the arm of a set, and that of a clear
+abbrev set-told : tie.After-note-set → tie.After-enum-told
+set-told c = c .before .before
+
+abbrev set-kind : tie.After-enum-told → tie.After-kind-of
+set-kind c = c .before .before
+
+abbrev clear-told : tie.After-note-clear → tie.After-enum-told2
+clear-told c = c .before .before
+
+abbrev clear-kind : tie.After-enum-told2 → tie.After-kind-of
+clear-kind c = c .before .before
 
 kind-of-requires : tie.Need-kind-of-requires
 kind-of-requires c κs = search needs
@@ -26,48 +40,20 @@ enum-told-3 c = search needs
 same-length : tie.Need-same-length
 same-length c = search needs
 
--- the places of the function
-abbrev after-kind-of-of-enum-told : tie.After-enum-told → tie.After-kind-of
-after-kind-of-of-enum-told c = c .before .before
-
-abbrev after-kind-of-of-enum-told2 : tie.After-enum-told2 → tie.After-kind-of
-after-kind-of-of-enum-told2 c = c .before .before
-
-abbrev after-enum-told : tie.After-note-set-arg → tie.After-enum-told
-after-enum-told c = c .before
-
-abbrev after-enum-told2 : tie.After-note-clear-arg → tie.After-enum-told2
-after-enum-told2 c = c .before
-
-abbrev after-note-clear-arg : tie.After-slice-known3 → tie.After-note-clear-arg
-after-note-clear-arg c = c .before .before .before
-
-abbrev after-note-set-arg : tie.After-slice-known2 → tie.After-note-set-arg
-after-note-set-arg c = c .before .before .before
-
-abbrev after-kind-of-from-slice-known2 : tie.After-slice-known2 → tie.After-kind-of
-after-kind-of-from-slice-known2 c = after-kind-of-of-enum-told (after-enum-told (after-note-set-arg c))
-
-abbrev after-kind-of-from-slice-known3 : tie.After-slice-known3 → tie.After-kind-of
-after-kind-of-from-slice-known3 c = after-kind-of-of-enum-told2 (after-enum-told2 (after-note-clear-arg c))
-
 returns : tie.Need-returns
-returns c = (
-  c .before .before .note-set .ensures .0
-      ∙ kind-set _ _ _ _ _ (sym (after-kind-of-from-slice-known2 c .kind-of .ensures) ∙ after-enum-told (after-note-set-arg c) .enum-told .given .1),
-  c .before .before .note-set .ensures .1,
-)
+returns c =
+    let n = c .before .before in
+    let t = set-told n in
+    (n .note-set .ensures .0 ∙ kind-set _ _ _ _ _ (sym (set-kind t .kind-of .ensures) ∙ t .enum-told .given .1), n .note-set .ensures .1)
 
 same-length-2 : tie.Need-same-length-2
 same-length-2 c = search needs
 
 returns-2 : tie.Need-returns-2
-returns-2 c = (
-  c .before .before .note-clear .ensures .0
-      ∙ kind-clear _ _ _ _ _
-      (sym (after-kind-of-from-slice-known3 c .kind-of .ensures) ∙ after-enum-told2 (after-note-clear-arg c) .enum-told2 .given .1),
-  c .before .before .note-clear .ensures .1,
-)
+returns-2 c =
+    let n = c .before .before in
+    let t = clear-told n in
+    (kind-clear _ _ _ _ _ (sym (clear-kind t .kind-of .ensures) ∙ t .enum-told2 .given .1) _ (n .note-clear .ensures .0), n .note-clear .ensures .1)
 
 returns-3 : tie.Need-returns-3
 returns-3 c = (kind-other _ _ _ _ _ (sym (c .before .before .kind-of .ensures) ∙ c .enum-told3 .given .1), at-same _ _)

@@ -1,3 +1,5 @@
+-- `fdr::change::note_set`: the two laws of a set, by whether one was noted before.
+use native.Mathlib.Omega.{arith}
 use Rattle.fdr.proofs.Notes.{set-first, set-again}
 use Rattle.fdr.proofs.ByRows.{at-same, at-set}
 use borrow.Author.Needs.{needs}
@@ -23,10 +25,10 @@ same-length : tie.Need-same-length
 same-length c = search needs
 
 returns : tie.Need-returns
-returns c = (set-first _ _ _ (c .if1 .taken), at-set _ _ _)
+returns c = (set-first _ _ _ (omega arith), at-set _ _ _)
 
 returns-2 : tie.Need-returns-2
-returns-2 c = (set-again _ _ _ (c .if1 .left), at-same _ _)
+returns-2 c = (set-again _ _ _ (omega arith), at-same _ _)
 
 pub note-set-spec : {M : Type 1} → statement M
 note-set-spec =
