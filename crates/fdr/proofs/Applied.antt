@@ -9,23 +9,18 @@ use native.Mathlib.Omega.{arith}
 use lib.Dec.{eqb}
 use lib.ListN.{length, getD, length-replicate}
 use lib.Seq.{ext-getD}
-use borrow.Author.Tests.{eq-eqb, ne-eqb, eqb-true, eqb-false, not-true}
+use borrow.Author.Tests.{eq-eqb, ne-eqb}
 use Rattle.definitions.specs.Literal.{mostAtoms}
 use Rattle.definitions.specs.Lists.{any, all, below}
 use Rattle.definitions.specs.Groups.{Domain}
 use Rattle.definitions.specs.Fdr.{FdrRow, FdrTask, noDomain, domainAt}
-use Rattle.definitions.specs.FdrStep.{isSet, clash, fdrConflict, setValue, cleared, sentToNone, fdrAfter, noneThere}
-use Rattle.definitions.proofs.ListLaws.{and-left, and-right, any-of, table-at, table-length}
+use Rattle.definitions.specs.FdrStep.{fdrConflict, setValue, cleared, sentToNone, fdrAfter, noneThere}
+use Rattle.definitions.proofs.ListLaws.{all-agree, table-at, table-length}
 use Rattle.definitions.proofs.Walks.{zero-at}
-use Rattle.definitions.proofs.Simulation.{set-some, set-none}
+use Rattle.definitions.proofs.FdrRows.{set-some, set-none, one-value}
 use Rattle.fdr.specs.Change.{noChanges, noteFired, become}
 use Rattle.fdr.specs.Post.{Changes}
 use Rattle.fdr.proofs.StepLaws.{Rows, RowsNoted, Comes, one-at-most, rows-come}
-
-all-same : {A : Type 0} (p q : A → Bool) (xs : List A) → ((x : A) → p x ≡ q x) → all p xs ≡ all q xs
-unfolding all
-all-same p q [] h = refl
-all-same p q (x ∷ xs) h = rw (h x, all-same p q xs h)
 
 -- ---- question 22 and the state, variable by variable
 unfoldable pub nonesThere : List Domain → List ℕ → Bool
@@ -98,29 +93,14 @@ module _ (s : List ℕ) (rs : List FdrRow) (low : Rows mostAtoms rs) where
     all-noted = subst (Comes s rs) em comes
 
     -- two fired sets of one variable have one value: both are noted
-    no-clash : (r q : FdrRow) → List·Memᴰ r rs → List·Memᴰ q rs → clash r q ≡ true → ⊥
-    unfolding clash
-    no-clash r q mr mq h =
-        let sets = isSet r && isSet q in
-        let same = eqb (r .variable) (q .variable) in
-        let differ = not (eqb (r .value) (q .value)) in
-        let p = and-left (sets && same) differ h in
-        let x = all-noted .given r mr (and-left (isSet r) (isSet q) (and-left sets same p)) in
-        let y = all-noted .given q mq (and-right (isSet r) (isSet q) (and-left sets same p)) in
-        let z : getD m (r .variable) 0 ≡ getD m (q .variable) 0 =
-        ap (λ (k : ℕ). getD m k 0) (eqb-true (r .variable) (q .variable) (and-right sets same p)) in
-        eqb-false (r .value) (q .value) (not-true (eqb (r .value) (q .value)) (and-right (sets && same) differ h)) (omega arith)
-
     pub calm : fdrConflict rs ≡ false
-    unfolding fdrConflict
-    calm = go (fdrConflict rs) refl
-      where
-        go : (b : Bool) → fdrConflict rs ≡ b → fdrConflict rs ≡ false
-        go false e = e
-        go true e =
-            let p = any-of (λ r. any (clash r) rs) rs e in
-            let q = any-of (clash (p .it)) rs (p .passes) in
-            absurd (no-clash (p .it) (q .it) (p .mem) (q .mem) (q .passes))
+    calm =
+        one-value rs
+        (λ r q mr mq hr hq e.
+        let x = all-noted .given r mr hr in
+        let y = all-noted .given q mq hq in
+        let z : getD m (r .variable) 0 ≡ getD m (q .variable) 0 = ap (λ (k : ℕ). getD m k 0) e in
+        omega arith)
 
     -- ---- one variable
     set-noted : (v x : ℕ) → setValue rs v ≡ some x → getD m v 0 ≡ x + 2
@@ -161,9 +141,9 @@ module _ (s : List ℕ) (rs : List FdrRow) (low : Rows mostAtoms rs) where
       pub nones-is : nonesThere (t .domains) m ≡ noneThere t s rs
       unfolding nonesThere noneThere domainAt
       nones-is =
-          all-same (λ v. not (eqb (getD m v 0) 1 && eqb (getD (t .domains) v noDomain .none) 0))
+          all-agree (λ v. not (eqb (getD m v 0) 1 && eqb (getD (t .domains) v noDomain .none) 0))
           (λ v. not (sentToNone t s rs v && eqb (getD (t .domains) v noDomain .none) 0)) (below (length (t .domains)))
-          (λ v. rw (sent-is t v))
+          (λ v i. rw (sent-is t v))
 
       -- the state after the step
       pub changed-is : length s ≡ length (t .domains) → changed (t .domains) m 0 s ≡ map (fdrAfter t s rs) (below (length (t .domains)))

@@ -16,7 +16,7 @@ use Rattle.definitions.specs.Literal.{mostAtoms}
 use Rattle.definitions.specs.Fdr.{FdrRow}
 use Rattle.definitions.specs.FdrStep.{isSet, clash, fdrConflict, setValue, cleared}
 use Rattle.definitions.proofs.ListLaws.{never, any-in}
-use Rattle.definitions.proofs.Simulation.{set-some, set-none}
+use Rattle.definitions.proofs.FdrRows.{set-some, set-none}
 use Rattle.fdr.specs.Change.{noted, noteSet, noteClear, noteKind, noteRow, noteFired}
 use Rattle.fdr.proofs.Notes.{set-first, set-again}
 

@@ -34,8 +34,8 @@ module _ (atoms : ℕ) (ws ls ms : List ℕ) where
   -- the same marks
   pub closure-copied :
       (ms′ :
-          List ℕ) → ConsistentClosure atoms ws ls ms → ((S : List ℕ) → Marked atoms ms S
-          → Marked atoms ms′ S) → ConsistentClosure atoms ws ls ms′
+      List ℕ) → ConsistentClosure atoms ws ls ms → ((S : List ℕ) → Marked atoms ms S
+      → Marked atoms ms′ S) → ConsistentClosure atoms ws ls ms′
   closure-copied ms′ c copied = record { consistent = c .consistent; marked = copied (closure atoms (clausesOf ws) ls) (c .marked) }
 
   -- an equal list
@@ -62,8 +62,8 @@ contradictory-start N C ls ls′ e h = subst (λ (x : List ℕ). contradictory N
 
 pub consistent-copied :
     (atoms :
-        ℕ) (ms ms′ : List ℕ) → ConsistentMarks atoms ms → ((S : List ℕ) → Marked atoms ms S
-        → Marked atoms ms′ S) → ConsistentMarks atoms ms′
+    ℕ) (ms ms′ : List ℕ) → ConsistentMarks atoms ms → ((S : List ℕ) → Marked atoms ms S
+    → Marked atoms ms′ S) → ConsistentMarks atoms ms′
 consistent-copied atoms ms ms′ c copied = consistent-by atoms ms′ (c .set) (copied (c .set) (c .marked)) (c .consistent)
 
 pub consistent-room : (atoms : ℕ) (ms : List ℕ) → ConsistentMarks atoms ms → 2 * atoms ≤ length ms

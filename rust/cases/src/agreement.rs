@@ -4,20 +4,21 @@ use crate::case::Case;
 use crate::clause::{case, checker_case};
 use crate::collection::Collection;
 use inputs::clauses::{self, FILL as NONE};
-use inputs::{state, structured, Rng};
+use inputs::{add_delete, state, structured, Rng};
 use sources::Synthesized;
 
 const AGREE: u16 = 16;
 
 pub fn add_cases(collection: &mut Collection) {
-    for case in ring_cases().iter().chain(&structured_cases()) {
+    let fixed = [ring_cases(), structured_cases(), add_delete_cases()];
+    for case in fixed.iter().flatten() {
         collection.add(case);
     }
     let rng = &mut Rng::new(20261117);
-    for _ in 0..20_000 {
+    collection.add_random(|| {
         let source = Synthesized::random(rng);
-        collection.add_if_new(&agree(rng, &source));
-    }
+        agree(rng, &source)
+    });
     collection.assert_numbers(AGREE, &[0, 1, 2, 3, 4, 5, 6, 7, 8, 9, 10, 11, 13]);
 }
 
@@ -45,6 +46,7 @@ fn structured_cases() -> Vec<Case> {
         structured::blocks(2),
         structured::briefcase(2, 2),
         structured::transport(1, 1, 2),
+        structured::changer(2, 2),
     ];
     let rng = &mut Rng::new(20261118);
     let mut cases = Vec::new();
@@ -53,6 +55,18 @@ fn structured_cases() -> Vec<Case> {
             let set = clauses::words(&Synthesized::new(image.clone(), n).rows);
             cases.push(case(AGREE, &image, &set, &list(rng, &image)));
         }
+    }
+    cases
+}
+
+/// Tasks whose operators add and delete one atom, by the sets that synthesis finds.
+fn add_delete_cases() -> Vec<Case> {
+    let rng = &mut Rng::new(20261120);
+    let mut cases = Vec::new();
+    for _ in 0..30 {
+        let image = add_delete::task(rng).image();
+        let set = clauses::words(&Synthesized::new(image.clone(), 3).rows);
+        cases.push(case(AGREE, &image, &set, &list(rng, &image)));
     }
     cases
 }

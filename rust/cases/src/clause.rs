@@ -3,8 +3,10 @@
 
 use crate::case::{Case, FILL};
 use crate::collection::Collection;
+use inputs::add_delete::{self, Judged};
 use inputs::clauses::{self, FILL as NONE};
 use inputs::fixed::kept_cases;
+use inputs::task::{OperatorSpec, TaskSpec};
 use inputs::{damage, state, structured, Rng};
 use reference::{synthesis, task};
 use sources::{marks_length, target_length, Synthesized};
@@ -16,16 +18,21 @@ const GROUPS: u16 = 8;
 const REENCODE: u16 = 9;
 
 pub fn add_cases(collection: &mut Collection) {
-    let fixed = [ring_cases(), fixed_kept_cases(), structured_cases()];
+    let fixed = [
+        ring_cases(),
+        fixed_kept_cases(),
+        add_delete_cases(),
+        structured_cases(),
+    ];
     for case in fixed.iter().flatten() {
         collection.add(case);
     }
     let rng = &mut Rng::new(20261116);
-    for _ in 0..20_000 {
+    collection.add_random(|| {
         let source = Synthesized::random(rng);
         let call = [kept, check, synthesize, groups, reencode];
-        collection.add_if_new(&rng.pick(&call)(rng, &source));
-    }
+        rng.pick(&call)(rng, &source)
+    });
     collection.assert_numbers(KEPT, &[0, 1, 2, 3, 4, 5, 6, 7, 8, 9, 13, 19]);
     collection.assert_numbers(CHECK, &[0, 1, 2, 3, 4, 5, 6, 7, 8, 9, 10, 11, 13]);
     collection.assert_numbers(SYNTHESIZE, &[0, 1, 2, 3, 4, 5, 6, 7, 12, 13, 14, 15]);
@@ -87,6 +94,45 @@ fn fixed_kept_cases() -> Vec<Case> {
     kept.collect()
 }
 
+/// Operators that add and delete one atom: kept clauses, many with two negative
+/// literals, checker and synthesis.
+fn add_delete_cases() -> Vec<Case> {
+    let mut both = TaskSpec {
+        atoms: 2,
+        operators: vec![OperatorSpec::strips(&[], &[0, 1, 2, 3])],
+        ..TaskSpec::default()
+    };
+    let image = both.image();
+    let rows = [
+        [0, NONE, NONE],
+        [1, NONE, NONE],
+        [0, 2, NONE],
+        [0, 3, NONE],
+        [1, 3, NONE],
+    ];
+    let mut cases: Vec<Case> = rows
+        .map(|row| case(KEPT, &image, &[], &row))
+        .into_iter()
+        .chain(rows.map(|row| case(CHECK, &image, &row, &[])))
+        .collect();
+    cases.extend((1..=3).map(|n| synthesis_case(&image, n, 65535, 30)));
+    both.initial = vec![0, 1];
+    cases.push(synthesis_case(&both.image(), 2, 65535, 30));
+    let rng = &mut Rng::new(20261119);
+    for _ in 0..30 {
+        cases.push(judged_case(rng));
+        let image = add_delete::late_task(rng).image();
+        cases.push(synthesis_case(&image, rng.between(2, 3) as u16, 65535, 90));
+    }
+    cases
+}
+
+/// A clause and a set made for the task's operator.
+fn judged_case(rng: &mut Rng) -> Case {
+    let Judged { task, set, clause } = add_delete::judged(rng);
+    case(KEPT, &task.image(), &clauses::words(&set), &clause)
+}
+
 /// Synthesis, checker, groups and re-encoding of small tasks of each kind.
 fn structured_cases() -> Vec<Case> {
     let tasks = [
@@ -97,6 +143,7 @@ fn structured_cases() -> Vec<Case> {
         structured::briefcase(1, 2),
         structured::briefcase(2, 2),
         structured::transport(1, 1, 2),
+        structured::changer(2, 2),
     ];
     let mut cases = vec![case(CHECK, &[FILL; 8193], &[], &[])];
     for image in tasks.map(|task| task.image()) {

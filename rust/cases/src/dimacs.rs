@@ -97,11 +97,11 @@ pub fn add_cases(collection: &mut Collection) {
     for case in damaged_cases(rng).iter().chain(&round_trips(rng)) {
         collection.add(case);
     }
-    for _ in 0..20_000 {
+    collection.add_random(|| {
         let source = dimacs::source(rng);
         let call = [write, read];
-        collection.add_if_new(&rng.pick(&call)(rng, &source));
-    }
+        rng.pick(&call)(rng, &source)
+    });
     collection.assert_numbers(WRITE, &[0, 1, 2, 3, 4, 5, 6, 7, 8, 9, 26]);
     collection.assert_numbers(READ, &[0, 1, 2, 3, 4, 5, 6, 7, 24, 25, 26]);
 }

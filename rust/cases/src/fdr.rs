@@ -2,6 +2,7 @@
 
 use crate::case::{Case, FILL};
 use crate::collection::Collection;
+use inputs::fdr::{FdrOperatorSpec, FdrRowSpec, FdrSpec};
 use inputs::{state, structured, Rng};
 use sources::{fdr, Fdr, Synthesized};
 
@@ -13,14 +14,14 @@ const ENCODE: u16 = 14;
 const DECODE: u16 = 15;
 
 pub fn add_cases(collection: &mut Collection) {
-    for case in structured_cases() {
-        collection.add(&case);
+    for case in structured_cases().iter().chain(&set_and_clear_cases()) {
+        collection.add(case);
     }
     let rng = &mut Rng::new(20261117);
-    for _ in 0..20_000 {
+    collection.add_random(|| {
         let source = fdr(rng);
-        collection.add_if_new(&random_case(rng, &source));
-    }
+        random_case(rng, &source)
+    });
     for call in [INITIAL, GOAL, DECODE] {
         collection.assert_numbers(call, &[0, 17, 18]);
     }
@@ -53,6 +54,94 @@ fn structured_cases() -> Vec<Case> {
     ];
     let images = tasks.map(|task| Synthesized::new(task.image(), 3).reencoded());
     images.iter().flat_map(|image| walk(rng, image)).collect()
+}
+
+/// Rows about one variable, each a kind and a value.
+const SETS_AND_CLEARS: [&[(u16, u16)]; 8] = [
+    &[(0, 0), (1, 0)],
+    &[(1, 0), (0, 0)],
+    &[(0, 1), (1, 1)],
+    &[(1, 1), (0, 1), (1, 0)],
+    &[(0, 0), (0, 1)],
+    &[(0, 1), (1, 1), (0, 0)],
+    &[(0, 1), (0, 1), (1, 0)],
+    &[(1, 0), (1, 1)],
+];
+
+/// An operator of rows, each a kind, a variable and a value.
+fn operator(rows: &[(u16, u16, u16)]) -> FdrOperatorSpec {
+    let row = |&(kind, variable, value): &(u16, u16, u16)| FdrRowSpec {
+        kind,
+        variable,
+        value,
+        conditions: Vec::new(),
+    };
+    FdrOperatorSpec {
+        precondition: Vec::new(),
+        rows: rows.iter().map(row).collect(),
+    }
+}
+
+/// A set and a clear of one value, two sets of one variable: steps from each value,
+/// with and without none, the goal after some of them, and a list run.
+fn set_and_clear_cases() -> Vec<Case> {
+    let of_one = |rows: &[(u16, u16)]| {
+        let rows: Vec<_> = rows.iter().map(|&(kind, value)| (kind, 0, value)).collect();
+        operator(&rows)
+    };
+    let mut cases = Vec::new();
+    for none in [0, 1] {
+        let spec = FdrSpec {
+            domains: vec![(2 + none, none)],
+            atoms: vec![(0, 0), (0, 1)],
+            initial: vec![0],
+            goal: vec![(0, 0)],
+            operators: SETS_AND_CLEARS.map(of_one).to_vec(),
+        };
+        let image = spec.image();
+        for value in 0..2 + none {
+            cases.extend((0..8).flat_map(|number| step_and_goal(&image, value, number)));
+        }
+        let mut run = case(RUN, &image, &[0], &[]);
+        run.other = vec![0, 1, 2, 6, 3, 0, 4, 1];
+        cases.push(run);
+    }
+    cases.extend(two_variable_cases());
+    cases
+}
+
+/// A variable sent to its omitted none and another set to two values: 21 comes
+/// before 22, whichever variable is lower and whichever row comes first.
+fn two_variable_cases() -> Vec<Case> {
+    let spec = FdrSpec {
+        domains: vec![(2, 0), (2, 0)],
+        atoms: vec![(0, 0), (0, 1), (1, 0), (1, 1)],
+        initial: vec![0, 0],
+        goal: Vec::new(),
+        operators: vec![
+            operator(&[(1, 0, 0), (0, 1, 0), (0, 1, 1)]),
+            operator(&[(0, 0, 0), (0, 0, 1), (1, 1, 0)]),
+            operator(&[(1, 0, 0), (0, 1, 1), (1, 1, 1)]),
+            operator(&[(0, 0, 1), (1, 0, 0), (1, 1, 1)]),
+        ],
+    };
+    let step = |number| {
+        let mut step = case(STEP, &spec.image(), &[0, 0], &[]);
+        step.numbers[0] = number;
+        step
+    };
+    (0..4).map(step).collect()
+}
+
+/// A step of the one variable, and the goal test after it.
+fn step_and_goal(image: &[u16], value: u16, operator: u16) -> Vec<Case> {
+    let mut step = case(STEP, image, &[value], &[]);
+    step.numbers[0] = operator;
+    let mut after = [value];
+    let answer = reference::fdr::step(image, &mut after, operator);
+    let tested = answer.is_ok() && value == 0;
+    let goal = tested.then(|| case(GOAL, image, &after, &[]));
+    [step].into_iter().chain(goal).collect()
 }
 
 /// Setting, goal test and coding, some steps and a list run.

@@ -100,6 +100,7 @@ fn both_encodings_answer_alike() {
         structured::gripper(4, 3, 2),
         structured::blocks(4),
         structured::briefcase(3, 3),
+        structured::changer(3, 3),
     ] {
         answer_alike(rng, &task.image(), 3);
     }

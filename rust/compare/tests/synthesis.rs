@@ -143,6 +143,7 @@ fn structured_tasks() {
         structured::blocks(4),
         structured::briefcase(4, 3),
         structured::transport(2, 4, 4),
+        structured::changer(3, 4),
     ];
     for task in tasks {
         let image = task.image();

@@ -134,7 +134,7 @@ fn step() {
             state = next;
         }
     }
-    tally.finish(LEAST, &numbers(&[18, 19, 20, 21]));
+    tally.finish(LEAST, &numbers(&[18, 19, 20]));
 }
 
 #[test]
@@ -194,9 +194,9 @@ fn run() {
             |(image, state, list)| model::run(image.lend(), state.lend_mut(), list.lend()).into(),
             |(image, state, list)| exports::task_run(image.lend(), state.lend_mut(), list.lend()),
         );
-        long += usize::from((19..=21).contains(&reply.number) && reply.first > 1);
+        long += usize::from((19..=20).contains(&reply.number) && reply.first > 1);
     }
     println!("kb_task_run: refused after two steps or more {long}");
     assert!(long > 500);
-    tally.finish(LEAST, &numbers(&[18, 19, 20, 21]));
+    tally.finish(LEAST, &numbers(&[18, 19, 20]));
 }

@@ -5,8 +5,15 @@ use crate::example::Example;
 use inputs::structured;
 use inputs::task::yes;
 
-pub fn all() -> [Example; 5] {
-    [ring(), gripper(), blocks(), briefcase(), refused()]
+pub fn all() -> [Example; 6] {
+    [
+        ring(),
+        gripper(),
+        blocks(),
+        briefcase(),
+        changer(),
+        refused(),
+    ]
 }
 
 /// All pairs of different names, by the first.
@@ -135,6 +142,32 @@ fn briefcase() -> Example {
         n: 3,
         limit: 100,
         task: structured::briefcase(2, 3),
+        atoms,
+        operators,
+    }
+}
+
+fn changer() -> Example {
+    let trays = ["the sample tray", "the reagent tray"];
+    let docks = ["the oven", "the scale", "the hatch"];
+    let mut atoms = Vec::new();
+    let mut operators = Vec::new();
+    for tray in trays {
+        atoms.extend(docks.map(|dock| format!("{tray} is at {dock}")));
+        operators.extend(docks.map(|dock| {
+            format!("send {tray} to {dock}, where the other tray is not: it leaves every dock and is put there")
+        }));
+    }
+    Example {
+        name: "changer",
+        about: &[
+            "A tray changer serves three docks. Sending a tray deletes all its places and adds the new one, so",
+            "that a tray sent to where it is is deleted there and added: an add beats a delete, and it stays.",
+            "The clauses say that each tray is at exactly one dock, and no two trays are at the same.",
+        ],
+        n: 3,
+        limit: 100,
+        task: structured::changer(2, 3),
         atoms,
         operators,
     }

@@ -165,7 +165,7 @@ impl FdrSpec {
         (variable, 2 * value + rng.below(2) as u16)
     }
 
-    fn literals(&self, rng: &mut Rng, most: usize) -> Vec<Pair> {
+    pub(crate) fn literals(&self, rng: &mut Rng, most: usize) -> Vec<Pair> {
         let length = rng.between(0, most);
         (0..length).map(|_| self.literal(rng)).collect()
     }

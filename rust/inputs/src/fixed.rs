@@ -1,4 +1,5 @@
-//! Fixed cases with their answers written down by hand from document 01.
+//! Fixed cases with their answers written down by hand from document 01, and from
+//! document 02 §3.
 
 use crate::clauses::{words, Row, FILL};
 use crate::task::{OperatorSpec, RowSpec, TaskSpec};
@@ -59,6 +60,10 @@ pub fn kept_cases() -> Vec<KeptCase> {
         row_cases(),
         held_literal_cases(),
         added_literal_cases(),
+        own_literal_cases(),
+        sign_cases(),
+        deleted_literal_cases(),
+        beaten_add_cases(),
     ];
     groups.into_iter().flatten().collect()
 }
@@ -180,20 +185,6 @@ fn added_literal_cases() -> Vec<KeptCase> {
     let none: (&[Row], Row) = (&[], A_OR_B);
     vec![
         case(
-            "the row's own literal is no other",
-            (&[], [A, FILL, FILL]),
-            &[],
-            &[(not(A), &[]), (A, &[])],
-            false,
-        ),
-        case(
-            "the row's own literal, added where K holds it, is no other",
-            none,
-            &[A],
-            &[(not(A), &[]), (A, &[A])],
-            false,
-        ),
-        case(
             "an added m needs its conditions in K",
             none,
             &[C],
@@ -212,6 +203,138 @@ fn added_literal_cases() -> Vec<KeptCase> {
             none,
             &[],
             &[(not(A), &[]), (B, &[]), (not(B), &[C]), (A, &[C])],
+            true,
+        ),
+    ]
+}
+
+/// A positive literal that the row falsifies, with rows that add it.
+fn own_literal_cases() -> Vec<KeptCase> {
+    let none: (&[Row], Row) = (&[], [A, FILL, FILL]);
+    vec![
+        case(
+            "a positive literal passes if it is added as well",
+            none,
+            &[],
+            &[(not(A), &[]), (A, &[])],
+            true,
+        ),
+        case(
+            "the same where K holds it",
+            (&[], A_OR_B),
+            &[A],
+            &[(not(A), &[]), (A, &[A])],
+            true,
+        ),
+        case(
+            "the add row needs its conditions in K",
+            none,
+            &[],
+            &[(not(A), &[]), (A, &[C])],
+            false,
+        ),
+        case(
+            "to which the deleting row's conditions belong",
+            none,
+            &[],
+            &[(not(A), &[C]), (A, &[C])],
+            true,
+        ),
+    ]
+}
+
+/// Literals of either sign.
+fn sign_cases() -> Vec<KeptCase> {
+    vec![
+        case(
+            "a negative literal does not pass if it is deleted as well",
+            (&[], [not(A), FILL, FILL]),
+            &[],
+            &[(A, &[]), (not(A), &[])],
+            false,
+        ),
+        case(
+            "a positive m is made true though it may be deleted",
+            (&[], [not(A), B, FILL]),
+            &[],
+            &[(A, &[]), (B, &[]), (not(B), &[])],
+            true,
+        ),
+        case(
+            "a delete that an add beats counts where m has to stay",
+            (&[], A_OR_B),
+            &[B],
+            &[(not(A), &[]), (B, &[A]), (not(B), &[A])],
+            false,
+        ),
+    ]
+}
+
+const NOT_BOTH: Row = [not(A), not(B), FILL];
+
+/// What another literal needs that is deleted.
+fn deleted_literal_cases() -> Vec<KeptCase> {
+    let none: (&[Row], Row) = (&[], NOT_BOTH);
+    vec![
+        case(
+            "a delete row makes a negative m true",
+            none,
+            &[],
+            &[(A, &[]), (not(B), &[])],
+            true,
+        ),
+        case(
+            "not if an add row fires as well",
+            none,
+            &[],
+            &[(A, &[]), (not(A), &[]), (B, &[]), (not(B), &[])],
+            false,
+        ),
+        case(
+            "nor if one can fire",
+            none,
+            &[],
+            &[(A, &[]), (not(B), &[]), (B, &[C])],
+            false,
+        ),
+        case(
+            "each add row counts",
+            none,
+            &[D],
+            &[(A, &[]), (not(B), &[]), (B, &[not(D)]), (B, &[C])],
+            false,
+        ),
+    ]
+}
+
+/// Add rows of a deleted literal's atom that cannot fire.
+fn beaten_add_cases() -> Vec<KeptCase> {
+    let none: (&[Row], Row) = (&[], NOT_BOTH);
+    vec![
+        case(
+            "an add row that contradicts the precondition does not matter",
+            none,
+            &[D],
+            &[(A, &[]), (not(B), &[]), (B, &[not(D)])],
+            true,
+        ),
+        case(
+            "nor one that contradicts a clause",
+            (&[[not(C), not(D), FILL]], NOT_BOTH),
+            &[C],
+            &[(A, &[]), (not(B), &[]), (B, &[D])],
+            true,
+        ),
+        case(
+            "an add row's conditions are added to K, not to the precondition alone",
+            none,
+            &[],
+            &[
+                (A, &[C]),
+                (not(A), &[not(C)]),
+                (not(B), &[]),
+                (B, &[not(C)]),
+            ],
             true,
         ),
     ]

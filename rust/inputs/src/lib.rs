@@ -2,6 +2,7 @@
 //! lists, clause rows, re-encoded images and texts, valid and damaged. Everything
 //! comes from a fixed seed, so a run can be repeated exactly.
 
+pub mod add_delete;
 pub mod clauses;
 pub mod damage;
 pub mod dimacs;

@@ -1,6 +1,7 @@
 //! Random tasks.
 
-use crate::structured::{blocks, briefcase, gripper, ring, transport};
+use crate::add_delete;
+use crate::structured::{blocks, briefcase, changer, gripper, ring, transport};
 use crate::task::{no, yes, OperatorSpec, RowSpec, TaskSpec};
 use crate::Rng;
 
@@ -74,7 +75,8 @@ pub fn small(rng: &mut Rng) -> TaskSpec {
     match rng.below(10) {
         0..=2 => task(rng, &SMALL),
         3..=4 => task(rng, &DENSE),
-        5..=6 => task(rng, &ENTANGLED),
+        5 => task(rng, &ENTANGLED),
+        6 => add_delete::task(rng),
         _ => structured(rng),
     }
 }
@@ -99,11 +101,12 @@ pub fn edge(rng: &mut Rng) -> TaskSpec {
 /// A structured task with few objects.
 pub fn structured(rng: &mut Rng) -> TaskSpec {
     let mut few = |most| rng.between(1, most) as u16;
-    match few(5) {
+    match few(6) {
         1 => ring(few(8)),
         2 => gripper(few(3), few(3), few(2)),
         3 => blocks(few(3)),
         4 => briefcase(few(3), few(3)),
+        5 => changer(few(3), few(3)),
         _ => transport(few(2), few(2), few(3)),
     }
 }

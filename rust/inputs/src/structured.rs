@@ -164,3 +164,25 @@ pub fn transport(trucks: u16, packages: u16, places: u16) -> TaskSpec {
         operators,
     }
 }
+
+/// A changer sends trays to docks. Wherever a tray is, it leaves every dock and
+/// comes to the new one: sent to its own dock, it is deleted there and added.
+pub fn changer(trays: u16, docks: u16) -> TaskSpec {
+    let at = |tray, dock| tray * docks + dock;
+    let mut operators = Vec::new();
+    for (tray, dock) in (0..trays).flat_map(|t| (0..docks).map(move |d| (t, d))) {
+        let others = (0..trays).filter(|&other| other != tray);
+        let vacant: Vec<u16> = others.map(|other| no(at(other, dock))).collect();
+        let mut effects: Vec<u16> = (0..docks).map(|left| no(at(tray, left))).collect();
+        effects.push(yes(at(tray, dock)));
+        operators.push(OperatorSpec::strips(&vacant, &effects));
+    }
+    TaskSpec {
+        atoms: at(trays, 0),
+        initial: (0..trays).map(|tray| at(tray, tray % docks)).collect(),
+        goal: (0..trays)
+            .map(|tray| yes(at(tray, docks - 1 - tray % docks)))
+            .collect(),
+        operators,
+    }
+}

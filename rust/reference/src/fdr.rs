@@ -1,5 +1,6 @@
 //! Finite-domain tasks: reading a re-encoded image (question 17), setting to
-//! the initial state, steps, goal tests, list runs.
+//! the initial state, steps, goal tests, list runs. In a step a clear gives way to
+//! a set of the same value (document 02 §3).
 
 use crate::answer::{ask, Answer, Refusal};
 use crate::directory::{self, split_counted};
@@ -224,7 +225,7 @@ impl<'a> FdrTask<'a> {
         );
         fired.sort_unstable_by_key(|effect| effect.variable);
         let by_variable = || fired.chunk_by(|a, b| a.variable == b.variable);
-        ask(21, !by_variable().any(in_conflict))?;
+        ask(21, !by_variable().any(sets_two_values))?;
         ask(
             22,
             by_variable().all(|effects| self.next(effects, state).is_some()),
@@ -238,7 +239,7 @@ impl<'a> FdrTask<'a> {
     }
 
     /// The next value of the one variable these fired effects are about; `None`
-    /// if it is sent to an omitted none.
+    /// if it is sent to an omitted none. A set counts before every clear.
     fn next(&self, effects: &[Effect], state: &[u16]) -> Option<u16> {
         let variable = usize::from(effects[0].variable);
         let present = state[variable];
@@ -254,16 +255,12 @@ impl<'a> FdrTask<'a> {
     }
 }
 
-/// Whether effects on one variable conflict: two sets with different values, or
-/// a set and a clear of one value.
-fn in_conflict(effects: &[Effect]) -> bool {
-    let set = effects.iter().find(|effect| effect.kind == Kind::Set);
-    set.is_some_and(|set| {
-        effects.iter().any(|effect| match effect.kind {
-            Kind::Set => effect.value != set.value,
-            Kind::Clear => effect.value == set.value,
-        })
-    })
+/// Whether the effects, all on one variable, set it to two values.
+fn sets_two_values(effects: &[Effect]) -> bool {
+    let sets = || effects.iter().filter(|effect| effect.kind == Kind::Set);
+    sets()
+        .zip(sets().skip(1))
+        .any(|(set, next)| set.value != next.value)
 }
 
 impl Domain {

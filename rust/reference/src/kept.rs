@@ -1,9 +1,9 @@
-//! Kept clauses: what one operator does to clauses, given a set C.
+//! Kept clauses: what one operator does to clauses, given a set C. Adds beat
+//! deletes (document 02 §3).
 
 use crate::answer::{ask, Answer};
 use crate::clause::{self, Clause};
 use crate::closure::Closure;
-use crate::literal::Literal;
 use crate::task::{self, Operator, Row, Task};
 
 /// One clause under one operator: questions 1 to 9, 8 and 9 for the clause
@@ -56,7 +56,9 @@ impl<'a> Judge<'a> {
         (0..judged.len()).filter(|&place| fails[place]).collect()
     }
 
-    /// Marks the judged clauses that the row can make false.
+    /// Marks the judged clauses that the row can make false: those with the
+    /// literal it falsifies and none that is guaranteed. That literal itself is
+    /// guaranteed only if it is positive and an add row has its conditions in K.
     fn judge_row(&self, row: &Row, judged: &[Clause], guaranteed: &[bool], fails: &mut [bool]) {
         let falsified = row.effect.complement();
         if !judged.iter().any(|clause| clause.contains(falsified)) {
@@ -74,7 +76,7 @@ impl<'a> Judge<'a> {
             &own
         };
         for (clause, fails) in judged.iter().zip(fails) {
-            *fails |= clause.contains(falsified) && !has_other(clause, falsified, after);
+            *fails |= clause.contains(falsified) && !any(clause, after);
         }
     }
 
@@ -85,18 +87,25 @@ impl<'a> Judge<'a> {
     }
 
     /// For each literal whether it is true after the step in all states that
-    /// satisfy the closure: added by a row whose conditions lie in it, or in it
-    /// and deleted by no row that can fire.
+    /// satisfy the closure. A negative one is in it or made true by a delete row
+    /// with its conditions in it, and no add row of its atom can fire. A positive
+    /// one is made true by an add row with its conditions in it, or is in it and no
+    /// delete row of its atom can fire.
     fn guaranteed_from(&self, closure: &Closure) -> Vec<bool> {
+        let rows = || self.operator.rows();
+        let fires = |row: &Row| closure.holds_all(row.conditions);
         let mut guaranteed = closure.marks().to_vec();
-        for row in self.operator.rows() {
-            let deleted = row.effect.complement().index();
-            if guaranteed[deleted] && self.can_fire(&row, closure) {
-                guaranteed[deleted] = false;
+        for row in rows().filter(|row| row.effect.is_negated() && fires(row)) {
+            guaranteed[row.effect.index()] = true;
+        }
+        for row in rows() {
+            let falsified = row.effect.complement().index();
+            if guaranteed[falsified] && self.can_fire(&row, closure) {
+                guaranteed[falsified] = false;
             }
         }
-        for row in self.operator.rows() {
-            guaranteed[row.effect.index()] |= closure.holds_all(row.conditions);
+        for row in rows().filter(|row| !row.effect.is_negated() && fires(row)) {
+            guaranteed[row.effect.index()] = true;
         }
         guaranteed
     }
@@ -108,9 +117,7 @@ impl<'a> Judge<'a> {
     }
 }
 
-/// Whether the clause has a literal other than this one that is true afterwards.
-fn has_other(clause: &Clause, falsified: Literal, after: &[bool]) -> bool {
-    clause
-        .literals()
-        .any(|other| other != falsified && after[other.index()])
+/// Whether one of the clause's literals is marked.
+fn any(clause: &Clause, marks: &[bool]) -> bool {
+    clause.literals().any(|literal| marks[literal.index()])
 }

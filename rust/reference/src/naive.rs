@@ -1,6 +1,6 @@
-//! Closure, kept clauses and synthesis transcribed from document 01 sentence by
-//! sentence, without any thought of speed. The tests compare the quick modules
-//! with this one.
+//! Closure, kept clauses and synthesis transcribed from document 01 and document
+//! 02 §3 sentence by sentence, without any thought of speed. The tests compare the
+//! quick modules with this one.
 
 use std::collections::BTreeSet;
 
@@ -63,34 +63,46 @@ fn keeps_under_row(
     let from = joined(&[operator.precondition, row.conditions]);
     let k = closure(clauses, &from);
     is_contradictory(&k)
+        || !l.is_negated() && row_has_conditions_in(&k, operator, l)
         || clause
             .literals()
-            .any(|m| m != l && becomes_true(clauses, operator, &from, &k, m))
+            .any(|m| m != l && becomes_true(clauses, operator, &k, m))
 }
 
-/// With `k` the closure of `from`: whether `m` is the effect of a row whose
-/// conditions all lie in `k`, or lies in `k` and every row with its complement,
-/// its conditions added, makes the closure contradictory.
-fn becomes_true(
+/// Whether `m` is made true, or lies in `k` and every row with its complement
+/// makes the closure contradictory.
+fn becomes_true(clauses: &Clauses, operator: &Operator, k: &Literals, m: Literal) -> bool {
+    is_made_true(clauses, operator, k, m)
+        || k.contains(&m) && all_contradictory(clauses, operator, k, m.complement())
+}
+
+/// Whether `m` is the effect of a row whose conditions all lie in `k`; a negative
+/// one only if every add row of its atom makes the closure contradictory.
+fn is_made_true(clauses: &Clauses, operator: &Operator, k: &Literals, m: Literal) -> bool {
+    let added = m.complement();
+    row_has_conditions_in(k, operator, m)
+        && (!m.is_negated() || all_contradictory(clauses, operator, k, added))
+}
+
+/// Whether some row with the effect has its conditions in `k`.
+fn row_has_conditions_in(k: &Literals, operator: &Operator, effect: Literal) -> bool {
+    operator
+        .rows()
+        .any(|row| row.effect == effect && joined(&[row.conditions]).is_subset(k))
+}
+
+/// Whether every row with the effect, its conditions added to `k`, makes the
+/// closure contradictory.
+fn all_contradictory(
     clauses: &Clauses,
     operator: &Operator,
-    from: &Literals,
     k: &Literals,
-    m: Literal,
+    effect: Literal,
 ) -> bool {
-    let added = operator
+    operator
         .rows()
-        .any(|row| row.effect == m && joined(&[row.conditions]).is_subset(k));
-    let stays = || {
-        operator
-            .rows()
-            .filter(|row| row.effect == m.complement())
-            .all(|row| {
-                let more = from.union(&joined(&[row.conditions])).copied().collect();
-                is_contradictory(&closure(clauses, &more))
-            })
-    };
-    added || k.contains(&m) && stays()
+        .filter(|row| row.effect == effect)
+        .all(|row| is_contradictory(&closure(clauses, &(k | &joined(&[row.conditions])))))
 }
 
 /// The sets C0, C1, ... up to the one that is the finding; their number is the
@@ -143,10 +155,9 @@ fn without_containing(set: &Clauses) -> Clauses {
 
 /// The literals guaranteed by the operator.
 fn guaranteed(task: &Task, set: &Clauses, operator: &Operator) -> Vec<Literal> {
-    let from = joined(&[operator.precondition]);
-    let k = closure(set, &from);
+    let k = closure(set, &joined(&[operator.precondition]));
     (0..2 * task.atoms() as u16)
         .map(Literal)
-        .filter(|&l| becomes_true(set, operator, &from, &k, l))
+        .filter(|&l| becomes_true(set, operator, &k, l))
         .collect()
 }

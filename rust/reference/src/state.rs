@@ -1,4 +1,5 @@
-//! A task's states: setting to the initial one, steps, goal tests, list runs.
+//! A task's states: setting to the initial one, steps, goal tests, list runs. Of
+//! the effects of a step, an add beats a delete (document 02 §3).
 
 use crate::answer::{ask, Answer, Refusal};
 use crate::literal::{all_true, Literal};
@@ -15,7 +16,7 @@ pub fn initial(image: &[u16], state: &mut [u8]) -> Answer<()> {
     Ok(())
 }
 
-/// Does one step in the lent state: questions 1 to 7, 18 to 21.
+/// Does one step in the lent state: questions 1 to 7, 18 to 20.
 pub fn step(image: &[u16], state: &mut [u8], operator: u16) -> Answer<()> {
     let task = task::read(image)?;
     ask_state(&task, state)?;
@@ -29,8 +30,8 @@ pub fn goal(image: &[u16], state: &[u8]) -> Answer<bool> {
     Ok(all_true(task.goal(), state))
 }
 
-/// Does the listed steps in their order and gives their number. Refused among 19 to
-/// 21, the first place is the number of steps taken, which are kept.
+/// Does the listed steps in their order and gives their number. Refused with 19 or
+/// 20, the first place is the number of steps taken, which are kept.
 pub fn run(image: &[u16], state: &mut [u8], list: &[u16]) -> Answer<usize> {
     let task = task::read(image)?;
     ask_state(&task, state)?;
@@ -51,7 +52,7 @@ fn ask_state(task: &Task, state: &[u8]) -> Answer<()> {
 }
 
 /// Applies an operator of a task already read to a state of it: questions 19
-/// to 21. `fired` is scratch space.
+/// and 20. `fired` is scratch space.
 pub fn apply(task: &Task, state: &mut [u8], operator: u16, fired: &mut Vec<Literal>) -> Answer<()> {
     ask(19, usize::from(operator) < task.operators())?;
     let operator = task.operator(usize::from(operator));
@@ -63,12 +64,12 @@ pub fn apply(task: &Task, state: &mut [u8], operator: u16, fired: &mut Vec<Liter
             .filter(|row| all_true(row.conditions, state))
             .map(|row| row.effect),
     );
-    // Sorted, an atom both added and deleted has its two literals side by side.
-    fired.sort_unstable();
-    let conflict = fired.windows(2).any(|pair| pair[0].complement() == pair[1]);
-    ask(21, !conflict)?;
-    for effect in fired {
-        state[effect.atom()] = u8::from(!effect.is_negated());
+    // Deletes are done before adds: an atom both deleted and added ends true.
+    for effect in fired.iter().filter(|effect| effect.is_negated()) {
+        state[effect.atom()] = 0;
+    }
+    for effect in fired.iter().filter(|effect| !effect.is_negated()) {
+        state[effect.atom()] = 1;
     }
     Ok(())
 }

@@ -81,9 +81,9 @@ fn task_states() {
     assert_eq!(state::goal(&RING, &state), Ok(false));
 }
 
-/// Conditions are read before the step; both literals of an atom conflict.
+/// Conditions are read before the step. An atom both deleted and added ends true.
 #[test]
-fn conflicts_and_conditions() {
+fn conditions_and_both_literals() {
     let mut swap = OperatorSpec::strips(&[], &[0, 1, 2, 3]);
     for (row, condition) in swap.rows.iter_mut().zip([2, 3, 0, 1]) {
         row.conditions = vec![condition];
@@ -93,9 +93,13 @@ fn conflicts_and_conditions() {
     let mut state = [1, 0];
     assert_eq!(state::run(&image, &mut state, &[0, 0, 0]), Ok(3));
     assert_eq!(state, [0, 1]);
-    assert_eq!(state::step(&image, &mut state, 1), refusal(21, 0, 0));
-    assert_eq!(state::run(&image, &mut state, &[0, 1]), refusal(21, 1, 0));
-    assert_eq!(state, [1, 0]);
+    assert_eq!(state::step(&image, &mut state, 1), Ok(()));
+    assert_eq!(state, [1, 1]);
+    assert_eq!(
+        state::run(&image, &mut state, &[1, 2, 0]),
+        refusal(19, 1, 0)
+    );
+    assert_eq!(state, [1, 1]);
 }
 
 #[test]
@@ -282,6 +286,7 @@ fn both_encodings_answer_alike() {
         structured::gripper(2, 2, 2),
         structured::blocks(3),
         structured::briefcase(2, 3),
+        structured::changer(2, 3),
     ];
     for image in tasks.iter().map(|task| task.image()) {
         let (answer, rows) = synthesis(&image, 3, 100, 30_000);

@@ -1,6 +1,6 @@
 //! The cards of vectors/cards.txt, and the images in it against the generators.
 
-use inputs::structured::{blocks, briefcase, gripper, transport};
+use inputs::structured::{blocks, briefcase, changer, gripper, transport};
 use reference::card::card;
 
 struct Case {
@@ -34,7 +34,7 @@ fn cases() -> Vec<Case> {
 #[test]
 fn all_cards() {
     let cases = cases();
-    assert!(cases.len() >= 37, "only {} cases", cases.len());
+    assert!(cases.len() >= 43, "only {} cases", cases.len());
     for case in cases {
         let input: Vec<u8> = case
             .words
@@ -55,4 +55,5 @@ fn generators_make_the_images() {
     assert_eq!(blocks(3).image(), image("blocks-3-n2"));
     assert_eq!(briefcase(2, 3).image(), image("briefcase-2-3-n2"));
     assert_eq!(transport(2, 2, 3).image(), image("transport-2-2-3-n3"));
+    assert_eq!(changer(2, 3).image(), image("changer-2-3-n3"));
 }

@@ -1,4 +1,5 @@
-//! The plausible misreadings listed in document 01, and those of kept clauses.
+//! The plausible misreadings listed in document 01, by the steps of document 02 §3,
+//! and those of kept clauses.
 
 mod common;
 
@@ -20,7 +21,7 @@ fn kept_clauses() {
 #[test]
 fn tested_against_the_unchanged_set() {
     let image = [
-        4, 1, 8, 3, 11, 1, 12, 16, 1, 2, 3, 1, 0, 4, 7, 3, 1, 2, 7, 0, 1, 4, 2, 1, 6, 3, 1, 0,
+        4, 1, 8, 3, 11, 1, 12, 13, 1, 2, 3, 1, 0, 3, 7, 3, 1, 2, 7, 0, 1, 4, 3, 1, 0,
     ];
     let (answer, rows) = synthesis(&image, 1, 65535, 12);
     assert_eq!(answer.map(|found| (found.rows, found.rounds)), Ok((2, 3)));
@@ -57,22 +58,56 @@ fn one_variable(none: u16, rows: &[(u16, u16)]) -> Vec<u16> {
     task.image()
 }
 
-/// A set and a clear of one value conflict, whatever the present value is.
+/// A clear gives way to a set, whatever the present value is, and two sets of
+/// different values are refused before any clear is asked about.
 #[test]
-fn conflict_before_present_value() {
+fn sets_before_clears() {
     let step = |none, rows: &[(u16, u16)]| {
         let mut state = [0];
         fdr::step(&one_variable(none, rows), &mut state, 0).map(|()| state[0])
     };
-    assert_eq!(step(1, &[(0, 1), (1, 1)]), refusal(21, 0, 0));
-    assert_eq!(step(1, &[(0, 0), (1, 0)]), refusal(21, 0, 0));
-    assert_eq!(step(1, &[(0, 0), (0, 1)]), refusal(21, 0, 0));
-    assert_eq!(step(1, &[(0, 1), (0, 1), (1, 0)]), Ok(1));
-    assert_eq!(step(1, &[(1, 1)]), Ok(0));
+    for none in [0, 1] {
+        assert_eq!(step(none, &[(0, 1), (1, 1)]), Ok(1));
+        assert_eq!(step(none, &[(1, 1), (0, 1)]), Ok(1));
+        assert_eq!(step(none, &[(0, 0), (1, 0)]), Ok(0));
+        assert_eq!(step(none, &[(1, 0), (0, 0)]), Ok(0));
+        assert_eq!(step(none, &[(0, 1), (1, 1), (1, 0)]), Ok(1));
+        assert_eq!(step(none, &[(0, 1), (0, 1), (1, 0)]), Ok(1));
+        assert_eq!(step(none, &[(0, 0), (0, 1)]), refusal(21, 0, 0));
+        assert_eq!(step(none, &[(1, 0), (0, 1), (0, 0)]), refusal(21, 0, 0));
+        assert_eq!(step(none, &[(0, 1), (0, 1), (0, 0)]), refusal(21, 0, 0));
+        assert_eq!(step(none, &[(1, 1)]), Ok(0));
+    }
     assert_eq!(step(1, &[(1, 0), (1, 1)]), Ok(2));
+    assert_eq!(step(0, &[(1, 0), (1, 1)]), refusal(22, 0, 0));
     assert_eq!(step(0, &[(1, 0)]), refusal(22, 0, 0));
-    assert_eq!(step(0, &[(1, 0), (0, 1)]), Ok(1));
-    assert_eq!(step(0, &[(1, 1)]), Ok(0));
+}
+
+/// Question 21 is asked of all variables before 22 of any.
+#[test]
+fn two_sets_before_an_omitted_none() {
+    let row = |kind, variable, value| FdrRowSpec {
+        kind,
+        variable,
+        value,
+        conditions: Vec::new(),
+    };
+    let rows = vec![row(1, 0, 0), row(0, 1, 0), row(0, 1, 1)];
+    let mut spec = FdrSpec {
+        domains: vec![(1, 0), (2, 0)],
+        atoms: vec![(0, 0), (1, 0), (1, 1)],
+        initial: vec![0, 0],
+        goal: Vec::new(),
+        operators: vec![FdrOperatorSpec {
+            precondition: Vec::new(),
+            rows,
+        }],
+    };
+    let mut state = [0, 0];
+    assert_eq!(fdr::step(&spec.image(), &mut state, 0), refusal(21, 0, 0));
+    spec.operators[0].rows.pop();
+    assert_eq!(fdr::step(&spec.image(), &mut state, 0), refusal(22, 0, 0));
+    assert_eq!(state, [0, 0]);
 }
 
 /// Atom 0 is true initially, but nothing says that one of the group stays true.

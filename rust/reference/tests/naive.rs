@@ -2,6 +2,7 @@
 
 use std::collections::BTreeSet;
 
+use inputs::add_delete::{self, Judged};
 use inputs::{clauses, random, Rng};
 use reference::clause::Clause;
 use reference::closure::Closure;
@@ -84,12 +85,37 @@ fn kept_agree_on_falsifying_rows() {
     assert!((2_000..18_000).contains(&kept), "{kept}");
 }
 
+/// The same where the operator adds and deletes one atom.
+#[test]
+fn kept_agree_on_add_and_delete() {
+    let rng = &mut Rng::new(6);
+    let mut kept = 0;
+    for _ in 0..20_000 {
+        let Judged { task, set, clause } = add_delete::judged(rng);
+        let image = task.image();
+        let task = reference::task::read(&image).expect("a right image");
+        let set = clause::read(&clauses::words(&set), task.atoms()).expect("right rows");
+        let judged = clause::read(&clause, task.atoms()).expect("a right row");
+        let slow_set = set.iter().copied().collect();
+        let slow = naive::keeps(&slow_set, &judged[0], &task.operator(0));
+        let quick = Judge::new(&task, &set, 0).failing(&judged).is_empty();
+        assert_eq!(quick, slow, "{image:?} {set:?} {judged:?}");
+        kept += usize::from(quick);
+    }
+    assert!((2_000..18_000).contains(&kept), "{kept}");
+}
+
 #[test]
 fn syntheses_agree() {
     let rng = &mut Rng::new(3);
     let mut rounds = 0;
-    for number in 0..3_000 {
-        let image = random::small(rng).image();
+    for number in 0..6_000 {
+        let task = if number < 3_000 {
+            random::small(rng)
+        } else {
+            add_delete::task(rng)
+        };
+        let image = task.image();
         let task = reference::task::read(&image).expect("a right image");
         let n = 1 + number % 3;
         if task.atoms() > 12 {
@@ -104,7 +130,7 @@ fn syntheses_agree() {
         assert_eq!(Some(quick.largest), largest, "{image:?} {n}");
         rounds += quick.rounds;
     }
-    assert!(rounds > 5_000, "{rounds}");
+    assert!(rounds > 10_000, "{rounds}");
 }
 
 /// The first clause that is false, or else the first that is not kept.

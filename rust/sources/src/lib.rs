@@ -1,7 +1,8 @@
 //! Inputs that need the reference to be made: synthesized and re-encoded ones,
-//! and sets that fail at several places.
+//! and sets that fail at several places. Rules near those of document 02 §3.
 
 mod failing;
+pub mod nearby;
 
 pub use failing::Failing;
 
