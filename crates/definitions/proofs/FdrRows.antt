@@ -93,7 +93,8 @@ cleared-in rs w x r m k e f =
 -- rows whose sets of one variable have one value are not in conflict
 pub one-value :
     (rs : List FdrRow)
-    → ((r q : FdrRow) → List·Memᴰ r rs → List·Memᴰ q rs → isSet r ≡ true → isSet q ≡ true → r .variable ≡ q .variable → r .value ≡ q .value)
+    → ((r q : FdrRow) → List·Memᴰ r rs → List·Memᴰ q rs → isSet r ≡ true → isSet q ≡ true → r .variable ≡ q .variable
+    → r .value ≡ q .value)
     → fdrConflict rs ≡ false
 unfolding fdrConflict clash
 one-value rs same = go (decide (any (λ r. any (clash r) rs) rs))

@@ -116,7 +116,7 @@ module _ (o : Operator) (apart : isApart o ≡ true) where
       no-two (r .0) (k .0) (eqb-true (q .effect) (complement m) (k .1) ∙ ap complement (sym (eqb-true (w .it .effect) m (r .1))))
 
 -- the step is that of the old rule
-pub step-same : (t : Task) (s : List ℕ) (i : ℕ) → isApart (operatorAt t i) ≡ true → step t s i ≡ stepBefore t s i
+step-same : (t : Task) (s : List ℕ) (i : ℕ) → isApart (operatorAt t i) ≡ true → step t s i ≡ stepBefore t s i
 unfolding step stepBefore applicable ask askAt _>>=_
 step-same t s i apart = rw (fired-apart (operatorAt t i) apart s, stepBefore)
 
@@ -136,7 +136,7 @@ module _ (N : ℕ) (C : List (List ℕ)) (o : Operator) (apart : isApart o ≡ t
       go (inr h) = rw h
 
   -- what is guaranteed is that of the old rule
-  pub guaranteed-same : (ls K : List ℕ) (m : ℕ) → guaranteed N C o ls K m ≡ guaranteedBefore N C o ls K m
+  guaranteed-same : (ls K : List ℕ) (m : ℕ) → guaranteed N C o ls K m ≡ guaranteedBefore N C o ls K m
   unfolding guaranteed guaranteedBefore
   guaranteed-same ls K m = ap (λ b. b || staysTrue N C o ls K m) (made-same ls K m)
 
@@ -161,7 +161,7 @@ module _ (N : ℕ) (C : List (List ℕ)) (o : Operator) (apart : isApart o ≡ t
       go (inr h) = ap (λ b. positive l && b) h ∙ and-false (positive l)
 
   -- a clause is kept as by the old rule
-  pub kept-same : (f : List ℕ) → kept N C o f ≡ keptBefore N C o f
+  kept-same : (f : List ℕ) → kept N C o f ≡ keptBefore N C o f
   unfolding kept keptBefore
   kept-same f =
       ap (λ b. contradictory N (closure N C (o .precondition)) || b)
@@ -207,7 +207,20 @@ module _ (s : List ℕ) (o : FdrOperator) (apart : isFdrApart o ≡ true) where
       inside m = keep-of (λ r. fdrAllTrue s (r .conditions)) (o .rows) m .0
 
 -- the re-encoded step is that of the old rule
-pub fdr-step-same :
+fdr-step-same :
     (t : FdrTask) (s : List ℕ) (i : ℕ) → isFdrApart (getD (t .operators) i noFdrOperator) ≡ true → fdrStep t s i ≡ fdrStepBefore t s i
 unfolding fdrStep fdrStepBefore ask askAt _>>=_
 fdr-step-same t s i apart = rw (conflict-same s (getD (t .operators) i noFdrOperator) apart, fdrStep)
+
+-- for users of tasks made before: what did not change
+pub record Unchanged : Type 0 where
+  pub same-step : (t : Task) (s : List ℕ) (i : ℕ) → isApart (operatorAt t i) ≡ true → step t s i ≡ stepBefore t s i
+  pub same-guaranteed :
+      (N : ℕ) (C : List (List ℕ)) (o : Operator) → isApart o ≡ true
+      → (ls K : List ℕ) (m : ℕ) → guaranteed N C o ls K m ≡ guaranteedBefore N C o ls K m
+  pub same-kept : (N : ℕ) (C : List (List ℕ)) (o : Operator) → isApart o ≡ true → (f : List ℕ) → kept N C o f ≡ keptBefore N C o f
+  pub same-fdr-step :
+      (t : FdrTask) (s : List ℕ) (i : ℕ) → isFdrApart (getD (t .operators) i noFdrOperator) ≡ true → fdrStep t s i ≡ fdrStepBefore t s i
+
+pub unchanged : Unchanged
+unchanged = record { same-step = step-same; same-guaranteed = guaranteed-same; same-kept = kept-same; same-fdr-step = fdr-step-same }

@@ -38,7 +38,7 @@ pub extern "C" fn kb_task_initial(
     numbers::verdict(state::set_initial(image, state), first, second)
 }
 
-// A step in the lent state: 1 to 7, 18 to 21.
+// A step in the lent state: 1 to 7, 18 to 20.
 #[no_mangle]
 pub extern "C" fn kb_task_step(
     image: &[u16],
@@ -65,7 +65,7 @@ pub extern "C" fn kb_task_goal(
     numbers::test(state::goal_met(image, state), first, second)
 }
 
-// A list run in the lent state: 1 to 7 and 18 once, then 19 to 21 at each operator. `first` is the number of steps.
+// A list run in the lent state: 1 to 7 and 18 once, then 19 and 20 at each operator. `first` is the number of steps.
 #[no_mangle]
 pub extern "C" fn kb_task_run(
     image: &[u16],
