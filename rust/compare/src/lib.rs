@@ -1,6 +1,7 @@
 //! The comparison of the proved library with the reference: what the tests
 //! share.
 
+pub mod calls;
 pub mod guard;
 pub mod tally;
 

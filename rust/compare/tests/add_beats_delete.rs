@@ -3,7 +3,7 @@
 //! which a rule near the right one answers otherwise.
 
 use compare::tally::INPUTS;
-use compare::{Guarded, Tally};
+use compare::{calls, Guarded, Tally};
 use exports::Reply;
 use inputs::add_delete::{self, Judged};
 use inputs::fdr::FdrSpec;
@@ -13,7 +13,7 @@ use inputs::{clauses, state, Rng};
 use reference::clause::{self, Clause};
 use reference::synthesis::MOST_ROWS;
 use reference::task::{self, Task};
-use reference::{agreement, checker, fdr, kept, state as model, synthesis, Refusal};
+use reference::{fdr, state as model, synthesis, Refusal};
 use sources::nearby::judging::{self, Rule, NEARBY, RIGHT};
 use sources::nearby::steps::{FdrStep, TaskStep};
 use sources::Synthesized;
@@ -157,10 +157,9 @@ fn negative(clause: &Clause) -> bool {
         > 1
 }
 
-/// One clause under one operator; what the marks hold afterwards is open.
+/// One clause under one operator.
 #[test]
 fn kept_clauses() {
-    type Lent = (Guarded<u16>, Guarded<u16>, Guarded<u16>, Guarded<u8>);
     let rng = &mut Rng::new(803);
     let mut tally = Tally::new("kb_kept, add and delete");
     let mut told = Told::new("kb_kept", NEARBY.map(|rule| rule.0.to_string()));
@@ -169,27 +168,13 @@ fn kept_clauses() {
         let Judged { task, set, clause } = add_delete::judged(rng);
         let (image, words) = (task.image(), clauses::words(&set));
         let marks = vec![rng.word() as u8; 2 * usize::from(task.atoms)];
-        let (reply, _) = tally.compare(
-            (),
-            (
-                Guarded::new(&image),
-                Guarded::new(&words),
-                Guarded::new(&clause),
-                Guarded::new(&marks),
-            ),
-            |(image, set, clause, marks): &mut Lent| {
-                let lent = marks.lend_mut();
-                let answer = kept::kept(image.lend(), set.lend(), clause.lend(), 0, lent);
-                marks.forget();
-                answer.into()
-            },
-            |(image, set, clause, marks): &mut Lent| {
-                let lent = marks.lend_mut();
-                let reply = exports::kept(image.lend(), set.lend(), clause.lend(), 0, lent);
-                marks.forget();
-                reply
-            },
+        let lent = (
+            Guarded::new(&image),
+            Guarded::new(&words),
+            Guarded::new(&clause),
+            Guarded::new(&marks),
         );
+        let reply = calls::kept(&mut tally, lent, 0);
         let task = task::read(&image).expect("a right image");
         let (set, judged) = (read_set(&task, &words), read_set(&task, &clause)[0]);
         answers[usize::from(negative(&judged))][reply.first as usize] += 1;
@@ -272,7 +257,6 @@ fn task_and_set(rng: &mut Rng) -> (Vec<u16>, Vec<u16>) {
 
 #[test]
 fn check() {
-    type Lent = (Guarded<u16>, Guarded<u16>, Guarded<u8>);
     let rng = &mut Rng::new(804);
     let mut tally = Tally::new("kb_check, add and delete");
     let mut told = Told::new("kb_check", NEARBY.map(|rule| rule.0.to_string()));
@@ -280,55 +264,17 @@ fn check() {
         let (image, words) = task_and_set(rng);
         let task = task::read(&image).expect("a right image");
         let marks = vec![rng.word() as u8; 2 * task.atoms()];
-        let (reply, _) = tally.compare(
-            (),
-            (
-                Guarded::new(&image),
-                Guarded::new(&words),
-                Guarded::new(&marks),
-            ),
-            |(image, set, marks): &mut Lent| {
-                let answer = checker::check(image.lend(), set.lend(), marks.lend_mut());
-                marks.forget();
-                answer.into()
-            },
-            |(image, set, marks): &mut Lent| {
-                let reply = exports::check(image.lend(), set.lend(), marks.lend_mut());
-                marks.forget();
-                reply
-            },
+        let lent = (
+            Guarded::new(&image),
+            Guarded::new(&words),
+            Guarded::new(&marks),
         );
+        let reply = calls::check(&mut tally, lent);
         let set = read_set(&task, &words);
         told.count(NEARBY.map(|(_, rule)| check_by(rule, &task, &set) != reply));
     }
     told.finish(20);
     tally.finish(50, &[0, 10, 11]);
-}
-
-/// The lent buffers of synthesis: image, clauses, work, marks.
-type Synthesis = (Guarded<u16>, Guarded<u16>, Guarded<u16>, Guarded<u8>);
-
-/// Compares a synthesis; what work and marks hold afterwards is open.
-fn compare_synthesis(tally: &mut Tally, lent: Synthesis, n: u16) -> (Reply, Vec<u16>) {
-    let reference = |(image, clauses, work, marks): &mut Synthesis| {
-        let (rows, work_lent) = (clauses.lend_mut(), work.lend_mut());
-        let marks_lent = marks.lend_mut();
-        let answer = synthesis::synthesize(image.lend(), n, 65535, rows, work_lent, marks_lent);
-        work.forget();
-        marks.forget();
-        answer.into()
-    };
-    let library = |(image, clauses, work, marks): &mut Synthesis| {
-        let (rows, work_lent) = (clauses.lend_mut(), work.lend_mut());
-        let marks_lent = marks.lend_mut();
-        let reply = exports::synthesize(image.lend(), n, 65535, rows, work_lent, marks_lent);
-        work.forget();
-        marks.forget();
-        reply
-    };
-    let (reply, (_, clauses, _, _)) = tally.compare(n, lent, reference, library);
-    let rows = clauses.lend()[..3 * reply.first as usize].to_vec();
-    (reply, rows)
 }
 
 /// Each rule near the right one in kept clauses, and those that matter there in
@@ -365,7 +311,8 @@ fn synthesize() {
             Guarded::new(&vec![rng.word(); words]),
             Guarded::new(&vec![rng.word() as u8; 2 * task.atoms()]),
         );
-        let (reply, rows) = compare_synthesis(&mut tally, lent, n as u16);
+        let (reply, clauses) = calls::synthesize(&mut tally, lent, n as u16, 65535);
+        let rows = &clauses.lend()[..3 * reply.first as usize];
         told.count(rules.iter().map(|&(_, kept, guaranteed)| {
             let (set, rounds) = judging::synthesis(&task, n, kept, guaranteed);
             let words = set.iter().flat_map(Clause::words);
@@ -445,34 +392,19 @@ fn reencoded_runs() {
 /// Demand 3 along lists, for sets that synthesis finds.
 #[test]
 fn agree() {
-    type Lent = (Guarded<u16>, Guarded<u16>, Guarded<u16>, Guarded<u8>);
     let rng = &mut Rng::new(808);
     let mut tally = Tally::new("kb_agree, add and delete");
     while !tally.is_full() {
         let image = add_delete::task(rng).image();
         let source = Synthesized::new(image, rng.between(1, 3));
         let list = list(rng, usize::from(source.image[1]));
-        let (reply, _) = tally.compare(
-            (),
-            (
-                Guarded::new(&source.image),
-                Guarded::new(&clauses::words(&source.rows)),
-                Guarded::new(&list),
-                Guarded::new(&vec![rng.word() as u8; 2 * source.atoms()]),
-            ),
-            |(image, set, list, marks): &mut Lent| {
-                let lent = marks.lend_mut();
-                let answer = agreement::agree(image.lend(), set.lend(), list.lend(), lent);
-                marks.forget();
-                answer.into()
-            },
-            |(image, set, list, marks): &mut Lent| {
-                let lent = marks.lend_mut();
-                let reply = exports::agree(image.lend(), set.lend(), list.lend(), lent);
-                marks.forget();
-                reply
-            },
+        let lent = (
+            Guarded::new(&source.image),
+            Guarded::new(&clauses::words(&source.rows)),
+            Guarded::new(&list),
+            Guarded::new(&vec![rng.word() as u8; 2 * source.atoms()]),
         );
+        let reply = calls::agree(&mut tally, lent);
         assert_eq!(reply, Reply::finding(1, 0), "{:?}", source.image);
     }
     tally.finish(50, &[0]);

@@ -1,16 +1,14 @@
 //! Demand 3 along a list: whether task and re-encoding agree.
 
+use compare::calls::{self, Agree};
 use compare::{Guarded, Tally};
 use inputs::{damage, state, Rng};
-use reference::agreement;
 use sources::{marks_length, Synthesized};
 
 const LEAST: usize = 50;
 
-type Lent = (Guarded<u16>, Guarded<u16>, Guarded<u16>, Guarded<u8>);
-
 /// A damaged image now and then, a set of any kind, a list of numbers.
-fn lent(rng: &mut Rng, source: &Synthesized) -> Lent {
+fn lent(rng: &mut Rng, source: &Synthesized) -> Agree {
     let mut image = source.image.clone();
     if rng.chance(12) {
         damage::task_image(rng, &mut image);
@@ -29,7 +27,7 @@ fn lent(rng: &mut Rng, source: &Synthesized) -> Lent {
     )
 }
 
-/// Every finding says that all is alike; what the marks hold afterwards is open.
+/// Every finding says that all is alike.
 #[test]
 fn agree() {
     let rng = &mut Rng::new(701);
@@ -38,18 +36,7 @@ fn agree() {
         let source = Synthesized::random(rng);
         for _ in 0..5 {
             let lent = lent(rng, &source);
-            let reference = |(image, set, list, marks): &mut Lent| {
-                let answer =
-                    agreement::agree(image.lend(), set.lend(), list.lend(), marks.lend_mut());
-                marks.forget();
-                answer.into()
-            };
-            let library = |(image, set, list, marks): &mut Lent| {
-                let reply = exports::agree(image.lend(), set.lend(), list.lend(), marks.lend_mut());
-                marks.forget();
-                reply
-            };
-            let (reply, _) = tally.compare((), lent, reference, library);
+            let reply = calls::agree(&mut tally, lent);
             assert!(reply.number > 0 || reply.first == 1, "{reply:?}");
         }
     }

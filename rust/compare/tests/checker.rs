@@ -1,17 +1,13 @@
 //! One clause under one operator, and the checker.
 
-use compare::{Guarded, Tally};
+use compare::{calls, Guarded, Tally};
 use exports::Reply;
 use inputs::clauses::{self, FILL};
 use inputs::fixed::kept_cases;
 use inputs::{damage, state, Rng};
-use reference::{checker, kept};
 use sources::{marks_length, Failing, Synthesized};
 
 const LEAST: usize = 50;
-
-type Words = Guarded<u16>;
-type Bytes = Guarded<u8>;
 
 fn damaged_now_and_then(rng: &mut Rng, image: &[u16]) -> Vec<u16> {
     let mut image = image.to_vec();
@@ -19,36 +15,6 @@ fn damaged_now_and_then(rng: &mut Rng, image: &[u16]) -> Vec<u16> {
         damage::task_image(rng, &mut image);
     }
     image
-}
-
-/// Compares a call of kb_kept; what the marks hold afterwards is open.
-fn compare_kept(tally: &mut Tally, lent: (Words, Words, Words, Bytes), operator: u16) -> Reply {
-    type Lent = (Words, Words, Words, Bytes);
-    let reference = |(image, set, clause, marks): &mut Lent| {
-        let marks_lent = marks.lend_mut();
-        let answer = kept::kept(
-            image.lend(),
-            set.lend(),
-            clause.lend(),
-            operator,
-            marks_lent,
-        );
-        marks.forget();
-        answer.into()
-    };
-    let library = |(image, set, clause, marks): &mut Lent| {
-        let marks_lent = marks.lend_mut();
-        let reply = exports::kept(
-            image.lend(),
-            set.lend(),
-            clause.lend(),
-            operator,
-            marks_lent,
-        );
-        marks.forget();
-        reply
-    };
-    tally.compare(operator, lent, reference, library).0
 }
 
 /// Clause words of all kinds, or a very small set.
@@ -91,7 +57,7 @@ fn kept_under_one_operator() {
                 Guarded::new(&vec![rng.word() as u8; marks_length(rng, source.atoms())]),
             );
             let operator = state::operator(rng, operators);
-            let reply = compare_kept(&mut tally, lent, operator);
+            let reply = calls::kept(&mut tally, lent, operator);
             if reply.number == 0 {
                 answers[reply.first as usize] += 1;
             }
@@ -115,7 +81,7 @@ fn falsifying_rows(rng: &mut Rng, tally: &mut Tally, answers: &mut [usize; 2]) {
             Guarded::new(&clause),
             Guarded::new(&vec![0; 2 * atoms]),
         );
-        let reply = compare_kept(tally, lent, 0);
+        let reply = calls::kept(tally, lent, 0);
         answers[reply.first as usize] += 1;
     }
 }
@@ -131,22 +97,6 @@ fn kept_cases_as_written_down() {
     }
 }
 
-/// Compares a call of kb_check; what the marks hold afterwards is open.
-fn compare_check(tally: &mut Tally, lent: (Words, Words, Bytes)) -> Reply {
-    type Lent = (Words, Words, Bytes);
-    let reference = |(image, set, marks): &mut Lent| {
-        let answer = checker::check(image.lend(), set.lend(), marks.lend_mut());
-        marks.forget();
-        answer.into()
-    };
-    let library = |(image, set, marks): &mut Lent| {
-        let reply = exports::check(image.lend(), set.lend(), marks.lend_mut());
-        marks.forget();
-        reply
-    };
-    tally.compare((), lent, reference, library).0
-}
-
 #[test]
 fn check() {
     let rng = &mut Rng::new(202);
@@ -156,7 +106,7 @@ fn check() {
         for _ in 0..5 {
             let image = damaged_now_and_then(rng, &source.image);
             let marks = vec![rng.word() as u8; marks_length(rng, source.atoms())];
-            compare_check(
+            calls::check(
                 &mut tally,
                 (
                     Guarded::new(&image),
@@ -180,7 +130,7 @@ fn compare_failing(tally: &mut Tally, failing: &Failing) {
         Guarded::new(&marks),
     );
     let lowest = Reply::from(Err::<(), _>(failing.lowest()));
-    assert_eq!(compare_check(tally, lent), lowest, "{failing:?}");
+    assert_eq!(calls::check(tally, lent), lowest, "{failing:?}");
     let mut target = vec![FILL; 40];
     let others = [
         exports::groups(image, words, &mut marks, &mut target),

@@ -1,35 +1,11 @@
 //! Synthesis.
 
-use compare::{Guarded, Tally};
+use compare::{calls, Guarded, Tally};
 use exports::Reply;
 use inputs::{clauses, damage, random, structured, Rng};
 use reference::synthesis::{self as model, MOST_ROWS};
 
 const LEAST: usize = 50;
-
-/// The lent buffers: image, clauses, work, marks.
-type Lent = (Guarded<u16>, Guarded<u16>, Guarded<u16>, Guarded<u8>);
-
-/// Compares a call; what work and marks hold afterwards is open.
-fn compare(tally: &mut Tally, lent: Lent, n: u16, limit: u16) -> Reply {
-    let reference = |(image, clauses, work, marks): &mut Lent| {
-        let (clauses, work_lent) = (clauses.lend_mut(), work.lend_mut());
-        let marks_lent = marks.lend_mut();
-        let answer = model::synthesize(image.lend(), n, limit, clauses, work_lent, marks_lent);
-        work.forget();
-        marks.forget();
-        answer.into()
-    };
-    let library = |(image, clauses, work, marks): &mut Lent| {
-        let (clauses, work_lent) = (clauses.lend_mut(), work.lend_mut());
-        let marks_lent = marks.lend_mut();
-        let reply = exports::synthesize(image.lend(), n, limit, clauses, work_lent, marks_lent);
-        work.forget();
-        marks.forget();
-        reply
-    };
-    tally.compare((n, limit), lent, reference, library).0
-}
 
 /// A round limit around the number of rounds made.
 fn random_limit(rng: &mut Rng, rounds: usize) -> u16 {
@@ -95,7 +71,7 @@ fn synthesize() {
                 Guarded::new(&vec![rng.word(); work]),
                 Guarded::new(&vec![rng.word() as u8; marks]),
             );
-            let reply = compare(&mut tally, lent, n, limit);
+            let (reply, _) = calls::synthesize(&mut tally, lent, n, limit);
             if reply.number == 0 {
                 rounds_seen[(reply.second as usize - 1).min(3)] += 1;
             }
@@ -192,7 +168,7 @@ fn large_tasks() {
             Guarded::new(&vec![1; 3 * MOST_ROWS]),
             Guarded::new(&[1; 2048]),
         );
-        compare(&mut tally, lent, 1 + number % 2, 65535);
+        calls::synthesize(&mut tally, lent, 1 + number % 2, 65535);
     }
 }
 

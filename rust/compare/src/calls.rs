@@ -1,0 +1,87 @@
+//! Calls that lend buffers whose end is open: marks, and work in synthesis.
+
+use exports::Reply;
+use reference::{agreement, checker, kept, synthesis};
+
+use crate::{Guarded, Tally};
+
+type Words = Guarded<u16>;
+type Marks = Guarded<u8>;
+
+/// Image and clauses.
+pub type Check = (Words, Words, Marks);
+
+/// Image, clauses, one clause.
+pub type Kept = (Words, Words, Words, Marks);
+
+/// Image, clauses, work.
+pub type Synthesis = (Words, Words, Words, Marks);
+
+/// Image, clauses, operator numbers.
+pub type Agree = (Words, Words, Words, Marks);
+
+pub fn check(tally: &mut Tally, lent: Check) -> Reply {
+    let reference = |(image, set, marks): &mut Check| {
+        let answer = checker::check(image.lend(), set.lend(), marks.lend_mut());
+        marks.forget();
+        answer.into()
+    };
+    let library = |(image, set, marks): &mut Check| {
+        let reply = exports::check(image.lend(), set.lend(), marks.lend_mut());
+        marks.forget();
+        reply
+    };
+    tally.compare((), lent, reference, library).0
+}
+
+pub fn kept(tally: &mut Tally, lent: Kept, operator: u16) -> Reply {
+    let reference = |(image, set, clause, marks): &mut Kept| {
+        let (set, row) = (set.lend(), clause.lend());
+        let answer = kept::kept(image.lend(), set, row, operator, marks.lend_mut());
+        marks.forget();
+        answer.into()
+    };
+    let library = |(image, set, clause, marks): &mut Kept| {
+        let (set, row) = (set.lend(), clause.lend());
+        let reply = exports::kept(image.lend(), set, row, operator, marks.lend_mut());
+        marks.forget();
+        reply
+    };
+    tally.compare(operator, lent, reference, library).0
+}
+
+/// Gives back the clause buffer besides.
+pub fn synthesize(tally: &mut Tally, lent: Synthesis, n: u16, limit: u16) -> (Reply, Words) {
+    let reference = |(image, clauses, work, marks): &mut Synthesis| {
+        let (rows, work_lent) = (clauses.lend_mut(), work.lend_mut());
+        let marks_lent = marks.lend_mut();
+        let answer = synthesis::synthesize(image.lend(), n, limit, rows, work_lent, marks_lent);
+        work.forget();
+        marks.forget();
+        answer.into()
+    };
+    let library = |(image, clauses, work, marks): &mut Synthesis| {
+        let (rows, work_lent) = (clauses.lend_mut(), work.lend_mut());
+        let marks_lent = marks.lend_mut();
+        let reply = exports::synthesize(image.lend(), n, limit, rows, work_lent, marks_lent);
+        work.forget();
+        marks.forget();
+        reply
+    };
+    let (reply, (_, clauses, _, _)) = tally.compare((n, limit), lent, reference, library);
+    (reply, clauses)
+}
+
+pub fn agree(tally: &mut Tally, lent: Agree) -> Reply {
+    let reference = |(image, set, list, marks): &mut Agree| {
+        let answer = agreement::agree(image.lend(), set.lend(), list.lend(), marks.lend_mut());
+        marks.forget();
+        answer.into()
+    };
+    let library = |(image, set, list, marks): &mut Agree| {
+        let reply = exports::agree(image.lend(), set.lend(), list.lend(), marks.lend_mut());
+        marks.forget();
+        reply
+    };
+    tally.compare((), lent, reference, library).0
+}
