@@ -11,7 +11,7 @@ use borrow.Author.Tests.{eqb-true, eqb-false, eq-eqb, ne-eqb, not-true}
 use Rattle.definitions.specs.Lists.{any}
 use Rattle.definitions.specs.Fdr.{FdrRow}
 use Rattle.definitions.specs.FdrStep.{isSet, clash, fdrConflict, setValue, cleared}
-use Rattle.definitions.proofs.ListLaws.{none-some, decide, never, and-left, and-right, and-both, any-of, any-in}
+use Rattle.definitions.proofs.ListLaws.{none-some, refuted, never, and-left, and-right, and-both, any-of, any-in}
 
 pub set-kind : (r : FdrRow) → r .kind ≡ 0 → isSet r ≡ true
 unfolding isSet
@@ -97,7 +97,12 @@ pub one-value :
     → r .value ≡ q .value)
     → fdrConflict rs ≡ false
 unfolding fdrConflict clash
-one-value rs same = go (decide (any (λ r. any (clash r) rs) rs))
+one-value rs same =
+    refuted
+    (λ h.
+    let u = any-of (λ r. any (clash r) rs) rs h in
+    let w = any-of (clash (u .it)) rs (u .passes) in
+    no-clash (u .it) (w .it) (u .mem) (w .mem) (w .passes))
   where
     no-clash : (r q : FdrRow) → List·Memᴰ r rs → List·Memᴰ q rs → clash r q ≡ true → ⊥
     no-clash r q mr mq h =
@@ -109,10 +114,3 @@ one-value rs same = go (decide (any (λ r. any (clash r) rs) rs))
         eqb-false (r .value) (q .value) (not-true (eqb (r .value) (q .value)) (and-right (sets && vars) differ h))
         (same r q mr mq (and-left (isSet r) (isSet q) both) (and-right (isSet r) (isSet q) both)
         (eqb-true (r .variable) (q .variable) (and-right sets vars p)))
-
-    go : (any (λ r. any (clash r) rs) rs ≡ true) ⊎ (any (λ r. any (clash r) rs) rs ≡ false) → any (λ r. any (clash r) rs) rs ≡ false
-    go (inl h) =
-        let u = any-of (λ r. any (clash r) rs) rs h in
-        let w = any-of (clash (u .it)) rs (u .passes) in
-        absurd (no-clash (u .it) (w .it) (u .mem) (w .mem) (w .passes))
-    go (inr h) = h

@@ -1,5 +1,6 @@
 -- The rule before "An add beats a delete" (document 02), and that nothing changed for an operator whose rows do not both add and delete an atom.
--- The old definitions stand here for these theorems only. Assumes nothing.
+-- The old definitions stand here for these theorems only. What the request left as it was they share with the new ones: the state after a step
+-- (`result`), what stays true (`staysTrue`), and of a re-encoded step the state and question 22 (`fdrAfter`, `noneThere`). Assumes nothing.
 use mathlib.Core.Bool.{Bool, true, false, not, cond, _&&_, _||_, and-true, and-false, or-false}
 use mathlib.Core.Logic.{_⊎_, inl, inr}
 use mathlib.Core.Path.{_≡_, refl, sym, _∙_, ap, ap₂, subst}
@@ -17,7 +18,7 @@ use Rattle.definitions.specs.Closure.{closure, contradictory}
 use Rattle.definitions.specs.Kept.{rowsWith, allIn, surelyFires, addedAgain, neverFires, madeTrue, staysTrue, guaranteed, keptCase, kept}
 use Rattle.definitions.specs.Fdr.{FdrRow, FdrOperator, FdrTask, fdrAllTrue}
 use Rattle.definitions.specs.FdrStep.{fdrFired, isSet, clash, fdrConflict, fdrAfter, noneThere, noFdrOperator, fdrStep}
-use Rattle.definitions.proofs.ListLaws.{decide, never, or-right, any-of, any-in, all-of, any-agree, all-agree, keep-of, map-in, member-in}
+use Rattle.definitions.proofs.ListLaws.{decide, refuted, never, or-right, any-of, any-in, all-of, any-agree, all-agree, keep-of, map-in, member-in}
 use Rattle.definitions.proofs.StepLaws.{fired-of}
 
 -- ---- the old rule
@@ -93,18 +94,13 @@ module _ (o : Operator) (apart : isApart o ≡ true) where
   -- no fired effects are in conflict
   fired-apart : (s : List ℕ) → addedAndDeleted (effects s o) ≡ false
   unfolding addedAndDeleted
-  fired-apart s = go (decide (any (λ e. member (complement e) (effects s o)) (effects s o)))
-    where
-      some : Bool
-      some = any (λ e. member (complement e) (effects s o)) (effects s o)
-
-      go : (some ≡ true) ⊎ (some ≡ false) → some ≡ false
-      go (inl h) =
-          let w = any-of (λ e. member (complement e) (effects s o)) (effects s o) h in
-          let r = fired-of s o (w .it) (member-in (w .mem)) in
-          let q = fired-of s o (complement (w .it)) (w .passes) in
-          absurd (no-two (r .mem) (q .mem) (sym (q .same) ∙ ap complement (r .same)))
-      go (inr h) = h
+  fired-apart s =
+      refuted
+      (λ h.
+      let w = any-of (λ e. member (complement e) (effects s o)) (effects s o) h in
+      let r = fired-of s o (w .it) (member-in (w .mem)) in
+      let q = fired-of s o (complement (w .it)) (w .passes) in
+      no-two (r .mem) (q .mem) (sym (q .same) ∙ ap complement (r .same)))
 
   -- where a row with effect m may fire, there is none with its complement
   none-with : (K : List ℕ) (m : ℕ) → surelyFires o K m ≡ true → {q : Row} → List·Memᴰ q (rowsWith o (complement m)) → ⊥
@@ -178,13 +174,12 @@ isFdrApart o = not (any (λ r. any (setAndCleared r) (o .rows)) (o .rows))
 module _ (s : List ℕ) (o : FdrOperator) (apart : isFdrApart o ≡ true) where
   clash-same : (r q : FdrRow) → List·Memᴰ r (o .rows) → List·Memᴰ q (o .rows) → clash r q ≡ clashBefore r q
   unfolding isFdrApart setAndCleared clash clashBefore
-  clash-same r q mr mq = go (isSet r) (isSet q) (eqb (r .variable) (q .variable)) (eqb (r .value) (q .value)) (none (decide (setAndCleared r q)))
+  clash-same r q mr mq = go (isSet r) (isSet q) (eqb (r .variable) (q .variable)) (eqb (r .value) (q .value)) (refuted apart-rows)
     where
-      none : (setAndCleared r q ≡ true) ⊎ (setAndCleared r q ≡ false) → setAndCleared r q ≡ false
-      none (inl h) =
+      apart-rows : setAndCleared r q ≡ true → ⊥
+      apart-rows h =
           never (any-in (λ r. any (setAndCleared r) (o .rows)) mr (any-in (setAndCleared r) mq h))
           (not-true (any (λ r. any (setAndCleared r) (o .rows)) (o .rows)) apart)
-      none (inr h) = h
 
       go : (a b v x : Bool) → (a && not b && v && x) ≡ false → (a && b && v && not x) ≡ (v && a && cond b (not x) x)
       go true true true x h = refl

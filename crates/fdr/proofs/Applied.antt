@@ -93,8 +93,8 @@ module _ (s : List ℕ) (rs : List FdrRow) (low : Rows mostAtoms rs) where
     all-noted = subst (Comes s rs) em comes
 
     -- two fired sets of one variable have one value: both are noted
-    pub calm : fdrConflict rs ≡ false
-    calm =
+    pub not-in-conflict : fdrConflict rs ≡ false
+    not-in-conflict =
         one-value rs
         (λ r q mr mq hr hq e.
         let x = all-noted .given r mr hr in
@@ -128,12 +128,12 @@ module _ (s : List ℕ) (rs : List FdrRow) (low : Rows mostAtoms rs) where
       unfolding fdrAfter become
       after-is = go (setValue rs v) refl
         where
-          bit : (b : Bool) (k x : ℕ) → become (domainAt t v) (cond b 1 0) x ≡ cond b (domainAt t v .values - 1) x
-          bit true k x = refl
-          bit false k x = refl
+          bit : (b : Bool) (x : ℕ) → become (domainAt t v) (cond b 1 0) x ≡ cond b (domainAt t v .values - 1) x
+          bit true x = refl
+          bit false x = refl
 
           go : (o : Option ℕ) → setValue rs v ≡ o → become (domainAt t v) (getD m v 0) (getD s v 0) ≡ fdrAfter t s rs v
-          go none e = rw (e, fdrAfter, clear-noted v e) (bit (cleared rs v (getD s v 0)) 0 (getD s v 0))
+          go none e = rw (e, fdrAfter, clear-noted v e) (bit (cleared rs v (getD s v 0)) (getD s v 0))
           go (some x) e = rw (e, fdrAfter, set-noted v x e, add-two)
 
     module _ (t : FdrTask) where

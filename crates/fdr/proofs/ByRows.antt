@@ -176,25 +176,25 @@ module _ (D : List Domain) (m : List ℕ) where
         at v true e = rw e
         at v false e = rw e (sym (become-same (getD D v noDomain) (getD m v 0) (getD s v 0) (unnamed v e)))
 
-    calm-at : ℕ → Bool
-    calm-at v = not (eqb (getD m v 0) 1 && eqb (getD D v noDomain .none) 0)
+    is-there : ℕ → Bool
+    is-there v = not (eqb (getD m v 0) 1 && eqb (getD D v noDomain .none) 0)
 
     pub nones-by-rows : all (λ r. ltb (r .variable) (length D)) rows ≡ true → nonesIn D m rows ≡ nonesThere D m
-    unfolding nonesIn nonesThere named calm-at
+    unfolding nonesIn nonesThere named is-there
     nones-by-rows low = same-bool (nonesIn D m rows) (nonesThere D m) there back
       where
         there : nonesIn D m rows ≡ true → nonesThere D m ≡ true
-        there h = all-of calm-at (below (length D)) (λ v k. by v (named rows v) refl)
+        there h = all-of is-there (below (length D)) (λ v k. by v (named rows v) refl)
           where
-            by : (v : ℕ) (b : Bool) → named rows v ≡ b → calm-at v ≡ true
+            by : (v : ℕ) (b : Bool) → named rows v ≡ b → is-there v ≡ true
             by v true e =
                 let w = any-of (λ r. eqb v (r .variable)) rows e in
-                ap calm-at (eqb-true v (w .it .variable) (w .passes)) ∙ all-at (λ r. calm-at (r .variable)) h (w .mem)
+                ap is-there (eqb-true v (w .it .variable) (w .passes)) ∙ all-at (λ r. is-there (r .variable)) h (w .mem)
             by v false e = rw (unnamed v e)
 
         back : nonesThere D m ≡ true → nonesIn D m rows ≡ true
         back h =
-            all-of (λ r. calm-at (r .variable)) rows
+            all-of (λ r. is-there (r .variable)) rows
             (λ r k.
-            all-at calm-at h
+            all-at is-there h
             (below-in (length D) (r .variable) (ltb-true (r .variable) (length D) (all-at (λ r. ltb (r .variable) (length D)) low k))))

@@ -27,7 +27,7 @@ use Rattle.fdr_image.proofs.Reading.{reads, variables-are, initial-right}
 use Rattle.fdr.specs.Change.{noChanges, noted, noteFired, nonesIn, written, unnoted, applied, stepped}
 use Rattle.fdr.specs.Post.{fdrReader, Standing, Applying, LowBlock, Changes, Writes, NotedFor}
 use Rattle.fdr.proofs.StepLaws.{Rows}
-use Rattle.fdr.proofs.Applied.{blank-length, conflict, calm, nonesThere, changed, nones-is, changed-is, changes-inside}
+use Rattle.fdr.proofs.Applied.{blank-length, conflict, not-in-conflict, nonesThere, changed, nones-is, changed-is, changes-inside}
 use Rattle.fdr.proofs.ByRows.{nones-by-rows, written-is, notes-gone}
 
 -- questions 17 and 18 are answered yes
@@ -192,7 +192,7 @@ module _ (w b s m₀ : List ℕ) (a : Applying w b s m₀) where
               ∙ nones-is s fired rows m all-noted (fdrOf w)
 
           no-conflict : fdrConflict fired ≡ false
-          no-conflict = calm s fired rows m all-noted
+          no-conflict = not-in-conflict s fired rows m all-noted
 
           pub nones-refused : r ≡ false → outcome (refused (refusalAt 22 0 0)) s ≡ becomes s (applied (fdrOf w) s fired)
           nones-refused h = applied-22 (fdrOf w) s fired no-conflict (sym nones ∙ h)

@@ -15,7 +15,7 @@ use Rattle.definitions.specs.Lists.{any}
 use Rattle.definitions.specs.Literal.{mostAtoms}
 use Rattle.definitions.specs.Fdr.{FdrRow}
 use Rattle.definitions.specs.FdrStep.{isSet, clash, fdrConflict, setValue, cleared}
-use Rattle.definitions.proofs.ListLaws.{never, any-in}
+use Rattle.definitions.proofs.ListLaws.{never, set-if-length, any-in}
 use Rattle.definitions.proofs.FdrRows.{set-some, set-none}
 use Rattle.fdr.specs.Change.{noted, noteSet, noteClear, noteKind, noteRow, noteFired}
 use Rattle.fdr.proofs.Notes.{set-first, set-again}
@@ -32,11 +32,7 @@ Unset rs v = (r : FdrRow) → List·Memᴰ r rs → isSet r ≡ true → r .vari
 module _ (s : List ℕ) (v x : ℕ) (m : List ℕ) where
   clear-size : length (noteClear s v x m) ≡ length m
   unfolding noteClear
-  clear-size = go (eqb (getD m v 0) 0 && eqb x (getD s v 0))
-    where
-      go : (b : Bool) → length (cond b (set m v 1) m) ≡ length m
-      go true = length-set m v 1
-      go false = refl
+  clear-size = set-if-length (eqb (getD m v 0) 0 && eqb x (getD s v 0)) m v 1
 
   clear-kept : (w : ℕ) → 2 ≤ getD m w 0 → getD (noteClear s v x m) w 0 ≡ getD m w 0
   unfolding noteClear

@@ -3,22 +3,21 @@ use mathlib.Core.Bool.{Bool, true, false, Bool·beq, not, _&&_, _||_, cond}
 use mathlib.Core.Logic.{_⊎_, inl, inr}
 use mathlib.Core.Path.{_≡_, refl, sym, _∙_, ap, ap₂, subst}
 use mathlib.Core.List.{List, [], _∷_, _++_, map}
-use Prim.Native.Nat.{ℕ, zero, suc, _+_, _*_, _<_}
-use native.Mathlib.Omega.{arith}
+use Prim.Native.Nat.{ℕ, zero, _*_, _<_}
 use lib.Dec.{eqb}
-use lib.ListN.{length, getD, set, length-set}
+use lib.ListN.{length, getD, set}
 use lib.Seq.{getD-set-same, getD-set-other, set-getD, ext-getD}
 use borrow.Author.Tests.{eqb-true, eqb-false, eq-eqb, ne-eqb}
-use Rattle.definitions.specs.Lists.{any, all, keep, range, below}
+use Rattle.definitions.specs.Lists.{any, all, keep, below}
 use Rattle.definitions.specs.Literal.{positive, complement}
-use Rattle.definitions.specs.Image.{Row, Operator, Task}
-use Rattle.definitions.specs.Synthesis.{guarantees}
+use Rattle.definitions.specs.Image.{Row, Operator}
 use Rattle.definitions.specs.Closure.{has, bit, closure, contradictory}
 use Rattle.definitions.specs.Kept.{rowsWith, allIn, surelyFires, neverFires, madeTrue, staysTrue, guaranteed}
-use Rattle.definitions.proofs.ListLaws.{decide, all-agree, table-at, table-length}
+use Rattle.definitions.proofs.ListLaws.{decide, set-if-length, all-agree, table-at, table-length}
 use Rattle.propagation.proofs.Sets.{complement-back}
 use Rattle.propagation.proofs.Marks.{bit-back}
-use Rattle.judge.specs.Judging.{flagsOf, isOfKind, addEffects, canFire, dropChanged, guaranteedFlags}
+use Rattle.literal.specs.Literal.{hasSign}
+use Rattle.judge.specs.Judging.{flagsOf, flagEffects, canFire, dropChanged, guaranteedFlags}
 
 -- ---- tests of kept lists
 module _ {A : Type 0} (t p : A → Bool) where
@@ -87,24 +86,12 @@ module _ (b : Bool) (S : List ℕ) (i x m : ℕ) (low : m < length S) where
           let ne = eqb-false i m h in
           rw h (getD-set-other S i m x 0 (λ e. ne (sym e)))
 
-  pub set-length : length (cond b (set S i x) S) ≡ length S
-  set-length = go b
-    where
-      go : (b : Bool) → length (cond b (set S i x) S) ≡ length S
-      go true = length-set S i x
-      go false = refl
-
-pub added-length : (adds : Bool) (K : List ℕ) (qs : List Row) (S : List ℕ) → length (addEffects adds K qs S) ≡ length S
-unfolding addEffects
-added-length adds K [] S = refl
-added-length adds K (q ∷ qs) S = added-length adds K qs (cond b (set S (q .effect) 1) S) ∙ go b
-  where
-    b : Bool
-    b = isOfKind adds (q .effect) && allIn K (q .conditions)
-
-    go : (b : Bool) → length (cond b (set S (q .effect) 1) S) ≡ length S
-    go true = length-set S (q .effect) 1
-    go false = refl
+pub effects-length : (adds : Bool) (K : List ℕ) (qs : List Row) (S : List ℕ) → length (flagEffects adds K qs S) ≡ length S
+unfolding flagEffects
+effects-length adds K [] S = refl
+effects-length adds K (q ∷ qs) S =
+    let b = hasSign adds (q .effect) && allIn K (q .conditions) in
+    effects-length adds K qs (cond b (set S (q .effect) 1) S) ∙ set-if-length b S (q .effect) 1
 
 cond-and : (a b : Bool) (x : ℕ) → cond b (cond a 0 x) 0 ≡ cond (not a && b) x 0
 cond-and true true x = refl
@@ -112,23 +99,23 @@ cond-and true false x = refl
 cond-and false b x = refl
 
 -- the flag of m is set if m is the effect of a row of the kind whose conditions lie in K
-pub added-at :
+pub effects-at :
     (adds : Bool) (K : List ℕ) (qs : List Row) (S : List ℕ) (m : ℕ) → m < length S
-    → getD (addEffects adds K qs S) m 0
-    ≡ cond (isOfKind adds m && any (λ q. eqb (q .effect) m && allIn K (q .conditions)) qs) 1 (getD S m 0)
-unfolding addEffects any
-added-at adds K [] S m low = go (isOfKind adds m)
+    → getD (flagEffects adds K qs S) m 0
+    ≡ cond (hasSign adds m && any (λ q. eqb (q .effect) m && allIn K (q .conditions)) qs) 1 (getD S m 0)
+unfolding flagEffects any
+effects-at adds K [] S m low = go (hasSign adds m)
   where
     go : (b : Bool) → getD S m 0 ≡ cond (b && false) 1 (getD S m 0)
     go true = refl
     go false = refl
-added-at adds K (q ∷ qs) S m low =
-    added-at adds K qs T m (subst (λ (k : ℕ). m < k) (sym (set-length b S (q .effect) 1 m low)) low)
-    ∙ ap (λ x. cond (isOfKind adds m && more) 1 x) (set-at-flag b S (q .effect) 1 m low)
+effects-at adds K (q ∷ qs) S m low =
+    effects-at adds K qs T m (subst (λ (k : ℕ). m < k) (sym (set-if-length b S (q .effect) 1)) low)
+    ∙ ap (λ x. cond (hasSign adds m && more) 1 x) (set-at-flag b S (q .effect) 1 m low)
     ∙ go (decide (eqb (q .effect) m))
   where
     b : Bool
-    b = isOfKind adds (q .effect) && allIn K (q .conditions)
+    b = hasSign adds (q .effect) && allIn K (q .conditions)
 
     T : List ℕ
     T = cond b (set S (q .effect) 1) S
@@ -144,11 +131,11 @@ added-at adds K (q ∷ qs) S m low =
 
     go :
         (eqb (q .effect) m ≡ true) ⊎ (eqb (q .effect) m ≡ false)
-        → cond (isOfKind adds m && more) 1 (cond (eqb (q .effect) m && b) 1 (getD S m 0))
-        ≡ cond (isOfKind adds m && ((eqb (q .effect) m && allIn K (q .conditions)) || more)) 1 (getD S m 0)
+        → cond (hasSign adds m && more) 1 (cond (eqb (q .effect) m && b) 1 (getD S m 0))
+        ≡ cond (hasSign adds m && ((eqb (q .effect) m && allIn K (q .conditions)) || more)) 1 (getD S m 0)
     go (inl h) =
         let same : q .effect ≡ m = eqb-true (q .effect) m h in
-        rw (h, ap (isOfKind adds) same) (flag (isOfKind adds m) (allIn K (q .conditions)) more (getD S m 0))
+        rw (h, ap (hasSign adds) same) (flag (hasSign adds m) (allIn K (q .conditions)) more (getD S m 0))
     go (inr h) = rw h
 
 module _ (N : ℕ) (C : List (List ℕ)) where
@@ -156,11 +143,8 @@ module _ (N : ℕ) (C : List (List ℕ)) where
   unfolding dropChanged
   dropped-length ls [] S = refl
   dropped-length ls (q ∷ qs) S =
-      dropped-length ls qs (cond (canFire N C ls (q .conditions)) (set S (complement (q .effect)) 0) S) ∙ go (canFire N C ls (q .conditions))
-    where
-      go : (b : Bool) → length (cond b (set S (complement (q .effect)) 0) S) ≡ length S
-      go true = length-set S (complement (q .effect)) 0
-      go false = refl
+      let b = canFire N C ls (q .conditions) in
+      dropped-length ls qs (cond b (set S (complement (q .effect)) 0) S) ∙ set-if-length b S (complement (q .effect)) 0
 
   -- the flag of m stays if no row with the complement of m can fire
   pub dropped-at :
@@ -171,7 +155,7 @@ module _ (N : ℕ) (C : List (List ℕ)) where
   dropped-at ls (q ∷ qs) S m low =
       let b = canFire N C ls (q .conditions) in
       let T = cond b (set S (complement (q .effect)) 0) S in
-      dropped-at ls qs T m (subst (λ (k : ℕ). m < k) (sym (set-length b S (complement (q .effect)) 0 m low)) low)
+      dropped-at ls qs T m (subst (λ (k : ℕ). m < k) (sym (set-if-length b S (complement (q .effect)) 0)) low)
       ∙ ap (λ x. cond (all (λ q. not (eqb (complement (q .effect)) m && canFire N C ls (q .conditions))) qs) x 0)
       (set-at-flag b S (complement (q .effect)) 0 m low)
       ∙ cond-and (eqb (complement (q .effect)) m && b) (all (λ q. not (eqb (complement (q .effect)) m && canFire N C ls (q .conditions))) qs) (getD S m 0)
@@ -204,10 +188,10 @@ module _ (N : ℕ) (C : List (List ℕ)) where
     abbrev walked : List ℕ
     walked =
         let K = closure N C ls in
-        addEffects true K (o .rows) (dropChanged N C ls (o .rows) (addEffects false K (o .rows) (flagsOf N K)))
+        flagEffects true K (o .rows) (dropChanged N C ls (o .rows) (flagEffects false K (o .rows) (flagsOf N K)))
 
     pub guaranteed-walks : walked ≡ guaranteedFlags N C o ls
-    unfolding guaranteedFlags guaranteed madeTrue staysTrue flagsOf isOfKind
+    unfolding guaranteedFlags guaranteed madeTrue staysTrue flagsOf hasSign
     guaranteed-walks = ext-getD 0 G H same (λ m h. at m (subst (λ (k : ℕ). m < k) lenG h))
       where
         K : List ℕ
@@ -217,13 +201,13 @@ module _ (N : ℕ) (C : List (List ℕ)) where
         F = map (λ l. bit (has K l)) (below (2 * N))
 
         D : List ℕ
-        D = addEffects false K (o .rows) F
+        D = flagEffects false K (o .rows) F
 
         E : List ℕ
         E = dropChanged N C ls (o .rows) D
 
         G : List ℕ
-        G = addEffects true K (o .rows) E
+        G = flagEffects true K (o .rows) E
 
         H : List ℕ
         H = map (λ m. bit (guaranteed N C o ls K m)) (below (2 * N))
@@ -232,13 +216,13 @@ module _ (N : ℕ) (C : List (List ℕ)) where
         lenF = table-length (λ l. bit (has K l)) (2 * N)
 
         lenD : length D ≡ 2 * N
-        lenD = added-length false K (o .rows) F ∙ lenF
+        lenD = effects-length false K (o .rows) F ∙ lenF
 
         lenE : length E ≡ 2 * N
         lenE = dropped-length ls (o .rows) D ∙ lenD
 
         lenG : length G ≡ 2 * N
-        lenG = added-length true K (o .rows) E ∙ lenE
+        lenG = effects-length true K (o .rows) E ∙ lenE
 
         same : length G ≡ length H
         same = lenG ∙ sym (table-length (λ m. bit (guaranteed N C o ls K m)) (2 * N))
@@ -247,12 +231,12 @@ module _ (N : ℕ) (C : List (List ℕ)) where
         at m low =
             let fires = any (λ q. eqb (q .effect) m && allIn K (q .conditions)) (o .rows) in
             let safe = all (λ q. not (eqb (complement (q .effect)) m && canFire N C ls (q .conditions))) (o .rows) in
-            added-at true K (o .rows) E m (subst (λ (k : ℕ). m < k) (sym lenE) low)
-            ∙ ap (λ x. cond (isOfKind true m && fires) 1 x)
+            effects-at true K (o .rows) E m (subst (λ (k : ℕ). m < k) (sym lenE) low)
+            ∙ ap (λ x. cond (hasSign true m && fires) 1 x)
             (dropped-at ls (o .rows) D m (subst (λ (k : ℕ). m < k) (sym lenD) low)
             ∙ ap (λ x. cond safe x 0)
-            (added-at false K (o .rows) F m (subst (λ (k : ℕ). m < k) (sym lenF) low)
-            ∙ ap (λ x. cond (isOfKind false m && fires) 1 x) (table-at (λ l. bit (has K l)) (2 * N) m low)))
+            (effects-at false K (o .rows) F m (subst (λ (k : ℕ). m < k) (sym lenF) low)
+            ∙ ap (λ x. cond (hasSign false m && fires) 1 x) (table-at (λ l. bit (has K l)) (2 * N) m low)))
             ∙ flag-bits (positive m) fires safe (has K m)
             ∙ ap₂ (λ a b. bit ((a && (positive m || b)) || (has K m && b))) (sym (fires-any K m)) (sym (never-all m))
             ∙ sym (table-at (λ m. bit (guaranteed N C o ls K m)) (2 * N) m low)
@@ -264,28 +248,24 @@ module _ (N : ℕ) (C : List (List ℕ)) where
         ∙ bit-back (guaranteed N C o ls (closure N C ls) m)
 
 -- ---- the walks over the rows, by the row that comes next
-pub kind-told : (adds p : Bool) (e : ℕ) {b : Bool} → p ≡ positive e → Bool·beq p adds ≡ b → isOfKind adds e ≡ b
-unfolding isOfKind
-kind-told adds p e ep h = rw (← ep) h
-
 module _ (adds : Bool) (K : List ℕ) (rs rs′ : List Row) (e : ℕ) (cs S : List ℕ) (next : rs ≡ record { effect = e; conditions = cs } ∷ rs′) where
-  pub add-other : isOfKind adds e ≡ false → addEffects adds K rs S ≡ addEffects adds K rs′ S
-  unfolding addEffects
-  add-other k = rw (next, k)
+  pub effects-other : hasSign adds e ≡ false → flagEffects adds K rs S ≡ flagEffects adds K rs′ S
+  unfolding flagEffects
+  effects-other k = rw (next, k)
 
-  pub add-made :
-      (S′ : List ℕ) → S′ ≡ set S e 1 → isOfKind adds e ≡ true → allIn K cs ≡ true
-      → addEffects adds K rs S ≡ addEffects adds K rs′ S′
-  unfolding addEffects
-  add-made S′ es k h = rw (next, k, h, es)
+  pub effects-made :
+      (S′ : List ℕ) → S′ ≡ set S e 1 → hasSign adds e ≡ true → allIn K cs ≡ true
+      → flagEffects adds K rs S ≡ flagEffects adds K rs′ S′
+  unfolding flagEffects
+  effects-made S′ es k h = rw (next, k, h, es)
 
-  pub add-passed : isOfKind adds e ≡ true → allIn K cs ≡ false → addEffects adds K rs S ≡ addEffects adds K rs′ S
-  unfolding addEffects
-  add-passed k h = rw (next, k, h)
+  pub effects-passed : hasSign adds e ≡ true → allIn K cs ≡ false → flagEffects adds K rs S ≡ flagEffects adds K rs′ S
+  unfolding flagEffects
+  effects-passed k h = rw (next, k, h)
 
-pub add-end : (adds : Bool) (K : List ℕ) (rs : List Row) (S : List ℕ) → rs ≡ [] → addEffects adds K rs S ≡ S
-unfolding addEffects
-add-end adds K rs S h = rw h
+pub effects-end : (adds : Bool) (K : List ℕ) (rs : List Row) (S : List ℕ) → rs ≡ [] → flagEffects adds K rs S ≡ S
+unfolding flagEffects
+effects-end adds K rs S h = rw h
 
 module _ (N : ℕ) (C : List (List ℕ)) (ls : List ℕ) where
   module _ (rs rs′ : List Row) (e : ℕ) (cs S : List ℕ) (next : rs ≡ record { effect = e; conditions = cs } ∷ rs′) where
@@ -318,33 +298,12 @@ module _ (N : ℕ) (C : List (List ℕ)) (ls : List ℕ) where
   pub drop-start : (rs rs′ : List Row) (S : List ℕ) → rs ≡ rs′ → dropChanged N C ls rs′ S ≡ dropChanged N C ls rs S
   drop-start rs rs′ S h = rw h
 
-pub add-start : (adds : Bool) (K : List ℕ) (rs rs′ : List Row) (S : List ℕ) → rs ≡ rs′ → addEffects adds K rs′ S ≡ addEffects adds K rs S
-add-start adds K rs rs′ S h = rw h
+pub effects-start : (adds : Bool) (K : List ℕ) (rs rs′ : List Row) (S : List ℕ) → rs ≡ rs′ → flagEffects adds K rs′ S ≡ flagEffects adds K rs S
+effects-start adds K rs rs′ S h = rw h
 
 -- by the code's own flags after each walk
 pub guaranteed-made :
     (N : ℕ) (C : List (List ℕ)) (o : Operator) (ls F D E G : List ℕ) → F ≡ flagsOf N (closure N C ls)
-    → D ≡ addEffects false (closure N C ls) (o .rows) F → E ≡ dropChanged N C ls (o .rows) D
-    → G ≡ addEffects true (closure N C ls) (o .rows) E → G ≡ guaranteedFlags N C o ls
+    → D ≡ flagEffects false (closure N C ls) (o .rows) F → E ≡ dropChanged N C ls (o .rows) D
+    → G ≡ flagEffects true (closure N C ls) (o .rows) E → G ≡ guaranteedFlags N C o ls
 guaranteed-made N C o ls F D E G f d e g = g ∙ rw (e, d, f) (guaranteed-walks N C o ls)
-
--- the literals that an operator guarantees, as the synthesis lists them
-keep-range : (p q : ℕ → Bool) (i n : ℕ) → ((l : ℕ) → l < i + n → p l ≡ q l) → keep p (range i n) ≡ keep q (range i n)
-unfolding range keep
-keep-range p q i zero h = refl
-keep-range p q i (suc n) h = go (p i) refl (keep-range p q (suc i) n (λ l k. h l (let z = k in omega arith)))
-  where
-    go :
-        (b : Bool) → p i ≡ b → keep p (range (suc i) n) ≡ keep q (range (suc i) n)
-        → keep p (i ∷ range (suc i) n) ≡ keep q (i ∷ range (suc i) n)
-    go true e rec = let f : q i ≡ true = sym (h i (omega arith)) ∙ e in rw (e, f, keep, rec)
-    go false e rec = let f : q i ≡ false = sym (h i (omega arith)) ∙ e in rw (e, f, keep, rec)
-
-pub guarantees-flagged :
-    (t : Task) (C : List (List ℕ)) (o : Operator)
-    → guarantees t C o ≡ keep (has (guaranteedFlags (t .atoms) C o (o .precondition))) (below (2 * t .atoms))
-unfolding guarantees below
-guarantees-flagged t C o =
-    keep-range (guaranteed (t .atoms) C o (o .precondition) (closure (t .atoms) C (o .precondition)))
-    (has (guaranteedFlags (t .atoms) C o (o .precondition))) 0 (2 * t .atoms)
-    (λ l h. sym (guaranteed-has (t .atoms) C o (o .precondition) l (omega arith)))

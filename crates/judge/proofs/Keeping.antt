@@ -9,7 +9,7 @@ use lib.ListN.{length}
 use lib.Seq.{take-all}
 use borrow.Author.Tests.{le-ltb, lt-ltb, le-leb, lt-leb}
 use Rattle.definitions.specs.Lists.{range}
-use Rattle.definitions.specs.Answer.{Refusal, Answer, finding, refused, verdict, ask, askAt, _>>=_}
+use Rattle.definitions.specs.Answer.{Refusal, finding, refused, verdict, ask, askAt, _>>=_}
 use Rattle.definitions.specs.Image.{Operator, operatorRight}
 use Rattle.definitions.specs.Step.{operatorAt}
 use Rattle.definitions.specs.Clauses.{width, clauseOf, clauseRight, rowAt, readClause}

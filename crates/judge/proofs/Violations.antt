@@ -11,7 +11,7 @@ use Rattle.definitions.specs.Literal.{positive, complement, allBelow}
 use Rattle.definitions.specs.Image.{Row, Operator}
 use Rattle.definitions.specs.Closure.{has, closure, contradictory}
 use Rattle.definitions.specs.Kept.{rowsWith, allIn, surelyFires, addedAgain, neverFires, madeTrue, staysTrue, guaranteed, keptCase, kept}
-use Rattle.definitions.proofs.ListLaws.{decide, never, or-cases, or-left, or-right, and-left, and-right, and-both, any-of, any-in, all-at}
+use Rattle.definitions.proofs.ListLaws.{decide, refuted, never, or-cases, or-left, or-right, and-left, and-right, and-both, any-of, any-in, all-at}
 use Rattle.definitions.proofs.ListLaws.{all-of, any-agree, keep-in, keep-of, member-of, member-in, Witness}
 use Rattle.definitions.proofs.ClosureLeast.{closure-holds}
 use Rattle.definitions.proofs.EncodeLaws.{same-bool}
@@ -101,7 +101,11 @@ module _ (N : ℕ) (C : List (List ℕ)) (o : Operator) where
     -- the row can fire
     may-fire : neverFires N C o ls (complement l) ≡ false
     unfolding neverFires rowsWith allIn
-    may-fire = go (decide safe)
+    may-fire =
+        refuted
+        (λ h.
+        let bad = all-at (λ q. contradictory N (closure N C (ls ++ q .conditions))) h inRows in
+        never bad (ap (contradictory N) (closure-held N C within ls (r .conditions) held) ∙ closed))
       where
         held : allIn K (r .conditions) ≡ true
         held =
@@ -112,15 +116,6 @@ module _ (N : ℕ) (C : List (List ℕ)) (o : Operator) where
 
         inRows : List·Memᴰ r (keep (λ q. eqb (q .effect) (complement l)) (o .rows))
         inRows = keep-in (λ q. eqb (q .effect) (complement l)) there (eq-eqb (r .effect) (complement l) (sym (complement-back (r .effect))))
-
-        safe : Bool
-        safe = all (λ q. contradictory N (closure N C (ls ++ q .conditions))) (keep (λ q. eqb (q .effect) (complement l)) (o .rows))
-
-        go : (safe ≡ true) ⊎ (safe ≡ false) → safe ≡ false
-        go (inl h) =
-            let bad = all-at (λ q. contradictory N (closure N C (ls ++ q .conditions))) h inRows in
-            never bad (ap (contradictory N) (closure-held N C within ls (r .conditions) held) ∙ closed)
-        go (inr h) = h
 
     -- l is guaranteed only if it is added again
     own : guaranteed N C o ls K l ≡ addedAgain o K l

@@ -1,27 +1,24 @@
 -- Judging in bulk: the literals that an operator guarantees as one set, and all judged clauses for one row after the other. Assumes nothing.
-use mathlib.Core.Bool.{Bool, true, false, Bool·beq, not, _&&_, cond}
+use mathlib.Core.Bool.{Bool, true, false, not, _&&_, cond}
 use mathlib.Core.Path.{_≡_}
 use mathlib.Core.List.{List, [], _∷_, _++_, map}
 use Prim.Native.Nat.{ℕ, _*_}
 use lib.ListN.{set}
 use Rattle.definitions.specs.Lists.{any, below, member}
-use Rattle.definitions.specs.Literal.{positive, complement}
+use Rattle.definitions.specs.Literal.{complement}
 use Rattle.definitions.specs.Image.{Row, Operator}
 use Rattle.definitions.specs.Closure.{has, bit, closure, contradictory}
+use Rattle.literal.specs.Literal.{hasSign}
 use Rattle.definitions.specs.Kept.{allIn, guaranteed, keptCase, kept}
 
 -- a flag for each literal: whether the set holds it
 unfoldable pub flagsOf : ℕ → List ℕ → List ℕ
 flagsOf N K = map (λ l. bit (has K l)) (below (2 * N))
 
--- a row with effect e is of the kind: it adds its atom, or deletes it
-unfoldable pub isOfKind : Bool → ℕ → Bool
-isOfKind adds e = Bool·beq (positive e) adds
-
--- the flags with those of the effects of the rows of one kind whose conditions lie in K
-unfoldable pub addEffects : Bool → List ℕ → List Row → List ℕ → List ℕ
-addEffects adds K [] S = S
-addEffects adds K (q ∷ qs) S = addEffects adds K qs (cond (isOfKind adds (q .effect) && allIn K (q .conditions)) (set S (q .effect) 1) S)
+-- the flags with those of the effects of the adds, or of the deletes, whose conditions lie in K
+unfoldable pub flagEffects : Bool → List ℕ → List Row → List ℕ → List ℕ
+flagEffects adds K [] S = S
+flagEffects adds K (q ∷ qs) S = flagEffects adds K qs (cond (hasSign adds (q .effect) && allIn K (q .conditions)) (set S (q .effect) 1) S)
 
 module _ (N : ℕ) (C : List (List ℕ)) where
   -- a row with conditions cs can fire where C and ls hold, as far as the closure says

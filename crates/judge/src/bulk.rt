@@ -83,7 +83,9 @@ fn flag_violated(
     fails: &mut [u8],
 )
     requires { ⌜ Given atoms (now clauses) (now block) × ConsistentMarks atoms (now marks) × (length (now fails) ≡ rowCount (now judged)) ⌝ }
-    ensures { λ _. ⌜ ((ls : List ℕ) → ConsistentClosure atoms (now (clauses .entry)) ls (now (marks .entry)) → now (fails .exit) ≡ flagMore (lacksFlag l (guaranteedFlags atoms (clausesOf (now (clauses .entry))) (operatorIn (now (block .entry))) ls)) (clausesOf (now (judged .entry))) (now (fails .entry))) ⌝ }
+    ensures { λ _. ⌜ ((ls : List ℕ) → ConsistentClosure atoms (now (clauses .entry)) ls (now (marks .entry)) → now (fails .exit)
+        ≡ flagMore (lacksFlag l (guaranteedFlags atoms (clausesOf (now (clauses .entry))) (operatorIn (now (block .entry))) ls))
+        (clausesOf (now (judged .entry))) (now (fails .entry))) ⌝ }
 {
     let mut flags = literal::room::marks();
     let size = 2 * atoms;
@@ -106,8 +108,14 @@ fn judge_row(
     atoms: usize,
     fails: &mut [u8],
 )
-    requires { ⌜ ClosedGiven atoms (now clauses) (now judged) (now block) (now base) (now fails) × Asked atoms (now clauses) (now conditions) (now marks) × FlagsGuaranteed atoms (now clauses) (now block) (now base) (now flags) ⌝ }
-    ensures { λ _. ⌜ ((e : ℕ) → l ≡ complement e → List·Memᴰ (row e (now (conditions .entry))) (operatorIn (now (block .entry)) .rows) → now (fails .exit) ≡ flagMore (violates atoms (clausesOf (now (clauses .entry))) (operatorIn (now (block .entry))) (row e (now (conditions .entry)))) (clausesOf (now (judged .entry))) (now (fails .entry))) ⌝ }
+    requires { ⌜ ClosedGiven atoms (now clauses) (now judged) (now block) (now base) (now fails)
+        × Asked atoms (now clauses) (now conditions) (now marks)
+        × FlagsGuaranteed atoms (now clauses) (now block) (now base) (now flags) ⌝ }
+    ensures { λ _. ⌜ ((e : ℕ) → l ≡ complement e
+        → List·Memᴰ (row e (now (conditions .entry))) (operatorIn (now (block .entry)) .rows) → now (fails .exit)
+        ≡ flagMore
+        (violates atoms (clausesOf (now (clauses .entry))) (operatorIn (now (block .entry))) (row e (now (conditions .entry))))
+        (clausesOf (now (judged .entry))) (now (fails .entry))) ⌝ }
 {
     if propagation::holds_all(base, conditions) {
         flag_lacking(judged, l, flags, fails);
@@ -135,8 +143,12 @@ fn judge_rows(
     atoms: usize,
     fails: &mut [u8],
 )
-    requires { ⌜ ClosedGiven atoms (now clauses) (now judged) (now block) (now base) (now fails) × FlagsGuaranteed atoms (now clauses) (now block) (now base) (now flags) × (2 * atoms ≤ length (now marks)) ⌝ }
-    ensures { λ _. ⌜ now (fails .exit) ≡ flagMore (someViolates atoms (clausesOf (now (clauses .entry))) (operatorIn (now (block .entry))) (operatorIn (now (block .entry)) .rows)) (clausesOf (now (judged .entry))) (now (fails .entry)) ⌝ }
+    requires { ⌜ ClosedGiven atoms (now clauses) (now judged) (now block) (now base) (now fails)
+        × FlagsGuaranteed atoms (now clauses) (now block) (now base) (now flags) × (2 * atoms ≤ length (now marks)) ⌝ }
+    ensures { λ _. ⌜ now (fails .exit)
+        ≡ flagMore
+        (someViolates atoms (clausesOf (now (clauses .entry))) (operatorIn (now (block .entry))) (operatorIn (now (block .entry)) .rows))
+        (clausesOf (now (judged .entry))) (now (fails .entry)) ⌝ }
 {
     let BlockHead { end, rows } = task::block::head(block);
     let mut at = end + 1;
@@ -176,8 +188,14 @@ fn judge_closed(
     fails: &mut [u8],
     flags: &mut [u8],
 )
-    requires { ⌜ ClosedGiven atoms (now clauses) (now judged) (now block) (now base) (now fails) × (2 * atoms ≤ length (now marks)) × (length (now flags) ≡ 2 * atoms) ⌝ }
-    ensures { λ _. ⌜ (now (fails .exit) ≡ flagMore (someViolates atoms (clausesOf (now (clauses .entry))) (operatorIn (now (block .entry))) (operatorIn (now (block .entry)) .rows)) (clausesOf (now (judged .entry))) (now (fails .entry))) × (now (flags .exit) ≡ guaranteedFlags atoms (clausesOf (now (clauses .entry))) (operatorIn (now (block .entry))) (operatorIn (now (block .entry)) .precondition)) ⌝ }
+    requires { ⌜ ClosedGiven atoms (now clauses) (now judged) (now block) (now base) (now fails) × (2 * atoms ≤ length (now marks))
+        × (length (now flags) ≡ 2 * atoms) ⌝ }
+    ensures { λ _. ⌜ (now (fails .exit)
+        ≡ flagMore
+        (someViolates atoms (clausesOf (now (clauses .entry))) (operatorIn (now (block .entry))) (operatorIn (now (block .entry)) .rows))
+        (clausesOf (now (judged .entry))) (now (fails .entry)))
+        × (now (flags .exit)
+        ≡ guaranteedFlags atoms (clausesOf (now (clauses .entry))) (operatorIn (now (block .entry))) (operatorIn (now (block .entry)) .precondition)) ⌝ }
 {
     super::guarantee::flag_guaranteed(clauses, block, base, atoms, flags);
     judge_rows(clauses, judged, block, base, flags, marks, atoms, fails);
@@ -195,7 +213,12 @@ fn judge_consistent(
     flags: &mut [u8],
 )
     requires { ⌜ ClosedGiven atoms (now clauses) (now judged) (now block) (now marks) (now fails) × (length (now flags) ≡ 2 * atoms) ⌝ }
-    ensures { λ _. ⌜ (now (fails .exit) ≡ flagMore (someViolates atoms (clausesOf (now (clauses .entry))) (operatorIn (now (block .entry))) (operatorIn (now (block .entry)) .rows)) (clausesOf (now (judged .entry))) (now (fails .entry))) × (now (flags .exit) ≡ guaranteedFlags atoms (clausesOf (now (clauses .entry))) (operatorIn (now (block .entry))) (operatorIn (now (block .entry)) .precondition)) ⌝ }
+    ensures { λ _. ⌜ (now (fails .exit)
+        ≡ flagMore
+        (someViolates atoms (clausesOf (now (clauses .entry))) (operatorIn (now (block .entry))) (operatorIn (now (block .entry)) .rows))
+        (clausesOf (now (judged .entry))) (now (fails .entry)))
+        × (now (flags .exit)
+        ≡ guaranteedFlags atoms (clausesOf (now (clauses .entry))) (operatorIn (now (block .entry))) (operatorIn (now (block .entry)) .precondition)) ⌝ }
 {
     let mut base = literal::room::marks();
     let size = 2 * atoms;
@@ -225,7 +248,9 @@ pub fn judge_guaranteed(
     flags: &mut [u8],
 ) -> bool
     requires { ⌜ BulkGiven atoms (now clauses) (now judged) (now block) (now marks) (now fails) × (length (now flags) ≡ 2 * atoms) ⌝ }
-    ensures { λ r. ⌜ (now (fails .exit) ≡ failFlags atoms (clausesOf (now (clauses .entry))) (operatorIn (now (block .entry))) (clausesOf (now (judged .entry)))) × Guarantees atoms (clausesOf (now (clauses .entry))) (operatorIn (now (block .entry))) (now (flags .exit)) r ⌝ }
+    ensures { λ r. ⌜ (now (fails .exit)
+        ≡ failFlags atoms (clausesOf (now (clauses .entry))) (operatorIn (now (block .entry))) (clausesOf (now (judged .entry))))
+        × Guarantees atoms (clausesOf (now (clauses .entry))) (operatorIn (now (block .entry))) (now (flags .exit)) r ⌝ }
 {
     literal::flags::clear(fails);
     let head = task::block::head(block);
@@ -250,7 +275,8 @@ pub fn judge(
     fails: &mut [u8],
 )
     requires { ⌜ BulkGiven atoms (now clauses) (now judged) (now block) (now marks) (now fails) ⌝ }
-    ensures { λ _. ⌜ now (fails .exit) ≡ failFlags atoms (clausesOf (now (clauses .entry))) (operatorIn (now (block .entry))) (clausesOf (now (judged .entry))) ⌝ }
+    ensures { λ _. ⌜ now (fails .exit)
+        ≡ failFlags atoms (clausesOf (now (clauses .entry))) (operatorIn (now (block .entry))) (clausesOf (now (judged .entry))) ⌝ }
 {
     let mut flags = literal::room::marks();
     let size = 2 * atoms;

@@ -10,7 +10,7 @@ ghost use Rattle.clause.specs.Rows.{clausesOf};
 ghost use Rattle.task.specs.Walk.{blockParses, operatorIn};
 ghost use Rattle.propagation.specs.Marks.{Marked, ConsistentMarks, Asked};
 ghost use Rattle.judge.specs.Promise.{Given, ConsistentClosure, FlagsGuaranteed};
-ghost use Rattle.judge.specs.Judging.{flagsOf, canFire, addEffects, dropChanged};
+ghost use Rattle.judge.specs.Judging.{flagsOf, canFire, flagEffects, dropChanged};
 use literal::Literal;
 use propagation::Closing;
 use task::block::BlockHead;
@@ -50,7 +50,8 @@ fn can_fire(
     work: &mut [u8],
 ) -> bool
     requires { ⌜ Asked atoms (now clauses) (now conditions) (now work) × ConsistentMarks atoms (now marks) ⌝ }
-    ensures { λ r. ⌜ ((ls : List ℕ) → ConsistentClosure atoms (now (clauses .entry)) ls (now (marks .entry)) → r ≡ canFire atoms (clausesOf (now (clauses .entry))) ls (now (conditions .entry))) ⌝ }
+    ensures { λ r. ⌜ ((ls : List ℕ) → ConsistentClosure atoms (now (clauses .entry)) ls (now (marks .entry)) → r
+        ≡ canFire atoms (clausesOf (now (clauses .entry))) ls (now (conditions .entry))) ⌝ }
 {
     if propagation::holds_all(marks, conditions) {
         return true;
@@ -73,7 +74,8 @@ fn drop_changed(
     flags: &mut [u8],
 )
     requires { ⌜ Given atoms (now clauses) (now block) × ConsistentMarks atoms (now marks) × (2 * atoms ≤ length (now work)) ⌝ }
-    ensures { λ _. ⌜ ((ls : List ℕ) → ConsistentClosure atoms (now (clauses .entry)) ls (now (marks .entry)) → now (flags .exit) ≡ dropChanged atoms (clausesOf (now (clauses .entry))) ls (operatorIn (now (block .entry)) .rows) (now (flags .entry))) ⌝ }
+    ensures { λ _. ⌜ ((ls : List ℕ) → ConsistentClosure atoms (now (clauses .entry)) ls (now (marks .entry)) → now (flags .exit)
+        ≡ dropChanged atoms (clausesOf (now (clauses .entry))) ls (operatorIn (now (block .entry)) .rows) (now (flags .entry))) ⌝ }
 {
     let BlockHead { end, rows } = task::block::head(block);
     let mut at = end + 1;
@@ -93,10 +95,12 @@ fn drop_changed(
     }
 }
 
-// Flags the effects of the rows whose conditions are marked: of those that add an atom, if `adds`, of those that delete one, if not.
-fn add_effects(block: &[u16], marks: &[u8], adds: bool, flags: &mut [u8])
+// Flags the effects of the rows whose conditions are marked: those of the adds, if `adds`, those of the deletes, if not.
+fn flag_effects(block: &[u16], marks: &[u8], adds: bool, flags: &mut [u8])
     requires { ⌜ blockParses (now block) ≡ true ⌝ }
-    ensures { λ _. ⌜ ((atoms : ℕ) (K : List ℕ) → operatorRight atoms (operatorIn (now (block .entry))) ≡ true → Marked atoms (now (marks .entry)) K → now (flags .exit) ≡ addEffects adds K (operatorIn (now (block .entry)) .rows) (now (flags .entry))) ⌝ }
+    ensures { λ _. ⌜ ((atoms : ℕ) (K : List ℕ) → operatorRight atoms (operatorIn (now (block .entry))) ≡ true
+        → Marked atoms (now (marks .entry)) K → now (flags .exit)
+        ≡ flagEffects adds K (operatorIn (now (block .entry)) .rows) (now (flags .entry))) ⌝ }
 {
     let BlockHead { end, rows } = task::block::head(block);
     let mut at = end + 1;
@@ -108,7 +112,7 @@ fn add_effects(block: &[u16], marks: &[u8], adds: bool, flags: &mut [u8])
         let l = Literal {
             code: effect as u16,
         };
-        if l.is_positive() != adds {
+        if !l.has_sign(adds) {
             continue;
         }
         if !propagation::holds_all(marks, &block[from..end]) {
@@ -127,7 +131,7 @@ pub fn flag_guaranteed(clauses: &[u16], block: &[u16], marks: &[u8], atoms: usiz
     let mut work = literal::room::marks();
     let end = 2 * atoms;
     flag_marked(marks, atoms, flags);
-    add_effects(block, marks, task::block::DELETES, flags);
+    flag_effects(block, marks, task::block::DELETES, flags);
     drop_changed(clauses, block, marks, atoms, &mut work[..end], flags);
-    add_effects(block, marks, task::block::ADDS, flags);
+    flag_effects(block, marks, task::block::ADDS, flags);
 }

@@ -5,7 +5,7 @@ ghost use Prim.Native.Nat.{_<_, _≤_};
 ghost use lib.ListN.{getD};
 ghost use Rattle.definitions.specs.Lists.{ascending};
 ghost use Rattle.definitions.specs.Literal.{mostAtoms, atom, positive, complement, allBelow, literalList, isState, trueIn, allTrue};
-ghost use Rattle.literal.specs.Literal.{literalOf};
+ghost use Rattle.literal.specs.Literal.{literalOf, hasSign};
 
 pub mod flags; // flags.rt: flags, a byte each
 pub mod room; // room.rt: local arrays for the largest task
@@ -57,6 +57,13 @@ impl Literal {
         self.code % 2 == 0
     }
 
+    // Whether the literal is positive, if `positive`, or negative, if not.
+    pub fn has_sign(self, positive: bool) -> bool
+        ensures { λ r. ⌜ r ≡ hasSign positive (self .code) ⌝ }
+    {
+        self.is_positive() == positive
+    }
+
     // The literal's place in a list with one place for each literal.
     pub fn index(self) -> usize
         ensures { λ r. ⌜ r ≡ self .code ⌝ }
@@ -70,15 +77,6 @@ pub fn wide(x: u16) -> usize
     ensures { λ r. ⌜ (r ≡ x) × (r < 65536) ⌝ }
 {
     x as usize
-}
-
-// The complement of a literal that is used as an index.
-pub fn complement(l: usize) -> usize
-    requires { ⌜ l < 65535 ⌝ }
-    ensures { λ r. ⌜ r ≡ complement l ⌝ }
-{
-    let c = (Literal { code: l as u16 }).complement();
-    c.index()
 }
 
 // Whether the words are strictly ascending atoms below `atoms`.

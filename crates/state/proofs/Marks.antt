@@ -20,7 +20,7 @@ use Rattle.definitions.proofs.ListLaws.{table-at, table-length}
 use Rattle.definitions.proofs.LiteralLaws.{Shape, is, isnt, shape, atom-even, atom-odd, positive-even, positive-odd}
 use Rattle.definitions.proofs.EncodeLaws.{same-bool}
 use Rattle.definitions.proofs.StepLaws.{fired-of, value-at}
-use Rattle.literal.specs.Literal.{literalOf}
+use Rattle.literal.specs.Literal.{literalOf, hasSign}
 use Rattle.literal.specs.Mark.{markIf}
 use Rattle.state.specs.Marks.{setAll, markFired, due, makeTrue, changed, unmarked}
 
@@ -85,25 +85,25 @@ module _ (m : List ℕ) (rows : List Row) (er : rows ≡ []) where
   pub unmarked-end : unmarked rows m ≡ m
   unmarked-end = rw er
 
--- the test of one effect, by the sign p of its literal
-module _ (m : List ℕ) (adds : Bool) (l : ℕ) (p : Bool) (ep : p ≡ positive l) where
-  pub due-not : Bool·beq p adds ≡ false → false ≡ due m adds l
+-- the test of one effect: its sign, then its mark
+module _ (m : List ℕ) (adds : Bool) (l : ℕ) where
+  pub due-not : hasSign adds l ≡ false → false ≡ due m adds l
   unfolding due
-  due-not e = rw (← ep, e)
+  due-not e = rw e
 
-  pub due-has : Bool·beq p adds ≡ true → (b : Bool) → b ≡ has m l → b ≡ due m adds l
+  pub due-has : hasSign adds l ≡ true → (b : Bool) → b ≡ has m l → b ≡ due m adds l
   unfolding due
-  due-has e b eb = rw (← ep, e, eb)
+  due-has e b eb = rw (e, eb)
 
 -- a literal that is due is marked, and has the sign
 module _ (m : List ℕ) (adds : Bool) (l : ℕ) (h : due m adds l ≡ true) where
   due-marked : has m l ≡ true
   unfolding due
-  due-marked = and-right (Bool·beq (positive l) adds) (has m l) h
+  due-marked = and-right (hasSign adds l) (has m l) h
 
   due-sign : positive l ≡ adds
-  unfolding due
-  due-sign = go (positive l) adds (and-left (Bool·beq (positive l) adds) (has m l) h)
+  unfolding due hasSign
+  due-sign = go (positive l) adds (and-left (hasSign adds l) (has m l) h)
     where
       go : (a b : Bool) → Bool·beq a b ≡ true → a ≡ b
       go true true e = refl
@@ -231,13 +231,16 @@ module _ (s : List ℕ) (o : Operator) where
     changed-by : member (literalOf a adds) (effects s o) ≡ true → member a (atomsDue marked adds (o .rows)) ≡ true
     changed-by h =
         let l = literalOf a adds in
-        let d = due-has marked adds l adds (sym (literal-positive a adds)) (self adds) true (sym (marked-has l low ∙ h)) in
+        let d = due-has marked adds l sign true (sym (marked-has l low ∙ h)) in
         subst (λ (k : ℕ). member k (atomsDue marked adds (o .rows)) ≡ true) (literal-atom a adds)
         (member-in (map-in atom (keep-in (due marked adds) (member-of l (effectsOf (o .rows)) (fired-row l h)) (sym d))))
       where
         self : (b : Bool) → Bool·beq b b ≡ true
         self true = refl
         self false = refl
+
+        sign : hasSign adds (literalOf a adds) ≡ true
+        sign = ap (λ (b : Bool). Bool·beq b adds) (literal-positive a adds) ∙ self adds
 
   pass-at :
       (adds : Bool) (t : List ℕ) (a : ℕ) → length t ≡ length s → a < length s

@@ -1,12 +1,13 @@
 -- Marks of literals, and the state that they make: what the walks of a step work out. Assumes nothing.
 use Prim.Native.Nat.{ℕ}
 use mathlib.Core.List.{List, [], _∷_}
-use mathlib.Core.Bool.{Bool, true, false, cond, Bool·beq, _&&_}
+use mathlib.Core.Bool.{Bool, true, false, cond, _&&_}
 use lib.ListN.{set}
 use Rattle.definitions.specs.Literal.{atom, positive}
 use Rattle.definitions.specs.Image.{Row}
 use Rattle.definitions.specs.Step.{fires}
 use Rattle.definitions.specs.Closure.{has}
+use Rattle.literal.specs.Literal.{hasSign}
 use Rattle.literal.specs.Mark.{markIf}
 
 -- the byte v at each place of a list
@@ -19,9 +20,9 @@ abbrev pub markFired : List ℕ → List Row → List ℕ → List ℕ
 markFired s [] m = m
 markFired s (r ∷ rs) m = markFired s rs (markIf (fires s r) m (r .effect))
 
--- literal l is marked, and positive exactly if `adds`
+-- literal l is marked, and the effect of an add or of a delete
 unfoldable pub due : List ℕ → Bool → ℕ → Bool
-due m adds l = Bool·beq (positive l) adds && has m l
+due m adds l = hasSign adds l && has m l
 
 -- literal l made true in s, if the test holds
 abbrev pub makeTrue : Bool → List ℕ → ℕ → List ℕ

@@ -50,7 +50,7 @@ fn make_true(due: bool, state: &mut [u8], l: Literal)
 fn is_due(marks: &[u8], effect: Literal, adds: bool) -> bool
     ensures { λ r. ⌜ r ≡ due (now (marks .entry)) adds (effect .code) ⌝ }
 {
-    if effect.is_positive() != adds {
+    if !effect.has_sign(adds) {
         return false;
     }
     literal::flags::has(marks, effect.index())

@@ -51,8 +51,8 @@ at-head c = c .before .before
 abbrev conflict : tie.Then1 Inv-loop μ-loop → tie.After-note-row Inv-loop μ-loop
 conflict c = c .before .before .before
 
-abbrev calm : tie.Else1 Inv-loop μ-loop → tie.After-note-row Inv-loop μ-loop
-calm c = c .before .before .before
+abbrev noted-row : tie.Else1 Inv-loop μ-loop → tie.After-note-row Inv-loop μ-loop
+noted-row c = c .before .before .before
 
 head-requires : tie.Need-head-requires Inv-loop μ-loop
 head-requires c κs = c .before .before .before .pre .0 .parses
@@ -112,8 +112,8 @@ loop-less c = search needs
 
 loop-again : tie.Need-loop-again Inv-loop μ-loop
 loop-again c =
-    let n = calm c .note-row in
-    let r = read (calm c .before) in
+    let n = noted-row c .note-row in
+    let r = read (noted-row c .before) in
     let l = at-head r .loop in (
       r .row .ensures .next,
       low-row mostAtoms _ _ _ (r .row .ensures .row) (l .inv .1) .1,

@@ -10,20 +10,29 @@ use Rattle.judge.proofs.guarantee.flag_guaranteed.Statement.{statement}
 use Rattle.judge.proofs.guarantee.flag_guaranteed.Tie as tie
 
 -- the walks in order, and the start
+abbrev at-clauses : tie.After-marks → tie.After-shared-slice-known2
+at-clauses c = c .before .before .before
+
 abbrev start : tie.After-marks → tie.Start
-start c = let p = c .before .before .before in p .before .before
+start c = at-clauses c .before .before
 
 abbrev room-of : tie.After-flag-marked → tie.After-marks
 room-of c = c .before .before
 
-abbrev marked-of : tie.After-add-effects → tie.After-flag-marked
-marked-of c = let p = c .before .before .before in p .before
+abbrev at-deletes : tie.After-flag-effects → tie.After-flags
+at-deletes c = c .before .before .before
 
-abbrev deletes-of : tie.After-work → tie.After-add-effects
+abbrev marked-of : tie.After-flag-effects → tie.After-flag-marked
+marked-of c = at-deletes c .before
+
+abbrev deletes-of : tie.After-work → tie.After-flag-effects
 deletes-of c = c .before .before .before
 
-abbrev drops-of : tie.After-add-effects2 → tie.After-drop-changed
-drops-of c = let p = c .before .before .before in p .before .before
+abbrev at-adds : tie.After-flag-effects2 → tie.After-flags3
+at-adds c = c .before .before .before
+
+abbrev drops-of : tie.After-flag-effects2 → tie.After-drop-changed
+drops-of c = at-adds c .before .before
 
 abbrev lent-of : tie.After-drop-changed → tie.After-work
 lent-of c = c .before .before
@@ -43,8 +52,8 @@ mul-end c = search needs
 flag-marked-requires : tie.Need-flag-marked-requires
 flag-marked-requires c κs = search needs
 
-add-effects-requires : tie.Need-add-effects-requires
-add-effects-requires c κs = search needs
+flag-effects-requires : tie.Need-flag-effects-requires
+flag-effects-requires c κs = search needs
 
 array-borrow-prefix-work : tie.Need-array-borrow-prefix-work
 array-borrow-prefix-work c = search needs
@@ -59,8 +68,8 @@ drop-changed-requires c κs =
     let size = length-take-le (2 * s .args .atoms) (work-of w) (omega (arith, s .pre .0 .few)) in
     (s .pre .0, s .pre .1, omega (arith, s .pre .0 .few, size))
 
-add-effects-requires-2 : tie.Need-add-effects-requires-2
-add-effects-requires-2 c κs = search needs
+flag-effects-requires-2 : tie.Need-flag-effects-requires-2
+flag-effects-requires-2 c κs = search needs
 
 same-length : tie.Need-same-length
 same-length c = search needs
@@ -73,9 +82,9 @@ returns c =
     let w = lent-of d in
     let right = start-of w .pre .0 .right in
     guaranteed-made _ _ _ ls _ _ _ _ (marked-of (deletes-of w) .flag-marked .ensures _ (closed .marked))
-    (deletes-of w .add-effects .ensures _ _ right (closed .marked))
+    (deletes-of w .flag-effects .ensures _ _ right (closed .marked))
     (d .drop-changed .ensures ls closed)
-    (a .add-effects2 .ensures _ _ right (closed .marked))
+    (a .flag-effects2 .ensures _ _ right (closed .marked))
 
 pub flag-guaranteed-spec : {M : Type 1} → statement M
 flag-guaranteed-spec =
@@ -84,10 +93,10 @@ flag-guaranteed-spec =
     marks-requires
     mul-end
     flag-marked-requires
-    add-effects-requires
+    flag-effects-requires
     array-borrow-prefix-work
     slice-aggregate-drop-changed
     drop-changed-requires
-    add-effects-requires-2
+    flag-effects-requires-2
     same-length
     returns)

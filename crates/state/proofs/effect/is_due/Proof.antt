@@ -1,5 +1,5 @@
 -- `state::effect::is_due`: the sign is tested first, then the mark.
-use mathlib.Core.Path.{ap, _∙_}
+use mathlib.Core.Path.{sym, ap, _∙_}
 use borrow.Author.Tests.{not-true, not-false}
 use Rattle.definitions.specs.Closure.{has}
 use Rattle.state.proofs.Marks.{due-not, due-has}
@@ -11,14 +11,14 @@ use Rattle.state.proofs.effect.is_due.Tie as tie
 abbrev same-sign : tie.After-has → tie.Else1
 same-sign c = c .before .before
 
-abbrev signed : tie.Else1 → tie.After-is-positive
+abbrev signed : tie.Else1 → tie.After-has-sign
 signed c = c .before
 
-is-positive-requires : tie.Need-is-positive-requires
-is-positive-requires c κs = search needs
+has-sign-requires : tie.Need-has-sign-requires
+has-sign-requires c κs = search needs
 
 returns : tie.Need-returns
-returns c = due-not _ _ _ _ (c .before .is-positive .ensures) (not-true _ (c .if1 .taken))
+returns c = due-not _ _ _ (sym (c .before .has-sign .ensures) ∙ not-true _ (c .if1 .taken))
 
 index-requires : tie.Need-index-requires
 index-requires c κs = search needs
@@ -29,7 +29,7 @@ has-requires c κs = search needs
 returns-2 : tie.Need-returns-2
 returns-2 c =
     let e = same-sign c in
-    due-has _ _ _ _ (signed e .is-positive .ensures) (not-false _ (e .if1 .left)) _ (c .has .ensures ∙ ap (has _) (c .before .index .ensures))
+    due-has _ _ _ (sym (signed e .has-sign .ensures) ∙ not-false _ (e .if1 .left)) _ (c .has .ensures ∙ ap (has _) (c .before .index .ensures))
 
 pub is-due-spec : {M : Type 1} → statement M
-is-due-spec = tie.close (tie.spec is-positive-requires returns index-requires has-requires returns-2)
+is-due-spec = tie.close (tie.spec has-sign-requires returns index-requires has-requires returns-2)

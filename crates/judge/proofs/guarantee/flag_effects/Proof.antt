@@ -1,4 +1,4 @@
--- `judge::guarantee::add_effects`: the rows that are left give what flags are still to come.
+-- `judge::guarantee::flag_effects`: the rows that are left give what flags are still to come.
 use Prim.Native.Nat.{ℕ}
 use mathlib.Core.Path.{_≡_, refl, sym, _∙_}
 use mathlib.Core.Bool.{true}
@@ -10,35 +10,35 @@ use Rattle.definitions.specs.Image.{operatorRight}
 use Rattle.task.specs.Walk.{operatorIn, parsesAt, rowsAt}
 use Rattle.task.proofs.Blocks.{rows-none}
 use Rattle.propagation.specs.Marks.{Marked}
-use Rattle.judge.specs.Judging.{addEffects}
+use Rattle.judge.specs.Judging.{flagEffects}
 use Rattle.judge.proofs.BlockRows.{Left, left-start, left-next, conditions-low}
-use Rattle.judge.proofs.Guaranteed.{kind-told, add-start, add-other, add-made, add-passed, add-end}
+use Rattle.judge.proofs.Guaranteed.{effects-start, effects-other, effects-made, effects-passed, effects-end}
 use borrow.Author.Needs.{needs}
-use Rattle.judge.proofs.guarantee.add_effects.Statement.{statement}
-use Rattle.judge.proofs.guarantee.add_effects.Tie as tie
+use Rattle.judge.proofs.guarantee.flag_effects.Statement.{statement}
+use Rattle.judge.proofs.guarantee.flag_effects.Tie as tie
 
 abbrev Inv-loop : tie.InvT-loop
 Inv-loop block marks adds flags₀ end rows at₀ left₀ flags at left =
     (parsesAt block at left ≡ true) × (length flags ≡ length flags₀)
     ×
     ((atoms : ℕ) (K : List ℕ) → operatorRight atoms (operatorIn block) ≡ true → Marked atoms marks K → Left atoms block at left ×
-    (addEffects adds K (operatorIn block .rows) flags₀ ≡ addEffects adds K (rowsAt block at left) flags))
+    (flagEffects adds K (operatorIn block .rows) flags₀ ≡ flagEffects adds K (rowsAt block at left) flags))
 
 abbrev μ-loop : tie.MeasureT-loop
 μ-loop block marks adds flags₀ end rows at₀ left₀ flags at left = left
 
--- the places of a turn: the loop, the row that was read, its kind, its conditions, its flag
+-- the places of a turn: the loop, the row that was read, the sign of its effect, its conditions, its flag
 abbrev at-loop : tie.After-row Inv-loop μ-loop → tie.At-loop Inv-loop μ-loop
 at-loop c = c .before .before
 
-abbrev row-of : tie.After-is-positive Inv-loop μ-loop → tie.After-row Inv-loop μ-loop
+abbrev row-of : tie.After-has-sign Inv-loop μ-loop → tie.After-row Inv-loop μ-loop
 row-of c = c .before
 
-abbrev of-kind : tie.After-holds-all Inv-loop μ-loop → tie.Else1 Inv-loop μ-loop
-of-kind c = c .before .before
+abbrev right-sign : tie.After-holds-all Inv-loop μ-loop → tie.Else1 Inv-loop μ-loop
+right-sign c = c .before .before
 
-abbrev kind-of : tie.After-holds-all Inv-loop μ-loop → tie.After-is-positive Inv-loop μ-loop
-kind-of c = of-kind c .before
+abbrev sign-of : tie.After-holds-all Inv-loop μ-loop → tie.After-has-sign Inv-loop μ-loop
+sign-of c = right-sign c .before
 
 abbrev held : tie.After-put Inv-loop μ-loop → tie.Else2 Inv-loop μ-loop
 held c = c .before .before
@@ -54,7 +54,7 @@ add-at c = search needs
 
 loop-holds : tie.Need-loop-holds Inv-loop μ-loop
 loop-holds c =
-    (c .head .ensures .parses, refl, λ atoms K right m. (left-start atoms _ right _ _ (c .head .ensures), add-start _ K _ _ _ (c .head .ensures .rows)))
+    (c .head .ensures .parses, refl, λ atoms K right m. (left-start atoms _ right _ _ (c .head .ensures), effects-start _ K _ _ _ (c .head .ensures .rows)))
 
 row-requires : tie.Need-row-requires Inv-loop μ-loop
 row-requires c κs = (c .before .loop .inv .0, c .loop-test .taken)
@@ -65,8 +65,8 @@ sub-left c = search needs
 cast-t16 : tie.Need-cast-t16 Inv-loop μ-loop
 cast-t16 c = search needs
 
-is-positive-requires : tie.Need-is-positive-requires Inv-loop μ-loop
-is-positive-requires c κs = search needs
+has-sign-requires : tie.Need-has-sign-requires Inv-loop μ-loop
+has-sign-requires c κs = search needs
 
 loop-less : tie.Need-loop-less Inv-loop μ-loop
 loop-less c = search needs
@@ -81,7 +81,7 @@ loop-again c =
       λ atoms K right m.
           let j = i .2 atoms K right m in (
             left-next atoms _ _ _ _ _ _ (j .0) r,
-            j .1 ∙ add-other _ K _ _ _ _ _ (r .row) (kind-told _ _ _ (k .is-positive .ensures) (not-true _ (c .if1 .taken))),
+            j .1 ∙ effects-other _ K _ _ _ _ _ (r .row) (sym (k .has-sign .ensures) ∙ not-true _ (c .if1 .taken)),
           ),
     )
 
@@ -106,7 +106,7 @@ loop-less-2 c = search needs
 loop-again-2 : tie.Need-loop-again-2 Inv-loop μ-loop
 loop-again-2 c =
     let h = c .before in
-    let k = kind-of h in
+    let k = sign-of h in
     let i = at-loop (row-of k) .loop .inv in
     let r = row-of k .row .ensures in (
       r .next,
@@ -115,7 +115,7 @@ loop-again-2 c =
           let j = i .2 atoms K right m in (
             left-next atoms _ _ _ _ _ _ (j .0) r,
             j .1
-                ∙ add-passed _ K _ _ _ _ _ (r .row) (kind-told _ _ _ (k .is-positive .ensures) (not-false _ (of-kind h .if1 .left)))
+                ∙ effects-passed _ K _ _ _ _ _ (r .row) (sym (k .has-sign .ensures) ∙ not-false _ (right-sign h .if1 .left))
                 (sym (h .holds-all .ensures atoms K m (conditions-low atoms _ _ _ _ _ _ (j .0) r)) ∙ not-true _ (c .if2 .taken)),
           ),
     )
@@ -130,7 +130,7 @@ loop-again-3 : tie.Need-loop-again-3 Inv-loop μ-loop
 loop-again-3 c =
     let p = put-of c in
     let h = held p .before in
-    let k = kind-of h in
+    let k = sign-of h in
     let i = at-loop (row-of k) .loop .inv in
     let r = row-of k .row .ensures in (
       r .next,
@@ -139,7 +139,7 @@ loop-again-3 c =
           let j = i .2 atoms K right m in (
             left-next atoms _ _ _ _ _ _ (j .0) r,
             j .1
-                ∙ add-made _ K _ _ _ _ _ (r .row) _ (p .put .ensures) (kind-told _ _ _ (k .is-positive .ensures) (not-false _ (of-kind h .if1 .left)))
+                ∙ effects-made _ K _ _ _ _ _ (r .row) _ (p .put .ensures) (sym (k .has-sign .ensures) ∙ not-false _ (right-sign h .if1 .left))
                 (sym (h .holds-all .ensures atoms K m (conditions-low atoms _ _ _ _ _ _ (j .0) r)) ∙ not-false _ (held p .if2 .left)),
           ),
     )
@@ -148,10 +148,10 @@ same-length : tie.Need-same-length Inv-loop μ-loop
 same-length c = c .before .loop .inv .1
 
 returns : tie.Need-returns Inv-loop μ-loop
-returns c = λ atoms K right m. sym (c .before .loop .inv .2 atoms K right m .1 ∙ add-end _ K _ _ (rows-none _ _ _ (omega arith)))
+returns c = λ atoms K right m. sym (c .before .loop .inv .2 atoms K right m .1 ∙ effects-end _ K _ _ (rows-none _ _ _ (omega arith)))
 
-pub add-effects-spec : {M : Type 1} → statement M
-add-effects-spec =
+pub flag-effects-spec : {M : Type 1} → statement M
+flag-effects-spec =
     tie.close
     (tie.spec
     Inv-loop
@@ -162,7 +162,7 @@ add-effects-spec =
     row-requires
     sub-left
     cast-t16
-    is-positive-requires
+    has-sign-requires
     loop-less
     loop-again
     mul-holds-all
