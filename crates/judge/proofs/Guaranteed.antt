@@ -298,7 +298,9 @@ module _ (N : ℕ) (C : List (List ℕ)) (ls : List ℕ) where
   pub drop-start : (rs rs′ : List Row) (S : List ℕ) → rs ≡ rs′ → dropChanged N C ls rs′ S ≡ dropChanged N C ls rs S
   drop-start rs rs′ S h = rw h
 
-pub effects-start : (adds : Bool) (K : List ℕ) (rs rs′ : List Row) (S : List ℕ) → rs ≡ rs′ → flagEffects adds K rs′ S ≡ flagEffects adds K rs S
+pub effects-start :
+    (adds : Bool) (K : List ℕ) (rs rs′ : List Row) (S : List ℕ) → rs ≡ rs′
+    → flagEffects adds K rs′ S ≡ flagEffects adds K rs S
 effects-start adds K rs rs′ S h = rw h
 
 -- by the code's own flags after each walk

@@ -229,6 +229,7 @@ module _ (s : List ℕ) (o : Operator) where
         sym (marked-has (literalOf a adds) low) ∙ ap (has marked) same ∙ due-marked marked adds (x .it) d
 
     changed-by : member (literalOf a adds) (effects s o) ≡ true → member a (atomsDue marked adds (o .rows)) ≡ true
+    unfolding hasSign
     changed-by h =
         let l = literalOf a adds in
         let d = due-has marked adds l sign true (sym (marked-has l low ∙ h)) in

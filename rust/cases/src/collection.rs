@@ -4,7 +4,9 @@ use crate::case::Case;
 use std::collections::{BTreeMap, BTreeSet};
 use std::{fs, path::Path};
 
-/// Bytes of an input at the most; a program reads up to 65,536.
+/// Bytes of an input at the most, one less than a program reads. It takes what fills
+/// its buffer of 65,536 for the whole input and does not see whether more would follow;
+/// with a byte left free it has read to the end.
 const MOST_BYTES: usize = 65535;
 /// Words of a random case at the most.
 const MOST_WORDS: usize = 160;

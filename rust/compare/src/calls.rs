@@ -1,4 +1,4 @@
-//! Calls that lend buffers whose end is open: marks, and work in synthesis.
+//! Calls that lend buffers whose final contents are open: marks, and work in synthesis.
 
 use exports::Reply;
 use reference::{agreement, checker, kept, synthesis};
@@ -8,17 +8,11 @@ use crate::{Guarded, Tally};
 type Words = Guarded<u16>;
 type Marks = Guarded<u8>;
 
-/// Image and clauses.
+/// Image, clauses and marks.
 pub type Check = (Words, Words, Marks);
 
-/// Image, clauses, one clause.
-pub type Kept = (Words, Words, Words, Marks);
-
-/// Image, clauses, work.
-pub type Synthesis = (Words, Words, Words, Marks);
-
-/// Image, clauses, operator numbers.
-pub type Agree = (Words, Words, Words, Marks);
+/// Three buffers of words, and marks.
+pub type Triple = (Words, Words, Words, Marks);
 
 pub fn check(tally: &mut Tally, lent: Check) -> Reply {
     let reference = |(image, set, marks): &mut Check| {
@@ -34,14 +28,15 @@ pub fn check(tally: &mut Tally, lent: Check) -> Reply {
     tally.compare((), lent, reference, library).0
 }
 
-pub fn kept(tally: &mut Tally, lent: Kept, operator: u16) -> Reply {
-    let reference = |(image, set, clause, marks): &mut Kept| {
+/// Lends image, clauses, one clause, and marks.
+pub fn kept(tally: &mut Tally, lent: Triple, operator: u16) -> Reply {
+    let reference = |(image, set, clause, marks): &mut Triple| {
         let (set, row) = (set.lend(), clause.lend());
         let answer = kept::kept(image.lend(), set, row, operator, marks.lend_mut());
         marks.forget();
         answer.into()
     };
-    let library = |(image, set, clause, marks): &mut Kept| {
+    let library = |(image, set, clause, marks): &mut Triple| {
         let (set, row) = (set.lend(), clause.lend());
         let reply = exports::kept(image.lend(), set, row, operator, marks.lend_mut());
         marks.forget();
@@ -50,9 +45,9 @@ pub fn kept(tally: &mut Tally, lent: Kept, operator: u16) -> Reply {
     tally.compare(operator, lent, reference, library).0
 }
 
-/// Gives back the clause buffer besides.
-pub fn synthesize(tally: &mut Tally, lent: Synthesis, n: u16, limit: u16) -> (Reply, Words) {
-    let reference = |(image, clauses, work, marks): &mut Synthesis| {
+/// Lends image, clauses, work, and marks. Gives back the clause buffer besides.
+pub fn synthesize(tally: &mut Tally, lent: Triple, n: u16, limit: u16) -> (Reply, Words) {
+    let reference = |(image, clauses, work, marks): &mut Triple| {
         let (rows, work_lent) = (clauses.lend_mut(), work.lend_mut());
         let marks_lent = marks.lend_mut();
         let answer = synthesis::synthesize(image.lend(), n, limit, rows, work_lent, marks_lent);
@@ -60,7 +55,7 @@ pub fn synthesize(tally: &mut Tally, lent: Synthesis, n: u16, limit: u16) -> (Re
         marks.forget();
         answer.into()
     };
-    let library = |(image, clauses, work, marks): &mut Synthesis| {
+    let library = |(image, clauses, work, marks): &mut Triple| {
         let (rows, work_lent) = (clauses.lend_mut(), work.lend_mut());
         let marks_lent = marks.lend_mut();
         let reply = exports::synthesize(image.lend(), n, limit, rows, work_lent, marks_lent);
@@ -72,13 +67,14 @@ pub fn synthesize(tally: &mut Tally, lent: Synthesis, n: u16, limit: u16) -> (Re
     (reply, clauses)
 }
 
-pub fn agree(tally: &mut Tally, lent: Agree) -> Reply {
-    let reference = |(image, set, list, marks): &mut Agree| {
+/// Lends image, clauses, operator numbers, and marks.
+pub fn agree(tally: &mut Tally, lent: Triple) -> Reply {
+    let reference = |(image, set, list, marks): &mut Triple| {
         let answer = agreement::agree(image.lend(), set.lend(), list.lend(), marks.lend_mut());
         marks.forget();
         answer.into()
     };
-    let library = |(image, set, list, marks): &mut Agree| {
+    let library = |(image, set, list, marks): &mut Triple| {
         let reply = exports::agree(image.lend(), set.lend(), list.lend(), marks.lend_mut());
         marks.forget();
         reply

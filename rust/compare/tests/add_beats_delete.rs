@@ -15,7 +15,7 @@ use reference::synthesis::MOST_ROWS;
 use reference::task::{self, Task};
 use reference::{fdr, state as model, synthesis, Refusal};
 use sources::nearby::judging::{self, Rule, NEARBY, RIGHT};
-use sources::nearby::steps::{FdrStep, TaskStep};
+use sources::nearby::steps::{self, FdrStep, TaskStep};
 use sources::Synthesized;
 
 /// How often each rule near the right one answers otherwise.
@@ -83,7 +83,7 @@ fn task_steps_and_goals() {
     let mut steps = Tally::new("kb_task_step, add and delete");
     let mut goals = Tally::new("kb_task_goal, add and delete");
     let mut told = Told::new("kb_task_step", names(&TaskStep::NEARBY));
-    let mut goals_told = Told::new("kb_task_goal", ["DeletesLast".to_string()]);
+    let mut goals_told = Told::new("kb_task_goal", names(&[TaskStep::DeletesLast]));
     while !steps.is_full() {
         let image = add_delete::task(rng).image();
         let task = task::read(&image).expect("a right image");
@@ -96,17 +96,16 @@ fn task_steps_and_goals() {
             |(image, state)| exports::task_step(image.lend(), state.lend_mut(), operator),
         );
         let right = (reply, after.lend().to_vec());
-        let nearby =
-            TaskStep::NEARBY.map(|step| outcome(step.apply(&task, &before, operator), &before));
-        told.count(nearby.iter().map(|other| *other != right));
+        let by = |step: TaskStep| outcome(step.apply(&task, &before, operator), &before);
+        told.count(TaskStep::NEARBY.map(|step| by(step) != right));
         let (goal, _) = goals.compare(
             (),
             (Guarded::new(&image), after),
             |(image, state)| model::goal(image.lend(), state.lend()).into(),
             |(image, state)| exports::task_goal(image.lend(), state.lend()),
         );
-        let other = Reply::from(model::goal(&image, &nearby[0].1));
-        goals_told.count([other != goal]);
+        let other = model::goal(&image, &by(TaskStep::DeletesLast).1);
+        goals_told.count([Reply::from(other) != goal]);
     }
     told.finish(500);
     goals_told.finish(500);
@@ -135,7 +134,8 @@ fn task_runs() {
             |(image, state, list)| exports::task_run(image.lend(), state.lend_mut(), list.lend()),
         );
         told.count(TaskStep::NEARBY.map(|step| {
-            let (state, refusal) = step.run(&task, &before, &list);
+            let apply = |state: &[u8], operator| step.apply(&task, state, operator);
+            let (state, refusal) = steps::run(&before, &list, apply);
             (run_reply(&list, refusal), &state[..]) != (reply, after.lend())
         }));
     }
@@ -162,7 +162,7 @@ fn negative(clause: &Clause) -> bool {
 fn kept_clauses() {
     let rng = &mut Rng::new(803);
     let mut tally = Tally::new("kb_kept, add and delete");
-    let mut told = Told::new("kb_kept", NEARBY.map(|rule| rule.0.to_string()));
+    let mut told = Told::new("kb_kept", NEARBY.map(|nearby| nearby.name.to_string()));
     let mut answers = [[0; 2]; 2];
     while tally.total() < 2 * INPUTS {
         let Judged { task, set, clause } = add_delete::judged(rng);
@@ -179,7 +179,7 @@ fn kept_clauses() {
         let (set, judged) = (read_set(&task, &words), read_set(&task, &clause)[0]);
         answers[usize::from(negative(&judged))][reply.first as usize] += 1;
         let keeps = |rule: Rule| u64::from(rule.keeps(&task, &set, &judged, 0));
-        told.count(NEARBY.map(|(_, rule)| keeps(rule) != reply.first));
+        told.count(NEARBY.map(|nearby| keeps(nearby.rule) != reply.first));
     }
     println!("kb_kept: not kept and kept, other clauses and two negative literals {answers:?}");
     assert!(answers.iter().flatten().all(|&count| count > 2_000));
@@ -259,7 +259,7 @@ fn task_and_set(rng: &mut Rng) -> (Vec<u16>, Vec<u16>) {
 fn check() {
     let rng = &mut Rng::new(804);
     let mut tally = Tally::new("kb_check, add and delete");
-    let mut told = Told::new("kb_check", NEARBY.map(|rule| rule.0.to_string()));
+    let mut told = Told::new("kb_check", NEARBY.map(|nearby| nearby.name.to_string()));
     while tally.total() < 2 * INPUTS {
         let (image, words) = task_and_set(rng);
         let task = task::read(&image).expect("a right image");
@@ -271,21 +271,23 @@ fn check() {
         );
         let reply = calls::check(&mut tally, lent);
         let set = read_set(&task, &words);
-        told.count(NEARBY.map(|(_, rule)| check_by(rule, &task, &set) != reply));
+        told.count(NEARBY.map(|nearby| check_by(nearby.rule, &task, &set) != reply));
     }
     told.finish(20);
     tally.finish(50, &[0, 10, 11]);
 }
 
-/// Each rule near the right one in kept clauses, and those that matter there in
-/// guaranteed literals.
+/// Each rule near the right one in kept clauses, and in guaranteed literals those that
+/// differ there.
 fn rules_of_synthesis() -> Vec<(String, Rule, Rule)> {
-    let kept = NEARBY.map(|(name, rule)| (format!("kept: {name}"), rule, RIGHT));
-    let guaranteed = [0, 1, 5].map(|place| {
-        let (name, rule) = NEARBY[place];
-        (format!("guaranteed: {name}"), RIGHT, rule)
-    });
-    kept.into_iter().chain(guaranteed).collect()
+    let kept = NEARBY
+        .iter()
+        .map(|nearby| (format!("kept: {}", nearby.name), nearby.rule, RIGHT));
+    let guaranteed = NEARBY
+        .iter()
+        .filter(|nearby| nearby.guarantees_otherwise)
+        .map(|nearby| (format!("guaranteed: {}", nearby.name), RIGHT, nearby.rule));
+    kept.chain(guaranteed).collect()
 }
 
 #[test]
@@ -347,9 +349,8 @@ fn reencoded_steps_and_goals() {
             |(image, state)| exports::fdr_step(image.lend(), state.lend_mut(), operator),
         );
         let right = (reply, after.lend().to_vec());
-        let nearby =
-            FdrStep::NEARBY.map(|step| outcome(step.apply(&spec, &before, operator), &before));
-        told.count(nearby.iter().map(|other| *other != right));
+        let by = |step: FdrStep| outcome(step.apply(&spec, &before, operator), &before);
+        told.count(FdrStep::NEARBY.map(|step| by(step) != right));
         goals.compare(
             (),
             (Guarded::new(&image), after),
@@ -381,7 +382,8 @@ fn reencoded_runs() {
             |(image, state, list)| exports::fdr_run(image.lend(), state.lend_mut(), list.lend()),
         );
         told.count(FdrStep::NEARBY.map(|step| {
-            let (state, refusal) = step.run(&spec, &before, &list);
+            let apply = |state: &[u16], operator| step.apply(&spec, state, operator);
+            let (state, refusal) = steps::run(&before, &list, apply);
             (run_reply(&list, refusal), &state[..]) != (reply, after.lend())
         }));
     }

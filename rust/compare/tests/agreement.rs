@@ -1,6 +1,6 @@
 //! Demand 3 along a list: whether task and re-encoding agree.
 
-use compare::calls::{self, Agree};
+use compare::calls::{self, Triple};
 use compare::{Guarded, Tally};
 use inputs::{damage, state, Rng};
 use sources::{marks_length, Synthesized};
@@ -8,7 +8,7 @@ use sources::{marks_length, Synthesized};
 const LEAST: usize = 50;
 
 /// A damaged image now and then, a set of any kind, a list of numbers.
-fn lent(rng: &mut Rng, source: &Synthesized) -> Agree {
+fn lent(rng: &mut Rng, source: &Synthesized) -> Triple {
     let mut image = source.image.clone();
     if rng.chance(12) {
         damage::task_image(rng, &mut image);

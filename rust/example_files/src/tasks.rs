@@ -161,8 +161,8 @@ fn changer() -> Example {
     Example {
         name: "changer",
         about: &[
-            "A tray changer serves three docks. Sending a tray deletes all its places and adds the new one, so",
-            "that a tray sent to where it is is deleted there and added: an add beats a delete, and it stays.",
+            "A tray changer serves three docks. Sending a tray deletes all its places and adds the new one.",
+            "A tray sent to where it stands is deleted and added there: an add beats a delete, and it stays.",
             "The clauses say that each tray is at exactly one dock, and no two trays are at the same.",
         ],
         n: 3,

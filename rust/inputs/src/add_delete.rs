@@ -106,7 +106,8 @@ pub fn judged(rng: &mut Rng) -> Judged {
 }
 
 /// An operator that makes one literal of a clause false and another true, and has
-/// rows that do the opposite. Their conditions contradict each other, or do not.
+/// rows that do the opposite. Their conditions contradict each other, or do not. What
+/// stands twice among the conditions to pick from is to be picked twice as often.
 fn in_turn(rng: &mut Rng, atoms: usize, one: u16, other: u16) -> OperatorSpec {
     let precondition = if rng.chance(40) {
         vec![other]

@@ -63,7 +63,7 @@ pub fn kept_cases() -> Vec<KeptCase> {
         own_literal_cases(),
         sign_cases(),
         deleted_literal_cases(),
-        beaten_add_cases(),
+        cannot_fire_cases(),
     ];
     groups.into_iter().flatten().collect()
 }
@@ -308,7 +308,7 @@ fn deleted_literal_cases() -> Vec<KeptCase> {
 }
 
 /// Add rows of a deleted literal's atom that cannot fire.
-fn beaten_add_cases() -> Vec<KeptCase> {
+fn cannot_fire_cases() -> Vec<KeptCase> {
     let none: (&[Row], Row) = (&[], NOT_BOTH);
     vec![
         case(

@@ -2,6 +2,11 @@
 
 use crate::Rng;
 
+/// All states of so many atoms.
+pub fn all(atoms: usize) -> impl Iterator<Item = Vec<u8>> {
+    (0..1usize << atoms).map(move |bits| (0..atoms).map(|a| (bits >> a & 1) as u8).collect())
+}
+
 /// A random state of 0 and 1 bytes.
 pub fn valid(rng: &mut Rng, atoms: usize) -> Vec<u8> {
     let percent = *rng.pick(&[10, 50, 90]);

@@ -76,7 +76,7 @@ impl<'a> Judge<'a> {
             &own
         };
         for (clause, fails) in judged.iter().zip(fails) {
-            *fails |= clause.contains(falsified) && !any(clause, after);
+            *fails |= clause.contains(falsified) && !has_marked(clause, after);
         }
     }
 
@@ -118,6 +118,6 @@ impl<'a> Judge<'a> {
 }
 
 /// Whether one of the clause's literals is marked.
-fn any(clause: &Clause, marks: &[bool]) -> bool {
+fn has_marked(clause: &Clause, marks: &[bool]) -> bool {
     clause.literals().any(|literal| marks[literal.index()])
 }

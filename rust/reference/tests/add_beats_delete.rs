@@ -123,11 +123,6 @@ fn a_tray_sent_to_its_dock() {
     assert_eq!((bytes, values), ([0, 0, 1, 0, 1, 0], [2, 1]));
 }
 
-/// All states of so many atoms.
-fn states(atoms: usize) -> impl Iterator<Item = Vec<u8>> {
-    (0..1usize << atoms).map(move |bits| (0..atoms).map(|a| (bits >> a & 1) as u8).collect())
-}
-
 /// Whether the operator deletes and adds one atom in the state.
 fn adds_and_deletes(task: &Task, state: &[u8], operator: usize) -> bool {
     let rows = task.operator(operator);
@@ -151,7 +146,7 @@ fn kept_and_guaranteed_are_sound() {
         let judge = Judge::new(&task, &set, 0);
         let kept = judge.failing(&judged).is_empty();
         counts[usize::from(kept)] += 1;
-        for before in states(task.atoms()) {
+        for before in inputs::state::all(task.atoms()) {
             let mut after = before.clone();
             let applied = state::apply(&task, &mut after, 0, &mut Vec::new()).is_ok();
             if !applied || !set.iter().all(|clause| clause.holds(&before)) {

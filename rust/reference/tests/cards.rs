@@ -34,7 +34,7 @@ fn cases() -> Vec<Case> {
 #[test]
 fn all_cards() {
     let cases = cases();
-    assert!(cases.len() >= 43, "only {} cases", cases.len());
+    assert_eq!(cases.len(), 46);
     for case in cases {
         let input: Vec<u8> = case
             .words

@@ -12,15 +12,10 @@ use reference::{fdr, state as model, synthesis};
 use sources::nearby::judging::{self, Rule, NEARBY, RIGHT};
 use sources::nearby::steps::{FdrStep, TaskStep};
 
-/// All states of so many atoms.
-fn states(atoms: usize) -> impl Iterator<Item = Vec<u8>> {
-    (0..1 << atoms).map(move |bits: usize| (0..atoms).map(|a| (bits >> a & 1) as u8).collect())
-}
-
 /// Whether the clause holds after the operator in all states in which it holds
 /// before, and the set and the precondition.
 fn never_breaks(task: &Task, set: &[Clause], clause: &Clause) -> bool {
-    states(task.atoms()).all(|state| {
+    state::all(task.atoms()).all(|state| {
         let mut next = state.clone();
         let applied = model::apply(task, &mut next, 0, &mut Vec::new()).is_ok();
         let met = set
@@ -50,15 +45,21 @@ fn judge(rule: Rule, seed: u64) -> [usize; 2] {
     counts
 }
 
+/// Whether what the table says to occur has occurred often, and other things never.
+fn as_said(occurs: bool, count: usize) -> bool {
+    match occurs {
+        true => count > 20,
+        false => count == 0,
+    }
+}
+
 #[test]
 fn kept_clauses() {
     assert_eq!(judge(RIGHT, 1), [0, 0]);
-    for (name, rule) in NEARBY {
-        let [differs, breaks] = judge(rule, 1);
+    for nearby in NEARBY {
+        let (name, [differs, breaks]) = (nearby.name, judge(nearby.rule, 1));
         println!("{name}: {differs} of 20000 answers differ, {breaks} kept clauses can break");
-        let unsound = ["a delete row suffices", "negative cases also pass"].contains(&name);
-        assert!(differs > 20 && (breaks > 20) == unsound, "{name}");
-        assert!(unsound || breaks == 0, "{name}");
+        assert!(differs > 20 && as_said(nearby.unsound, breaks), "{name}");
     }
 }
 
@@ -75,12 +76,18 @@ fn guaranteed_literals() {
         let held = (0u16..).zip(marks).filter(|&(_, mark)| mark);
         let right: Vec<Literal> = held.map(|(word, _)| Literal(word)).collect();
         assert_eq!(RIGHT.guaranteed(&task, &set, 0), right, "{image:?} {set:?}");
-        for (count, (_, rule)) in differs.iter_mut().zip(NEARBY) {
-            *count += usize::from(rule.guaranteed(&task, &set, 0) != right);
+        for (count, nearby) in differs.iter_mut().zip(NEARBY) {
+            *count += usize::from(nearby.rule.guaranteed(&task, &set, 0) != right);
         }
     }
     println!("guaranteed literals differ {differs:?} of 20000 times");
-    assert!([0, 1, 5].iter().all(|&rule| differs[rule] > 20));
+    for (nearby, count) in NEARBY.iter().zip(differs) {
+        assert!(
+            as_said(nearby.guarantees_otherwise, count),
+            "{}",
+            nearby.name
+        );
+    }
 }
 
 #[test]

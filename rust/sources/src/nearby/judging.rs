@@ -43,50 +43,72 @@ pub const RIGHT: Rule = Rule {
     beaten_counts: true,
 };
 
-/// The rules near it.
-pub const NEARBY: [(&str, Rule); 6] = [
-    (
-        "a delete row suffices",
-        Rule {
+/// A rule near it, and where it answers otherwise.
+#[derive(Clone, Copy, Debug)]
+pub struct Nearby {
+    pub name: &'static str,
+    pub rule: Rule,
+    /// Whether it keeps clauses that can break.
+    pub unsound: bool,
+    /// Whether it differs in guaranteed literals too, and not in kept clauses alone.
+    pub guarantees_otherwise: bool,
+}
+
+pub const NEARBY: [Nearby; 6] = [
+    Nearby {
+        name: "a delete row suffices",
+        rule: Rule {
             against: Against::Nothing,
             ..RIGHT
         },
-    ),
-    (
-        "no add row at all",
-        Rule {
+        unsound: true,
+        guarantees_otherwise: true,
+    },
+    Nearby {
+        name: "no add row at all",
+        rule: Rule {
             against: Against::Any,
             ..RIGHT
         },
-    ),
-    (
-        "add rows without K",
-        Rule {
+        unsound: false,
+        guarantees_otherwise: true,
+    },
+    Nearby {
+        name: "add rows without K",
+        rule: Rule {
             against: Against::CanFireAlone,
             ..RIGHT
         },
-    ),
-    (
-        "no case also passes",
-        Rule {
+        unsound: false,
+        guarantees_otherwise: false,
+    },
+    Nearby {
+        name: "no case also passes",
+        rule: Rule {
             also_passes: AlsoPasses::Never,
             ..RIGHT
         },
-    ),
-    (
-        "negative cases also pass",
-        Rule {
+        unsound: false,
+        guarantees_otherwise: false,
+    },
+    Nearby {
+        name: "negative cases also pass",
+        rule: Rule {
             also_passes: AlsoPasses::Either,
             ..RIGHT
         },
-    ),
-    (
-        "a beaten delete does not count",
-        Rule {
+        unsound: true,
+        guarantees_otherwise: false,
+    },
+    Nearby {
+        name: "a beaten delete does not count",
+        rule: Rule {
             beaten_counts: false,
             ..RIGHT
         },
-    ),
+        unsound: false,
+        guarantees_otherwise: true,
+    },
 ];
 
 /// A set and an operator, with the closure of the set and the precondition.
@@ -193,16 +215,7 @@ pub fn synthesis(task: &Task, n: usize, kept: Rule, guaranteed: Rule) -> (Vec<Cl
     let first = |(atom, &byte): (u16, &u8)| Clause::new(&[Literal::new(atom, byte == 0)]);
     let mut set: Vec<Clause> = (0u16..).zip(&initial).map(first).collect();
     for rounds in 1.. {
-        let mut next: BTreeSet<Clause> = set.iter().copied().collect();
-        for clause in &set {
-            let fails = |&operator: &usize| !kept.keeps(task, &set, clause, operator);
-            for operator in (0..task.operators()).filter(fails) {
-                next.remove(clause);
-                let literals = guaranteed.guaranteed(task, &set, operator);
-                let new = |literal: &Literal| clause.size() < n && !clause.has_atom(literal.atom());
-                next.extend(literals.into_iter().filter(new).map(|new| clause.with(new)));
-            }
-        }
+        let next = weakened(task, n, kept, guaranteed, &set);
         if set.iter().all(|clause| next.contains(clause)) {
             return (set, rounds);
         }
@@ -215,4 +228,27 @@ pub fn synthesis(task: &Task, n: usize, kept: Rule, guaranteed: Rule) -> (Vec<Cl
             .collect();
     }
     unreachable!("each failing round leaves fewer clauses possible")
+}
+
+/// The set after one round, before clauses that contain others are dropped: each clause
+/// that fails under an operator gives way to those of up to `n` literals that have one
+/// more, which the operator guarantees.
+fn weakened(
+    task: &Task,
+    n: usize,
+    kept: Rule,
+    guaranteed: Rule,
+    set: &[Clause],
+) -> BTreeSet<Clause> {
+    let mut next: BTreeSet<Clause> = set.iter().copied().collect();
+    for clause in set {
+        let fails = |&operator: &usize| !kept.keeps(task, set, clause, operator);
+        for operator in (0..task.operators()).filter(fails) {
+            next.remove(clause);
+            let literals = guaranteed.guaranteed(task, set, operator);
+            let new = |literal: &Literal| clause.size() < n && !clause.has_atom(literal.atom());
+            next.extend(literals.into_iter().filter(new).map(|new| clause.with(new)));
+        }
+    }
+    next
 }

@@ -39,6 +39,28 @@ fn refused(number: u32) -> Refusal {
     }
 }
 
+/// The state after the listed steps, up to the first refused one, with its place.
+pub fn run<T: Clone>(
+    state: &[T],
+    list: &[u16],
+    apply: impl Fn(&[T], u16) -> Result<Vec<T>, Refusal>,
+) -> (Vec<T>, Option<Refusal>) {
+    let mut state = state.to_vec();
+    for (place, &operator) in (0u64..).zip(list) {
+        match apply(&state, operator) {
+            Ok(next) => state = next,
+            Err(refusal) => {
+                let placed = Refusal {
+                    first: place,
+                    ..refusal
+                };
+                return (state, Some(placed));
+            }
+        }
+    }
+    (state, None)
+}
+
 impl TaskStep {
     pub const NEARBY: [TaskStep; 3] = [
         TaskStep::DeletesLast,
@@ -75,25 +97,6 @@ impl TaskStep {
         };
         (0u16..).zip(state).map(next).collect()
     }
-
-    /// The state after the listed steps, up to the first refused one, with its place.
-    pub fn run(self, task: &Task, state: &[u8], list: &[u16]) -> (Vec<u8>, Option<Refusal>) {
-        let mut state = state.to_vec();
-        for (taken, &operator) in list.iter().enumerate() {
-            match self.apply(task, &state, operator) {
-                Ok(next) => state = next,
-                Err(refusal) => return (state, Some(at(taken, refusal))),
-            }
-        }
-        (state, None)
-    }
-}
-
-fn at(taken: usize, refusal: Refusal) -> Refusal {
-    Refusal {
-        first: taken as u64,
-        ..refusal
-    }
 }
 
 fn holds(literals: &[Pair], state: &[u16]) -> bool {
@@ -125,17 +128,6 @@ impl FdrStep {
                 .ok_or(refused(22))
         };
         variables.map(next).collect()
-    }
-
-    pub fn run(self, spec: &FdrSpec, state: &[u16], list: &[u16]) -> (Vec<u16>, Option<Refusal>) {
-        let mut state = state.to_vec();
-        for (taken, &operator) in list.iter().enumerate() {
-            match self.apply(spec, &state, operator) {
-                Ok(next) => state = next,
-                Err(refusal) => return (state, Some(at(taken, refusal))),
-            }
-        }
-        (state, None)
     }
 
     fn conflicts(self, operator: &FdrOperatorSpec, state: &[u16], variable: usize) -> bool {
