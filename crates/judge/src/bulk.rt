@@ -93,9 +93,9 @@ fn flag_violated(
     flag_lacking(judged, l, &flags[..size], fails);
 }
 
-// Flags the judged clauses that a row with these conditions violates, where `l` is the complement of its effect and `base` has
-// the marks of the clauses' and the precondition's closure and `flags` the literals guaranteed by it. Conditions that are marked
-// add nothing to that closure. Since the row can fire, `l` itself is guaranteed only if an add row of it surely fires.
+// Flags the judged clauses that a row of the block with these conditions violates, where `l` is the complement of its effect and
+// `base` has the marks of the clauses' and the precondition's closure and `flags` the literals guaranteed by it. Conditions that are
+// marked add nothing to that closure. Since the row can fire, `l` itself is guaranteed only if an add row of it surely fires.
 fn judge_row(
     clauses: &[u16],
     judged: &[u16],
