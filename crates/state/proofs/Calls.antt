@@ -65,12 +65,12 @@ module _ (b s m : List ℕ) (a : Applies b s m) (m′ : List ℕ) (em : m′ ≡
   marked : m′ ≡ markFired s (operatorIn b .rows) (replicate (2 * length s) 0)
   marked = em ∙ ap (markFired s (operatorIn b .rows)) (a .blank)
 
-  pub marks-cleared : (m″ : List ℕ) → m″ ≡ unmarked (operatorIn b .rows) m′ → m″ ≡ m
-  marks-cleared m″ e =
-      e ∙ ap (unmarked (operatorIn b .rows)) marked ∙ marks-gone s (operatorIn b) (2 * length s) ∙ sym (a .blank)
-
   -- the deletes are made true, and then the adds
-  pub rows-applied :
-      (s′ s″ : List ℕ) → s′ ≡ changed m′ false (operatorIn b .rows) s → s″ ≡ changed m′ true (operatorIn b .rows) s′
-      → s″ ≡ result s (operatorIn b)
-  rows-applied s′ s″ e f = f ∙ rw (e, marked) (marks-result s (operatorIn b))
+  module _
+      (m₁ s₁ : List ℕ) (deletes : (s₁ ≡ changed false (operatorIn b .rows) m′ s) × (m₁ ≡ unmarked false (operatorIn b .rows) m′))
+      (m₂ s₂ : List ℕ) (adds : (s₂ ≡ changed true (operatorIn b .rows) m₁ s₁) × (m₂ ≡ unmarked true (operatorIn b .rows) m₁)) where
+    pub rows-applied : s₂ ≡ result s (operatorIn b)
+    rows-applied = adds .0 ∙ rw (deletes .0, deletes .1, marked) (marks-result s (operatorIn b))
+
+    pub marks-cleared : m₂ ≡ m
+    marks-cleared = adds .1 ∙ rw (deletes .1, marked) (marks-gone s (operatorIn b) (2 * length s)) ∙ sym (a .blank)

@@ -1,7 +1,8 @@
 -- Laws of the marks: their walks, and that they are the effects of the fired rows. Assumes nothing.
 use mathlib.Core.Path.{_≡_, refl, sym, ap, subst, _∙_}
+use mathlib.Core.Logic.{_⊎_, inl, inr}
 use mathlib.Core.List.{List, [], _∷_, map}
-use mathlib.Core.Bool.{Bool, true, false, cond, Bool·beq, _||_}
+use mathlib.Core.Bool.{Bool, true, false, cond, Bool·beq, _&&_, _||_, and-true, and-false}
 use Prim.Native.Nat.{ℕ, zero, suc, _+_, _*_, _≤_, _<_}
 use native.Mathlib.Numerals.{add-one}
 use native.Mathlib.Nat.{not-suc-le-zero, le-of-suc-le-suc}
@@ -9,20 +10,20 @@ use native.Mathlib.Omega.{arith}
 use lib.ListN.{length, getD, take, drop, set, drop-of-length-le, length-set, replicate, length-replicate, getD-replicate}
 use lib.Seq.{drop-cons, getD-set-same, getD-set-other, ext-getD}
 use lib.Dec.{eqb}
-use borrow.Author.Tests.{eqb-true, eqb-false}
+use borrow.Author.Tests.{eqb-true, eqb-false, eq-eqb}
 use Rattle.definitions.specs.Lists.{any, keep, below, member}
 use Rattle.definitions.specs.Literal.{atom, positive, stateOf}
 use Rattle.definitions.specs.Image.{Row, Operator, Task, initialState}
 use Rattle.definitions.specs.Step.{fires, effects, after, result}
 use Rattle.definitions.specs.Closure.{has}
-use Rattle.definitions.proofs.ListLaws.{never, and-left, and-right, keep-in, keep-of, member-in, member-of, map-in, map-of}
+use Rattle.definitions.proofs.ListLaws.{decide, refuted, never, and-left, and-both, set-if-length, keep-in, keep-of, member-in, member-of, map-in}
 use Rattle.definitions.proofs.ListLaws.{table-at, table-length}
-use Rattle.definitions.proofs.LiteralLaws.{Shape, is, isnt, shape, atom-even, atom-odd, positive-even, positive-odd}
-use Rattle.definitions.proofs.EncodeLaws.{same-bool}
+use Rattle.definitions.proofs.LiteralLaws.{is, positive-even}
 use Rattle.definitions.proofs.StepLaws.{fired-of, value-at}
 use Rattle.literal.specs.Literal.{literalOf, hasSign}
 use Rattle.literal.specs.Mark.{markIf}
-use Rattle.state.specs.Marks.{setAll, markFired, due, makeTrue, changed, unmarked}
+use Rattle.literal.proofs.Sign.{literal-atom, literal-positive, sign-self, sign-own, other-atom}
+use Rattle.state.specs.Marks.{setAll, markFired, makeTrue, changed, unmarked}
 
 -- the effects of rows, fired or not
 abbrev effectsOf : List Row → List ℕ
@@ -69,47 +70,29 @@ fired-next s rows rest r t m m′ er et em = rw (er, em, et)
 pub fired-end : (s : List ℕ) (rows : List Row) (m : List ℕ) → rows ≡ [] → markFired s rows m ≡ m
 fired-end s rows m e = rw e
 
-module _ (m : List ℕ) (rows rest : List Row) (r : Row) (er : rows ≡ r ∷ rest) where
-  pub changed-next :
-      (adds : Bool) (s s′ : List ℕ) (b : Bool) → b ≡ due m adds (r .effect) → s′ ≡ makeTrue b s (r .effect)
-      → changed m adds rows s ≡ changed m adds rest s′
-  changed-next adds s s′ b eb es = rw (er, es, eb)
+-- a row of the other sign, and one of the sign
+module _ (adds : Bool) (m : List ℕ) (rows rest : List Row) (r : Row) (er : rows ≡ r ∷ rest) where
+  pub changed-other : (s : List ℕ) → hasSign adds (r .effect) ≡ false → changed adds rows m s ≡ changed adds rest m s
+  changed-other s e = rw (er, e)
 
-  pub unmarked-next : (m′ : List ℕ) → m′ ≡ set m (r .effect) 0 → unmarked rows m ≡ unmarked rest m′
-  unmarked-next m′ em = rw (er, em)
+  pub unmarked-other : hasSign adds (r .effect) ≡ false → unmarked adds rows m ≡ unmarked adds rest m
+  unmarked-other e = rw (er, e)
 
-module _ (m : List ℕ) (rows : List Row) (er : rows ≡ []) where
-  pub changed-end : (adds : Bool) (s : List ℕ) → changed m adds rows s ≡ s
-  changed-end adds s = rw er
+  module _ (e : hasSign adds (r .effect) ≡ true) (m′ : List ℕ) (em : m′ ≡ set m (r .effect) 0) where
+    pub changed-next :
+        (s s′ : List ℕ) (b : Bool) → b ≡ has m (r .effect) → s′ ≡ makeTrue b s (r .effect)
+        → changed adds rows m s ≡ changed adds rest m′ s′
+    changed-next s s′ b eb es = rw (er, e, em, es, eb)
 
-  pub unmarked-end : unmarked rows m ≡ m
-  unmarked-end = rw er
+    pub unmarked-next : unmarked adds rows m ≡ unmarked adds rest m′
+    unmarked-next = rw (er, e, em)
 
--- the test of one effect: its sign, then its mark
-module _ (m : List ℕ) (adds : Bool) (l : ℕ) where
-  pub due-not : hasSign adds l ≡ false → false ≡ due m adds l
-  unfolding due
-  due-not e = rw e
+module _ (adds : Bool) (rows : List Row) (er : rows ≡ []) where
+  pub changed-end : (m s : List ℕ) → changed adds rows m s ≡ s
+  changed-end m s = rw er
 
-  pub due-has : hasSign adds l ≡ true → (b : Bool) → b ≡ has m l → b ≡ due m adds l
-  unfolding due
-  due-has e b eb = rw (e, eb)
-
--- a literal that is due is marked, and has the sign
-module _ (m : List ℕ) (adds : Bool) (l : ℕ) (h : due m adds l ≡ true) where
-  due-marked : has m l ≡ true
-  unfolding due
-  due-marked = and-right (hasSign adds l) (has m l) h
-
-  due-sign : positive l ≡ adds
-  unfolding due hasSign
-  due-sign = go (positive l) adds (and-left (hasSign adds l) (has m l) h)
-    where
-      go : (a b : Bool) → Bool·beq a b ≡ true → a ≡ b
-      go true true e = refl
-      go false false e = refl
-      go true false e = sym e
-      go false true e = e
+  pub unmarked-end : (m : List ℕ) → unmarked adds rows m ≡ m
+  unmarked-end m = rw er
 
 -- ---- each walk puts one byte at the places of a list
 fired-all : (s : List ℕ) (rows : List Row) (m : List ℕ) → markFired s rows m ≡ setAll 1 (effectsOf (keep (fires s) rows)) m
@@ -123,43 +106,112 @@ fired-all s (r ∷ rows) m = go (fires s r) refl (fired-all s rows)
     go true e rec = rw (e, keep) (rec (set m (r .effect) 1))
     go false e rec = rw (e, keep) (rec m)
 
-unmarked-all : (rows : List Row) (m : List ℕ) → unmarked rows m ≡ setAll 0 (effectsOf rows) m
-unmarked-all [] m = refl
-unmarked-all (r ∷ rows) m = unmarked-all rows (set m (r .effect) 0)
-
-module _ (m : List ℕ) (adds : Bool) where
-  -- the atoms of the marked effects of this sign
-  abbrev atomsDue : List Row → List ℕ
-  atomsDue rows = map atom (keep (due m adds) (effectsOf rows))
-
-  changed-all : (rows : List Row) (s : List ℕ) → changed m adds rows s ≡ setAll (cond adds 1 0) (atomsDue rows) s
-  unfolding keep
-  changed-all [] s = refl
-  changed-all (r ∷ rows) s = go (due m adds (r .effect)) refl (changed-all rows)
-    where
-      go :
-          (b : Bool) → due m adds (r .effect) ≡ b → ((s : List ℕ) → changed m adds rows s ≡ setAll (cond adds 1 0) (atomsDue rows) s)
-          → changed m adds (r ∷ rows) s ≡ setAll (cond adds 1 0) (atomsDue (r ∷ rows)) s
-      go true e rec =
-          rw (e, keep)
-          (ap (λ (b : Bool). changed m adds rows (set s (atom (r .effect)) (cond b 1 0))) (due-sign m adds (r .effect) e) ∙ rec _)
-      go false e rec = rw (e, keep) (rec s)
-
--- ---- the literal of an atom and a sign
-literal-atom : (a : ℕ) (b : Bool) → atom (literalOf a b) ≡ a
-literal-atom a true = atom-even a
-literal-atom a false = atom-odd a
-
-literal-positive : (a : ℕ) (b : Bool) → positive (literalOf a b) ≡ b
-literal-positive a true = positive-even a
-literal-positive a false = positive-odd a
-
-literal-same : (l : ℕ) → literalOf (atom l) (positive l) ≡ l
-literal-same l = go (shape l)
+unmarked-all : (adds : Bool) (rows : List Row) (m : List ℕ) → unmarked adds rows m ≡ setAll 0 (keep (hasSign adds) (effectsOf rows)) m
+unfolding keep
+unmarked-all adds [] m = refl
+unmarked-all adds (r ∷ rows) m = go (hasSign adds (r .effect)) refl (unmarked-all adds rows)
   where
-    go : Shape l → literalOf (atom l) (positive l) ≡ l
-    go (is l a e x y c) = rw (x, y) (sym e)
-    go (isnt l a e x y c) = rw (x, y) (sym e)
+    go :
+        (b : Bool) → hasSign adds (r .effect) ≡ b → ((m : List ℕ) → unmarked adds rows m ≡ setAll 0 (keep (hasSign adds) (effectsOf rows)) m)
+        → unmarked adds (r ∷ rows) m ≡ setAll 0 (keep (hasSign adds) (effectsOf (r ∷ rows))) m
+    go true e rec = rw (e, keep) (rec (set m (r .effect) 0))
+    go false e rec = rw (e, keep) (rec m)
+
+-- the literals of one sign in a list
+kept-sign : (b : Bool) (l : ℕ) (es : List ℕ) → member l es ≡ true → hasSign b l ≡ true → member l (keep (hasSign b) es) ≡ true
+kept-sign b l es h k = member-in (keep-in (hasSign b) (member-of l es h) k)
+
+kept-has : (b : Bool) (l : ℕ) (es : List ℕ) → member l (keep (hasSign b) es) ≡ true → hasSign b l ≡ true
+kept-has b l es h = keep-of (hasSign b) es (member-of l (keep (hasSign b) es) h) .1
+
+-- ---- one pass: the value of an atom, and the marks
+unmarked-at :
+    (adds : Bool) (rows : List Row) (m : List ℕ) (l : ℕ) → l < length m
+    → getD (unmarked adds rows m) l 0 ≡ cond (member l (keep (hasSign adds) (effectsOf rows))) 0 (getD m l 0)
+unmarked-at adds rows m l h =
+    ap (λ (z : List ℕ). getD z l 0) (unmarked-all adds rows m) ∙ set-at 0 (keep (hasSign adds) (effectsOf rows)) m l h
+
+unmarked-length : (adds : Bool) (rows : List Row) (m : List ℕ) → length (unmarked adds rows m) ≡ length m
+unmarked-length adds rows m = ap length (unmarked-all adds rows m) ∙ set-length 0 (keep (hasSign adds) (effectsOf rows)) m
+
+has-cleared : (m : List ℕ) (e : ℕ) → e < length m → has (set m e 0) e ≡ false
+unfolding has
+has-cleared m e h = rw (getD-set-same m e 0 0 h)
+
+has-other : (b : Bool) (m : List ℕ) (e l : ℕ) → (l ≡ e → ⊥) → has (cond b (set m e 0) m) l ≡ has m l
+unfolding has
+has-other true m e l ne = rw (getD-set-other m e l 0 0 ne)
+has-other false m e l ne = refl
+
+make-length : (b : Bool) (s : List ℕ) (l : ℕ) → length (makeTrue b s l) ≡ length s
+make-length true s l = length-set s (atom l) (cond (positive l) 1 0)
+make-length false s l = refl
+
+changed-length : (adds : Bool) (rows : List Row) (m s : List ℕ) → length (changed adds rows m s) ≡ length s
+changed-length adds [] m s = refl
+changed-length adds (r ∷ rows) m s =
+    let b = hasSign adds (r .effect) in
+    changed-length adds rows (cond b (set m (r .effect) 0) m) (makeTrue (b && has m (r .effect)) s (r .effect))
+    ∙ make-length (b && has m (r .effect)) s (r .effect)
+
+-- what one row makes of atom a: its own literal, and another one
+own-at :
+    (adds : Bool) (a : ℕ) (m s : List ℕ) → a < length s
+    → getD (makeTrue (has m (literalOf a adds)) s (literalOf a adds)) a 0 ≡ cond (has m (literalOf a adds)) (cond adds 1 0) (getD s a 0)
+own-at adds a m s inside = go (has m (literalOf a adds))
+  where
+    go : (b : Bool) → getD (makeTrue b s (literalOf a adds)) a 0 ≡ cond b (cond adds 1 0) (getD s a 0)
+    go true = rw (literal-atom a adds, literal-positive a adds) (getD-set-same s a (cond adds 1 0) 0 inside)
+    go false = refl
+
+made-other : (b : Bool) (a e : ℕ) (s : List ℕ) → (b ≡ true → a ≡ atom e → ⊥) → getD (makeTrue b s e) a 0 ≡ getD s a 0
+made-other true a e s ne = getD-set-other s (atom e) a (cond (positive e) 1 0) 0 (ne refl)
+made-other false a e s ne = refl
+
+-- an atom changes in a pass exactly if its literal of that sign is marked, and the effect of a row
+pass-at :
+    (adds : Bool) (a : ℕ) (rows : List Row) (m s : List ℕ) → literalOf a adds < length m → a < length s
+    → getD (changed adds rows m s) a 0 ≡ cond (has m (literalOf a adds) && member (literalOf a adds) (effectsOf rows)) (cond adds 1 0) (getD s a 0)
+unfolding member any
+pass-at adds a [] m s low inside = rw (and-false (has m (literalOf a adds)))
+pass-at adds a (r ∷ rows) m s low inside =
+    pass-at adds a rows m′ s′ (subst (λ (k : ℕ). literalOf a adds < k) (sym (set-if-length b m e 0)) low)
+    (subst (λ (k : ℕ). a < k) (sym (make-length (b && has m e) s e)) inside)
+    ∙ go (decide (eqb l e))
+  where
+    l : ℕ
+    l = literalOf a adds
+
+    e : ℕ
+    e = r .effect
+
+    b : Bool
+    b = hasSign adds e
+
+    m′ : List ℕ
+    m′ = cond b (set m e 0) m
+
+    s′ : List ℕ
+    s′ = makeTrue (b && has m e) s e
+
+    more : Bool
+    more = member l (effectsOf rows)
+
+    Says : ℕ → Type 0
+    Says z =
+        cond (has (cond (hasSign adds z) (set m z 0) m) l && more) (cond adds 1 0) (getD (makeTrue (hasSign adds z && has m z) s z) a 0)
+        ≡ cond (has m l && (eqb l z || more)) (cond adds 1 0) (getD s a 0)
+
+    go : (eqb l e ≡ true) ⊎ (eqb l e ≡ false) → Says e
+    go (inl h) =
+        subst Says (eqb-true l e h)
+        (rw (sign-own a adds, has-cleared m l low, eq-eqb l l refl, and-true (has m l)) (own-at adds a m s inside))
+    go (inr h) =
+        rw (
+          has-other b m e l (eqb-false l e h),
+          made-other (b && has m e) a e s (λ x. other-atom a e adds (and-left b (has m e) x) h),
+          h,
+        )
 
 -- ---- the marks of an operator, from none
 module _ (s : List ℕ) (o : Operator) where
@@ -183,26 +235,52 @@ module _ (s : List ℕ) (o : Operator) where
       ∙ set-length 1 (effectsOf (keep (fires s) (o .rows))) (replicate n 0)
       ∙ length-replicate n 0
 
-  -- marking and unmarking leaves no mark
-  pub marks-gone : (n : ℕ) → unmarked (o .rows) (marks n) ≡ replicate n 0
+  -- an effect is that of an add or of a delete, so that both passes leave no mark
+  pub marks-gone : (n : ℕ) → unmarked true (o .rows) (unmarked false (o .rows) (marks n)) ≡ replicate n 0
   marks-gone n =
-      ext-getD 0 (unmarked (o .rows) (marks n)) (replicate n 0) (long ∙ sym (length-replicate n 0))
+      ext-getD 0 gone (replicate n 0) (long ∙ sym (length-replicate n 0))
       (λ l h. let low : l < n = omega (arith, long) in at l low ∙ sym (getD-replicate n l 0 0 low))
     where
-      long : length (unmarked (o .rows) (marks n)) ≡ n
-      long = ap length (unmarked-all (o .rows) (marks n)) ∙ set-length 0 (effectsOf (o .rows)) (marks n) ∙ marks-length n
+      es : List ℕ
+      es = effectsOf (o .rows)
 
-      clear : (l : ℕ) (b c : Bool) → member l (effectsOf (o .rows)) ≡ b → member l (effects s o) ≡ c → _≡_ {A = ℕ} (cond b 0 (cond c 1 0)) 0
-      clear l true c e f = refl
-      clear l false false e f = refl
-      clear l false true e f = never (fired-row l f) e
+      first : List ℕ
+      first = unmarked false (o .rows) (marks n)
 
-      at : (l : ℕ) → l < n → getD (unmarked (o .rows) (marks n)) l 0 ≡ 0
+      gone : List ℕ
+      gone = unmarked true (o .rows) first
+
+      first-long : length first ≡ n
+      first-long = unmarked-length false (o .rows) (marks n) ∙ marks-length n
+
+      long : length gone ≡ n
+      long = unmarked-length true (o .rows) first ∙ first-long
+
+      clear :
+          (l : ℕ) (p f : Bool) → positive l ≡ p → member l (effects s o) ≡ f
+          → _≡_ {A = ℕ} (cond (member l (keep (hasSign true) es)) 0 (cond (member l (keep (hasSign false) es)) 0 (cond f 1 0))) 0
+      clear l p false e f = zeros (member l (keep (hasSign true) es)) (member l (keep (hasSign false) es))
+        where
+          zeros : (x y : Bool) → _≡_ {A = ℕ} (cond x 0 (cond y 0 0)) 0
+          zeros true y = refl
+          zeros false true = refl
+          zeros false false = refl
+      clear l true true e f = rw (kept-sign true l es (fired-row l f) (ap (λ (x : Bool). hasSign x l) (sym e) ∙ sign-self l))
+      clear l false true e f =
+          rw (kept-sign false l es (fired-row l f) (ap (λ (x : Bool). hasSign x l) (sym e) ∙ sign-self l))
+          (same (member l (keep (hasSign true) es)))
+        where
+          same : (x : Bool) → _≡_ {A = ℕ} (cond x 0 0) 0
+          same true = refl
+          same false = refl
+
+      at : (l : ℕ) → l < n → getD gone l 0 ≡ 0
       at l low =
-          ap (λ (z : List ℕ). getD z l 0) (unmarked-all (o .rows) (marks n))
-          ∙ set-at 0 (effectsOf (o .rows)) (marks n) l (omega (arith, marks-length n))
-          ∙ ap (cond (member l (effectsOf (o .rows))) 0) (marks-at n l low)
-          ∙ clear l (member l (effectsOf (o .rows))) (member l (effects s o)) refl refl
+          unmarked-at true (o .rows) first l (omega (arith, first-long))
+          ∙ ap (cond (member l (keep (hasSign true) es)) 0)
+          (unmarked-at false (o .rows) (marks n) l (omega (arith, marks-length n))
+          ∙ ap (cond (member l (keep (hasSign false) es)) 0) (marks-at n l low))
+          ∙ clear l (positive l) (member l (effects s o)) refl refl
 
   -- ---- the marks of the literals of s: first the deletes and then the adds made true is the step
   abbrev marked : List ℕ
@@ -216,66 +294,64 @@ module _ (s : List ℕ) (o : Operator) where
       go true = refl
       go false = refl
 
-  -- an atom is changed in a pass exactly if its literal of that sign fired
-  module _ (adds : Bool) (a : ℕ) (low : literalOf a adds < 2 * length s) where
-    changes : member a (atomsDue marked adds (o .rows)) ≡ true → member (literalOf a adds) (effects s o) ≡ true
-    changes h =
-        let x = map-of atom (keep (due marked adds) (effectsOf (o .rows))) (member-of a _ h) in
-        let d = keep-of (due marked adds) (effectsOf (o .rows)) (x .mem) .1 in
-        let same : literalOf a adds ≡ x .it =
-        ap (λ (k : ℕ). literalOf k adds) (x .same)
-        ∙ ap (literalOf (atom (x .it))) (sym (due-sign marked adds (x .it) d))
-        ∙ literal-same (x .it) in
-        sym (marked-has (literalOf a adds) low) ∙ ap (has marked) same ∙ due-marked marked adds (x .it) d
+  -- the marks of the adds are there after the deletes
+  deletes-done : List ℕ
+  deletes-done = unmarked false (o .rows) marked
 
-    changed-by : member (literalOf a adds) (effects s o) ≡ true → member a (atomsDue marked adds (o .rows)) ≡ true
-    unfolding hasSign
-    changed-by h =
-        let l = literalOf a adds in
-        let d = due-has marked adds l sign true (sym (marked-has l low ∙ h)) in
-        subst (λ (k : ℕ). member k (atomsDue marked adds (o .rows)) ≡ true) (literal-atom a adds)
-        (member-in (map-in atom (keep-in (due marked adds) (member-of l (effectsOf (o .rows)) (fired-row l h)) (sym d))))
-      where
-        self : (b : Bool) → Bool·beq b b ≡ true
-        self true = refl
-        self false = refl
-
-        sign : hasSign adds (literalOf a adds) ≡ true
-        sign = ap (λ (b : Bool). Bool·beq b adds) (literal-positive a adds) ∙ self adds
-
-  pass-at :
-      (adds : Bool) (t : List ℕ) (a : ℕ) → length t ≡ length s → a < length s
-      → getD (changed marked adds (o .rows) t) a 0 ≡ cond (member (literalOf a adds) (effects s o)) (cond adds 1 0) (getD t a 0)
-  pass-at adds t a size h =
-      ap (λ (z : List ℕ). getD z a 0) (changed-all marked adds (o .rows) t)
-      ∙ set-at (cond adds 1 0) (atomsDue marked adds (o .rows)) t a (omega arith)
-      ∙ ap (λ (b : Bool). cond b (cond adds 1 0) (getD t a 0))
-      (same-bool (member a (atomsDue marked adds (o .rows))) (member (literalOf a adds) (effects s o))
-      (changes adds a (low adds))
-      (changed-by adds a (low adds)))
+  adds-marked : (a : ℕ) → a < length s → has deletes-done (2 * a) ≡ member (2 * a) (effects s o)
+  unfolding has deletes-done hasSign
+  adds-marked a h = ap (λ (x : ℕ). eqb x 1) there ∙ marked-has (2 * a) (omega arith)
     where
-      low : (b : Bool) → literalOf a b < 2 * length s
-      low true = omega arith
-      low false = omega arith
+      deletes : List ℕ
+      deletes = keep (hasSign false) (effectsOf (o .rows))
 
-  changed-length : (adds : Bool) (t : List ℕ) → length (changed marked adds (o .rows) t) ≡ length t
-  changed-length adds t = ap length (changed-all marked adds (o .rows) t) ∙ set-length (cond adds 1 0) (atomsDue marked adds (o .rows)) t
+      no-delete : member (2 * a) deletes ≡ false
+      no-delete = refuted (λ k. never (kept-has false (2 * a) (effectsOf (o .rows)) k) (ap (λ (p : Bool). Bool·beq p false) (positive-even a)))
 
-  pub marks-result : changed marked true (o .rows) (changed marked false (o .rows) s) ≡ result s o
-  unfolding result after
+      there : getD deletes-done (2 * a) 0 ≡ getD marked (2 * a) 0
+      there =
+          unmarked-at false (o .rows) marked (2 * a) (omega (arith, marks-length (2 * length s)))
+          ∙ ap (λ (b : Bool). cond b 0 (getD marked (2 * a) 0)) no-delete
+
+  -- a pass with such marks
+  pass-fired :
+      (adds : Bool) (m t : List ℕ) (a : ℕ) → literalOf a adds < length m → a < length t
+      → has m (literalOf a adds) ≡ member (literalOf a adds) (effects s o)
+      → getD (changed adds (o .rows) m t) a 0 ≡ cond (member (literalOf a adds) (effects s o)) (cond adds 1 0) (getD t a 0)
+  pass-fired adds m t a low inside e =
+      pass-at adds a (o .rows) m t low inside
+      ∙ ap (λ (b : Bool). cond (b && member (literalOf a adds) (effectsOf (o .rows))) (cond adds 1 0) (getD t a 0)) e
+      ∙ ap (λ (b : Bool). cond b (cond adds 1 0) (getD t a 0)) (go (decide (member (literalOf a adds) (effects s o))))
+    where
+      l : ℕ
+      l = literalOf a adds
+
+      go :
+          (member l (effects s o) ≡ true) ⊎ (member l (effects s o) ≡ false)
+          → (member l (effects s o) && member l (effectsOf (o .rows))) ≡ member l (effects s o)
+      go (inl h) = and-both h (fired-row l h) ∙ sym h
+      go (inr h) = rw h
+
+  pub marks-result : changed true (o .rows) (unmarked false (o .rows) marked) (changed false (o .rows) marked s) ≡ result s o
+  unfolding result after deletes-done
   marks-result =
-      ext-getD 0 (changed marked true (o .rows) t) (result s o) (long ∙ sym (table-length (after s (effects s o)) (length s)))
+      ext-getD 0 (changed true (o .rows) deletes-done t) (result s o) (long ∙ sym (table-length (after s (effects s o)) (length s)))
       (λ a h.
       let low : a < length s = omega (arith, long) in
-      pass-at true t a (changed-length false s) low
-      ∙ ap (cond (member (2 * a) (effects s o)) 1) (pass-at false s a refl low)
+      let size = unmarked-length false (o .rows) marked ∙ marks-length (2 * length s) in
+      pass-fired true deletes-done t a (omega (arith, size)) (omega (arith, low, size-t)) (adds-marked a low)
+      ∙ ap (cond (member (2 * a) (effects s o)) 1)
+      (pass-fired false marked s a (omega (arith, low, marks-length (2 * length s))) low (marked-has (2 * a + 1) (omega arith)))
       ∙ sym (value-at s o a low))
     where
       t : List ℕ
-      t = changed marked false (o .rows) s
+      t = changed false (o .rows) marked s
 
-      long : length (changed marked true (o .rows) t) ≡ length s
-      long = changed-length true t ∙ changed-length false s
+      size-t : length t ≡ length s
+      size-t = changed-length false (o .rows) marked s
+
+      long : length (changed true (o .rows) deletes-done t) ≡ length s
+      long = changed-length true (o .rows) deletes-done t ∙ size-t
 
 -- ---- the initial state
 pub initial-made : (t : Task) (s : List ℕ) → length s ≡ t .atoms → setAll 1 (t .initial) (replicate (length s) 0) ≡ initialState t

@@ -20,21 +20,19 @@ abbrev pub markFired : List ℕ → List Row → List ℕ → List ℕ
 markFired s [] m = m
 markFired s (r ∷ rs) m = markFired s rs (markIf (fires s r) m (r .effect))
 
--- literal l is marked, and the effect of an add or of a delete
-unfoldable pub due : List ℕ → Bool → ℕ → Bool
-due m adds l = hasSign adds l && has m l
-
 -- literal l made true in s, if the test holds
 abbrev pub makeTrue : Bool → List ℕ → ℕ → List ℕ
 makeTrue true s l = set s (atom l) (cond (positive l) 1 0)
 makeTrue false s l = s
 
--- the state with the marked effects of the rows made true: the adds, or the deletes
-abbrev pub changed : List ℕ → Bool → List Row → List ℕ → List ℕ
-changed m adds [] s = s
-changed m adds (r ∷ rs) s = changed m adds rs (makeTrue (due m adds (r .effect)) s (r .effect))
+-- the marks without the effects of the adds, or of the deletes
+abbrev pub unmarked : Bool → List Row → List ℕ → List ℕ
+unmarked adds [] m = m
+unmarked adds (r ∷ rs) m = unmarked adds rs (cond (hasSign adds (r .effect)) (set m (r .effect) 0) m)
 
--- the marks without the effects of the rows
-abbrev pub unmarked : List Row → List ℕ → List ℕ
-unmarked [] m = m
-unmarked (r ∷ rs) m = unmarked rs (set m (r .effect) 0)
+-- the state with the marked effects of the adds, or of the deletes, made true, one after the other, each mark cleared then
+abbrev pub changed : Bool → List Row → List ℕ → List ℕ → List ℕ
+changed adds [] m s = s
+changed adds (r ∷ rs) m s =
+    changed adds rs (cond (hasSign adds (r .effect)) (set m (r .effect) 0) m)
+    (makeTrue (hasSign adds (r .effect) && has m (r .effect)) s (r .effect))

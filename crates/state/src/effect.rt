@@ -6,7 +6,7 @@ ghost use mathlib.Core.Bool.{true, cond};
 ghost use Rattle.definitions.specs.Literal.{positive};
 ghost use Rattle.definitions.specs.Step.{result};
 ghost use Rattle.task.specs.Walk.{blockParses, operatorIn};
-ghost use Rattle.state.specs.Marks.{markFired, due, makeTrue, changed, unmarked};
+ghost use Rattle.state.specs.Marks.{markFired, makeTrue, changed, unmarked};
 ghost use Rattle.state.specs.Post.{Applies};
 use literal::Literal;
 
@@ -34,61 +34,39 @@ fn truth(l: Literal) -> u8
     if l.is_positive() { 1 } else { 0 }
 }
 
-// Makes a literal true, if `due`.
-fn make_true(due: bool, state: &mut [u8], l: Literal)
-    ensures { λ _. ⌜ now (state .exit) ≡ makeTrue due (now (state .entry)) (l .code) ⌝ }
+// Makes a literal true, if `marked`.
+fn make_true(marked: bool, state: &mut [u8], l: Literal)
+    ensures { λ _. ⌜ now (state .exit) ≡ makeTrue marked (now (state .entry)) (l .code) ⌝ }
 {
     let a = l.atom();
-    if due {
+    if marked {
         if a < state.len() {
             state[a] = truth(l);
         }
     }
 }
 
-// Whether an effect is marked, and adds its atom exactly if `adds`.
-fn is_due(marks: &[u8], effect: Literal, adds: bool) -> bool
-    ensures { λ r. ⌜ r ≡ due (now (marks .entry)) adds (effect .code) ⌝ }
-{
-    if !effect.has_sign(adds) {
-        return false;
-    }
-    literal::flags::has(marks, effect.index())
-}
-
-// Makes the marked effects of a block true: those that add an atom if `adds`, those that delete one if not.
-fn change(block: &[u16], marks: &[u8], adds: bool, state: &mut [u8])
+// Makes the marked effects of a block true, those of the adds if `adds`, those of the deletes if not, and clears their marks.
+fn change(block: &[u16], marks: &mut [u8], adds: bool, state: &mut [u8])
     requires { ⌜ blockParses (now block) ≡ true ⌝ }
-    ensures { λ _. ⌜ now (state .exit) ≡ changed (now (marks .entry)) adds (operatorIn (now (block .entry)) .rows) (now (state .entry)) ⌝ }
+    ensures { λ _. ⌜ (now (state .exit) ≡ changed adds (operatorIn (now (block .entry)) .rows) (now (marks .entry)) (now (state .entry)))
+        × (now (marks .exit) ≡ unmarked adds (operatorIn (now (block .entry)) .rows) (now (marks .entry))) ⌝ }
 {
     let head = task::block::head(block);
     let mut at = head.end + 1;
     let mut left = head.rows;
     while 0 < left {
         let row = task::block::row(block, at, left);
-        let effect = Literal {
-            code: row.effect as u16,
-        };
-        let due = is_due(marks, effect, adds);
-        make_true(due, state, effect);
+        let index = row.effect;
         at = row.end;
         left -= 1;
-    }
-}
-
-// Clears the marks of the effects of a block.
-fn unmark(block: &[u16], marks: &mut [u8])
-    requires { ⌜ blockParses (now block) ≡ true ⌝ }
-    ensures { λ _. ⌜ now (marks .exit) ≡ unmarked (operatorIn (now (block .entry)) .rows) (now (marks .entry)) ⌝ }
-{
-    let head = task::block::head(block);
-    let mut at = head.end + 1;
-    let mut left = head.rows;
-    while 0 < left {
-        let row = task::block::row(block, at, left);
-        literal::flags::put(marks, row.effect, 0);
-        at = row.end;
-        left -= 1;
+        let effect = Literal { code: index as u16 };
+        if !effect.has_sign(adds) {
+            continue;
+        }
+        let marked = literal::flags::has(marks, index);
+        make_true(marked, state, effect);
+        literal::flags::put(marks, index, 0);
     }
 }
 
@@ -101,5 +79,4 @@ pub fn apply(block: &[u16], state: &mut [u8], marks: &mut [u8])
     mark_fired(block, state, marks);
     change(block, marks, task::block::DELETES, state);
     change(block, marks, task::block::ADDS, state);
-    unmark(block, marks);
 }

@@ -17,6 +17,7 @@ pub fn run(bench: &Bench) {
     one(bench, "ring 100", &structured::ring(100));
     one(bench, "briefcase 10 4", &structured::briefcase(10, 4));
     one(bench, "transport 3 8 5", &structured::transport(3, 8, 5));
+    one(bench, "changer 6 8", &structured::changer(6, 8));
     for places in [25, 50, 71, 100, 141] {
         one(
             bench,

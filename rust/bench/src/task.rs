@@ -27,10 +27,12 @@ fn step_benches(bench: &Bench, rng: &mut Rng) {
     let large = random::largest(rng).image();
     let gripper = structured::gripper(4, 3, 2).image();
     let ring = structured::ring(3).image();
+    let changer = structured::changer(6, 8).image();
     let named = [
         ("8192 words", &large),
         ("gripper 4", &gripper),
         ("ring 3", &ring),
+        ("changer 6 8", &changer),
     ];
     for (name, image) in named {
         let list = random_list(rng, image, STEPS);

@@ -5,17 +5,14 @@ use Rattle.state.proofs.effect.apply.Statement.{statement}
 use Rattle.state.proofs.effect.apply.Tie as tie
 
 -- the calls, from the last to the first, and the start
-abbrev at-state2 : tie.After-unmark → tie.After-state2
-at-state2 c = c .before .before .before
+abbrev at-slice5 : tie.After-change2 → tie.After-slice-known5
+at-slice5 c = c .before .before .before
 
-abbrev added : tie.After-unmark → tie.After-change2
-added c = at-state2 c .before
-
-abbrev at-slice4 : tie.After-change2 → tie.After-slice-known4
-at-slice4 c = c .before .before .before
+abbrev at-marks2 : tie.After-change2 → tie.After-marks2
+at-marks2 c = at-slice5 c .before .before .before
 
 abbrev deleted : tie.After-change2 → tie.After-change
-deleted c = at-slice4 c .before .before
+deleted c = at-marks2 c .before
 
 abbrev at-slice3 : tie.After-change → tie.After-slice-known3
 at-slice3 c = c .before .before .before
@@ -29,6 +26,12 @@ at-slice2 c = c .before .before .before
 abbrev start : tie.After-mark-fired → tie.Start
 start c = at-slice2 c .before .before .before
 
+abbrev at-marks3 : tie.After-slice-known7 → tie.After-marks3
+at-marks3 c = c .before .before .before
+
+abbrev added : tie.After-slice-known7 → tie.After-change2
+added c = at-marks3 c .before
+
 mark-fired-requires : tie.Need-mark-fired-requires
 mark-fired-requires c κs = search needs
 
@@ -38,9 +41,6 @@ change-requires c κs = search needs
 change-requires-2 : tie.Need-change-requires-2
 change-requires-2 c κs = search needs
 
-unmark-requires : tie.Need-unmark-requires
-unmark-requires c κs = search needs
-
 same-length : tie.Need-same-length
 same-length c = search needs
 
@@ -49,12 +49,12 @@ same-length-2 c = search needs
 
 returns : tie.Need-returns
 returns c =
-    let u = c .before .before in
-    let d = deleted (added u) in
+    let a = added c in
+    let d = deleted a in
     let f = fired d in
     let s = start f in (
-      rows-applied _ _ _ (s .pre) _ (f .mark-fired .ensures) _ _ (d .change .ensures) (added u .change2 .ensures),
-      marks-cleared _ _ _ (s .pre) _ (f .mark-fired .ensures) _ (u .unmark .ensures),
+      rows-applied _ _ _ (s .pre) _ (f .mark-fired .ensures) _ _ (d .change .ensures) _ _ (a .change2 .ensures),
+      marks-cleared _ _ _ (s .pre) _ (f .mark-fired .ensures) _ _ (d .change .ensures) _ _ (a .change2 .ensures),
     )
 
 pub apply-spec : {M : Type 1} → statement M
@@ -64,7 +64,6 @@ apply-spec =
     mark-fired-requires
     change-requires
     change-requires-2
-    unmark-requires
     same-length
     same-length-2
     returns)

@@ -13,10 +13,10 @@ use Rattle.state.proofs.effect.make_true.Tie as tie
 abbrev start : tie.After-atom → tie.Start
 start c = c .before .before
 
--- the state that the literal makes, where it is due and where not
+-- the state that the literal makes, where it is marked and where not
 made :
-    (c : tie.After-atom) (b : Bool) → start c .args .due ≡ b → let s = start c .args in
-    makeTrue b (s .state .now) (s .l .code) ≡ makeTrue (s .due) (s .state .now) (s .l .code)
+    (c : tie.After-atom) (b : Bool) → start c .args .marked ≡ b → let s = start c .args in
+    makeTrue b (s .state .now) (s .l .code) ≡ makeTrue (s .marked) (s .state .now) (s .l .code)
 made c b e = let s = start c .args in ap (λ (t : Bool). makeTrue t (s .state .now) (s .l .code)) (sym e)
 
 atom-requires : tie.Need-atom-requires
