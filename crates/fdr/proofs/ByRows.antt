@@ -14,6 +14,7 @@ use Rattle.definitions.specs.Fdr.{FdrRow, noDomain}
 use Rattle.definitions.proofs.ListLaws.{or-false-left, or-false-right, any-of, all-at, all-of}
 use Rattle.definitions.proofs.Walks.{below-in}
 use Rattle.definitions.proofs.EncodeLaws.{same-bool}
+use Rattle.literal.proofs.Mark.{put-each-at, put-length}
 use Rattle.fdr.specs.Change.{noChanges, named, become, nonesIn, written, unnoted}
 use Rattle.fdr.specs.Post.{NotedAt, NotedFor}
 use Rattle.fdr.proofs.Applied.{nonesThere, changed, changed-length, changed-at, blank}
@@ -79,27 +80,11 @@ module _ (rows : List FdrRow) (er : rows ≡ []) where
 
 -- ---- what was noted is gone
 unnoted-length : (rows : List FdrRow) (m : List ℕ) → length (unnoted rows m) ≡ length m
-unnoted-length [] m = refl
-unnoted-length (r ∷ rows) m = unnoted-length rows (set m (r .variable) 0) ∙ length-set m (r .variable) 0
+unnoted-length = put-length 0 (λ r. r .variable) (λ r. true)
 
 unnoted-at : (rows : List FdrRow) (m : List ℕ) (v : ℕ) → v < length m → getD (unnoted rows m) v 0 ≡ cond (named rows v) 0 (getD m v 0)
-unfolding named any
-unnoted-at [] m v h = refl
-unnoted-at (r ∷ rows) m v h = go (eqb v (r .variable)) refl (unnoted-at rows (set m (r .variable) 0) v (rw (length-set m (r .variable) 0) h))
-  where
-    same : (t : Bool) → _≡_ {A = ℕ} (cond t 0 0) 0
-    same true = refl
-    same false = refl
-
-    go :
-        (b : Bool) → eqb v (r .variable) ≡ b
-        → getD (unnoted rows (set m (r .variable) 0)) v 0 ≡ cond (named rows v) 0 (getD (set m (r .variable) 0) v 0)
-        → getD (unnoted rows (set m (r .variable) 0)) v 0 ≡ cond (eqb v (r .variable) || named rows v) 0 (getD m v 0)
-    go true e rest =
-        let p : v ≡ r .variable = eqb-true v (r .variable) e in
-        let q : getD (set m (r .variable) 0) v 0 ≡ 0 = rw (← p) (getD-set-same m v 0 0 h) in
-        rest ∙ rw (q, e) (same (named rows v))
-    go false e rest = rest ∙ rw (getD-set-other m (r .variable) v 0 0 (eqb-false v (r .variable) e), e)
+unfolding named
+unnoted-at = put-each-at 0 (λ r. r .variable)
 
 pub notes-gone :
     (rows : List FdrRow) (m₀ m m′ : List ℕ) → m₀ ≡ noChanges → length m ≡ length m₀ → NotedFor rows m₀ m → m′ ≡ unnoted rows m

@@ -11,6 +11,7 @@ use Rattle.definitions.specs.Answer.{Answer, finding, ask, _>>=_}
 use Rattle.definitions.specs.Groups.{Domain}
 use Rattle.definitions.specs.Fdr.{FdrRow, FdrOperator, FdrTask, noDomain, fdrAllTrue}
 use Rattle.definitions.specs.FdrStep.{fdrFired, fdrConflict, noneThere, fdrAfter}
+use Rattle.literal.specs.Mark.{putWhere}
 use Rattle.fdr_image.specs.Walk.{kindOf}
 use Rattle.fdr_image.specs.declared.block.Kind.{Kind}
 use Rattle.fdr_image.specs.declared.block.Kind.the-variants.{Set, Clear, Other}
@@ -71,8 +72,7 @@ written D m (r ∷ rs) s =
 
 -- nothing noted for the variables that the rows name
 abbrev pub unnoted : List FdrRow → List ℕ → List ℕ
-unnoted [] m = m
-unnoted (r ∷ rs) m = unnoted rs (set m (r .variable) 0)
+unnoted = putWhere 0 (λ r. r .variable) (λ r. true)
 
 -- questions 21 and 22, and the step, by the rows that fired
 unfoldable pub applied : FdrTask → List ℕ → List FdrRow → Answer (List ℕ)

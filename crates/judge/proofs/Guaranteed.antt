@@ -1,22 +1,23 @@
 -- The flags of the guaranteed literals are what the walks over the operator's rows leave. Assumes nothing.
-use mathlib.Core.Bool.{Bool, true, false, Bool·beq, not, _&&_, _||_, cond}
+use mathlib.Core.Bool.{Bool, true, false, Bool·beq, not, _&&_, _||_, cond, and-false}
 use mathlib.Core.Logic.{_⊎_, inl, inr}
 use mathlib.Core.Path.{_≡_, refl, sym, _∙_, ap, ap₂, subst}
 use mathlib.Core.List.{List, [], _∷_, _++_, map}
 use Prim.Native.Nat.{ℕ, zero, _*_, _<_}
 use lib.Dec.{eqb}
 use lib.ListN.{length, getD, set}
-use lib.Seq.{getD-set-same, getD-set-other, set-getD, ext-getD}
+use lib.Seq.{set-getD, ext-getD}
 use borrow.Author.Tests.{eqb-true, eqb-false, eq-eqb, ne-eqb}
 use Rattle.definitions.specs.Lists.{any, all, keep, below}
 use Rattle.definitions.specs.Literal.{positive, complement}
 use Rattle.definitions.specs.Image.{Row, Operator}
 use Rattle.definitions.specs.Closure.{has, bit, closure, contradictory}
 use Rattle.definitions.specs.Kept.{rowsWith, allIn, surelyFires, neverFires, madeTrue, staysTrue, guaranteed}
-use Rattle.definitions.proofs.ListLaws.{decide, set-if-length, all-agree, table-at, table-length}
+use Rattle.definitions.proofs.ListLaws.{decide, all-agree, table-at, table-length}
 use Rattle.propagation.proofs.Sets.{complement-back}
 use Rattle.propagation.proofs.Marks.{bit-back}
 use Rattle.literal.specs.Literal.{hasSign}
+use Rattle.literal.proofs.Mark.{put-at, put-length}
 use Rattle.judge.specs.Judging.{flagsOf, flagEffects, canFire, dropChanged, guaranteedFlags}
 
 -- ---- tests of kept lists
@@ -43,6 +44,15 @@ module _ {A : Type 0} (t p : A → Bool) where
       go true e k = rw (e, keep, k)
       go false e k = rw (e, keep, k)
 
+pub all-not : {A : Type 0} (p : A → Bool) (xs : List A) → all (λ x. not (p x)) xs ≡ not (any p xs)
+unfolding all any
+all-not p [] = refl
+all-not p (x ∷ xs) = rw (all-not p xs) (go (p x) (any p xs))
+  where
+    go : (a b : Bool) → (not a && not b) ≡ not (a || b)
+    go true b = refl
+    go false b = refl
+
 -- ---- complements
 pub complement-eqb : (a b : ℕ) → eqb a (complement b) ≡ eqb (complement a) b
 complement-eqb a b = go (decide (eqb a (complement b)))
@@ -53,124 +63,75 @@ complement-eqb a b = go (decide (eqb a (complement b)))
         h
         ∙ sym (ne-eqb (complement a) b (λ e. eqb-false a (complement b) h (sym (complement-back a) ∙ ap complement e)))
 
--- the flag of a literal, positive or not (p), that a row surely makes true (f), that no row can make false (n), and that lies in K (k)
+-- the flag of a literal, positive or not (p), that a row surely makes true (f), that some row can make false (x), and that lies in K (k)
 flag-bits :
-    (p f n k : Bool) → cond (Bool·beq p true && f) 1 (cond n (cond (Bool·beq p false && f) 1 (bit k)) 0) ≡ bit ((f && (p || n)) || (k && n))
+    (p f x k : Bool)
+    → cond (Bool·beq p true && f) 1 (cond x 0 (cond (Bool·beq p false && f) 1 (bit k))) ≡ bit ((f && (p || not x)) || (k && not x))
 unfolding bit
-flag-bits true true n k = refl
+flag-bits true true x k = refl
 flag-bits true false true true = refl
 flag-bits true false true false = refl
 flag-bits true false false true = refl
 flag-bits true false false false = refl
-flag-bits false true true k = refl
-flag-bits false true false true = refl
-flag-bits false true false false = refl
+flag-bits false true true true = refl
+flag-bits false true true false = refl
+flag-bits false true false k = refl
 flag-bits false false true true = refl
 flag-bits false false true false = refl
 flag-bits false false false true = refl
 flag-bits false false false false = refl
 
--- ---- one flag after the walks over the rows
-module _ (b : Bool) (S : List ℕ) (i x m : ℕ) (low : m < length S) where
-  -- a flag where that of i becomes x
-  pub set-at-flag : getD (cond b (set S i x) S) m 0 ≡ cond (eqb i m && b) x (getD S m 0)
-  set-at-flag = go b (decide (eqb i m))
-    where
-      go : (b : Bool) → (eqb i m ≡ true) ⊎ (eqb i m ≡ false) → getD (cond b (set S i x) S) m 0 ≡ cond (eqb i m && b) x (getD S m 0)
-      go false (inl h) = rw h
-      go false (inr h) = rw h
-      go true (inl h) =
-          let e : i ≡ m = eqb-true i m h in
-          rw (h, e) (getD-set-same S m x 0 low)
-      go true (inr h) =
-          let ne = eqb-false i m h in
-          rw h (getD-set-other S i m x 0 (λ e. ne (sym e)))
-
-pub effects-length : (adds : Bool) (K : List ℕ) (qs : List Row) (S : List ℕ) → length (flagEffects adds K qs S) ≡ length S
-unfolding flagEffects
-effects-length adds K [] S = refl
-effects-length adds K (q ∷ qs) S =
-    let b = hasSign adds (q .effect) && allIn K (q .conditions) in
-    effects-length adds K qs (cond b (set S (q .effect) 1) S) ∙ set-if-length b S (q .effect) 1
-
-cond-and : (a b : Bool) (x : ℕ) → cond b (cond a 0 x) 0 ≡ cond (not a && b) x 0
-cond-and true true x = refl
-cond-and true false x = refl
-cond-and false b x = refl
-
--- the flag of m is set if m is the effect of a row of the kind whose conditions lie in K
-pub effects-at :
-    (adds : Bool) (K : List ℕ) (qs : List Row) (S : List ℕ) (m : ℕ) → m < length S
-    → getD (flagEffects adds K qs S) m 0
-    ≡ cond (hasSign adds m && any (λ q. eqb (q .effect) m && allIn K (q .conditions)) qs) 1 (getD S m 0)
-unfolding flagEffects any
-effects-at adds K [] S m low = go (hasSign adds m)
+-- the rows with effect m are all of its sign
+sign-any :
+    (adds : Bool) (K : List ℕ) (qs : List Row) (m : ℕ)
+    → any (λ q. eqb (q .effect) m && (hasSign adds (q .effect) && allIn K (q .conditions))) qs
+    ≡ (hasSign adds m && any (λ q. eqb (q .effect) m && allIn K (q .conditions)) qs)
+unfolding any
+sign-any adds K [] m = sym (and-false (hasSign adds m))
+sign-any adds K (q ∷ qs) m = rw (sign-any adds K qs m) (go (decide (eqb (q .effect) m)))
   where
-    go : (b : Bool) → getD S m 0 ≡ cond (b && false) 1 (getD S m 0)
-    go true = refl
-    go false = refl
-effects-at adds K (q ∷ qs) S m low =
-    effects-at adds K qs T m (subst (λ (k : ℕ). m < k) (sym (set-if-length b S (q .effect) 1)) low)
-    ∙ ap (λ x. cond (hasSign adds m && more) 1 x) (set-at-flag b S (q .effect) 1 m low)
-    ∙ go (decide (eqb (q .effect) m))
-  where
-    b : Bool
-    b = hasSign adds (q .effect) && allIn K (q .conditions)
-
-    T : List ℕ
-    T = cond b (set S (q .effect) 1) S
-
     more : Bool
     more = any (λ q. eqb (q .effect) m && allIn K (q .conditions)) qs
 
-    flag : (k a r : Bool) (x : ℕ) → cond (k && r) 1 (cond (k && a) 1 x) ≡ cond (k && (a || r)) 1 x
-    flag true true true x = refl
-    flag true true false x = refl
-    flag true false r x = refl
-    flag false a r x = refl
+    apart : (k a r : Bool) → ((k && a) || (k && r)) ≡ (k && (a || r))
+    apart true a r = refl
+    apart false a r = refl
 
     go :
         (eqb (q .effect) m ≡ true) ⊎ (eqb (q .effect) m ≡ false)
-        → cond (hasSign adds m && more) 1 (cond (eqb (q .effect) m && b) 1 (getD S m 0))
-        ≡ cond (hasSign adds m && ((eqb (q .effect) m && allIn K (q .conditions)) || more)) 1 (getD S m 0)
+        → ((eqb (q .effect) m && (hasSign adds (q .effect) && allIn K (q .conditions))) || (hasSign adds m && more))
+        ≡ (hasSign adds m && ((eqb (q .effect) m && allIn K (q .conditions)) || more))
     go (inl h) =
         let same : q .effect ≡ m = eqb-true (q .effect) m h in
-        rw (h, ap (hasSign adds) same) (flag (hasSign adds m) (allIn K (q .conditions)) more (getD S m 0))
+        rw (h, ap (hasSign adds) same) (apart (hasSign adds m) (allIn K (q .conditions)) more)
     go (inr h) = rw h
 
+-- the flag of m is set if m is the effect of a row of the sign whose conditions lie in K
+effects-at :
+    (adds : Bool) (K : List ℕ) (qs : List Row) (S : List ℕ) (m : ℕ) → m < length S
+    → getD (flagEffects adds K qs S) m 0
+    ≡ cond (hasSign adds m && any (λ q. eqb (q .effect) m && allIn K (q .conditions)) qs) 1 (getD S m 0)
+effects-at adds K qs S m low =
+    put-at 1 (λ q. q .effect) (λ q. hasSign adds (q .effect) && allIn K (q .conditions)) qs S m low
+    ∙ ap (λ b. cond b 1 (getD S m 0)) (sign-any adds K qs m)
+
+effects-length : (adds : Bool) (K : List ℕ) (qs : List Row) (S : List ℕ) → length (flagEffects adds K qs S) ≡ length S
+effects-length adds K = put-length 1 (λ q. q .effect) (λ q. hasSign adds (q .effect) && allIn K (q .conditions))
+
 module _ (N : ℕ) (C : List (List ℕ)) where
-  pub dropped-length : (ls : List ℕ) (qs : List Row) (S : List ℕ) → length (dropChanged N C ls qs S) ≡ length S
-  unfolding dropChanged
-  dropped-length ls [] S = refl
-  dropped-length ls (q ∷ qs) S =
-      let b = canFire N C ls (q .conditions) in
-      dropped-length ls qs (cond b (set S (complement (q .effect)) 0) S) ∙ set-if-length b S (complement (q .effect)) 0
-
-  -- the flag of m stays if no row with the complement of m can fire
-  pub dropped-at :
-      (ls : List ℕ) (qs : List Row) (S : List ℕ) (m : ℕ) → m < length S → getD (dropChanged N C ls qs S) m 0 ≡ cond
-      (all (λ q. not (eqb (complement (q .effect)) m && canFire N C ls (q .conditions))) qs) (getD S m 0) 0
-  unfolding dropChanged all
-  dropped-at ls [] S m low = refl
-  dropped-at ls (q ∷ qs) S m low =
-      let b = canFire N C ls (q .conditions) in
-      let T = cond b (set S (complement (q .effect)) 0) S in
-      dropped-at ls qs T m (subst (λ (k : ℕ). m < k) (sym (set-if-length b S (complement (q .effect)) 0)) low)
-      ∙ ap (λ x. cond (all (λ q. not (eqb (complement (q .effect)) m && canFire N C ls (q .conditions))) qs) x 0)
-      (set-at-flag b S (complement (q .effect)) 0 m low)
-      ∙ cond-and (eqb (complement (q .effect)) m && b) (all (λ q. not (eqb (complement (q .effect)) m && canFire N C ls (q .conditions))) qs) (getD S m 0)
-
   -- the walks leave the flags of the guaranteed literals
   module _ (o : Operator) (ls : List ℕ) where
     fires-any : (K : List ℕ) (m : ℕ) → surelyFires o K m ≡ any (λ q. eqb (q .effect) m && allIn K (q .conditions)) (o .rows)
     unfolding surelyFires rowsWith
     fires-any K m = any-keep (λ q. eqb (q .effect) m) (λ q. allIn K (q .conditions)) (o .rows)
 
-    never-all :
-        (m : ℕ) → neverFires N C o ls (complement m) ≡ all
-        (λ q. not (eqb (complement (q .effect)) m && canFire N C ls (q .conditions))) (o .rows)
+    -- some row with the complement of m can fire
+    abbrev changes : ℕ → Bool
+    changes m = any (λ q. eqb (complement (q .effect)) m && canFire N C ls (q .conditions)) (o .rows)
+
+    never-any : (m : ℕ) → neverFires N C o ls (complement m) ≡ not (changes m)
     unfolding neverFires rowsWith canFire
-    never-all m =
+    never-any m =
         all-keep (λ q. eqb (q .effect) (complement m)) (λ q. contradictory N (closure N C (ls ++ q .conditions))) (o .rows)
         ∙ all-agree (λ q. not (eqb (q .effect) (complement m)) || contradictory N (closure N C (ls ++ q .conditions)))
         (λ q. not (eqb (complement (q .effect)) m && canFire N C ls (q .conditions)))
@@ -178,6 +139,7 @@ module _ (N : ℕ) (C : List (List ℕ)) where
         (λ q i.
         ap (λ b. not b || contradictory N (closure N C (ls ++ q .conditions))) (complement-eqb (q .effect) m)
         ∙ go (eqb (complement (q .effect)) m) (contradictory N (closure N C (ls ++ q .conditions))))
+        ∙ all-not (λ q. eqb (complement (q .effect)) m && canFire N C ls (q .conditions)) (o .rows)
       where
         go : (a b : Bool) → (not a || b) ≡ not (a && not b)
         go true true = refl
@@ -219,7 +181,7 @@ module _ (N : ℕ) (C : List (List ℕ)) where
         lenD = effects-length false K (o .rows) F ∙ lenF
 
         lenE : length E ≡ 2 * N
-        lenE = dropped-length ls (o .rows) D ∙ lenD
+        lenE = put-length 0 (λ q. complement (q .effect)) (λ q. canFire N C ls (q .conditions)) (o .rows) D ∙ lenD
 
         lenG : length G ≡ 2 * N
         lenG = effects-length true K (o .rows) E ∙ lenE
@@ -230,15 +192,14 @@ module _ (N : ℕ) (C : List (List ℕ)) where
         at : (m : ℕ) → m < 2 * N → getD G m 0 ≡ getD H m 0
         at m low =
             let fires = any (λ q. eqb (q .effect) m && allIn K (q .conditions)) (o .rows) in
-            let safe = all (λ q. not (eqb (complement (q .effect)) m && canFire N C ls (q .conditions))) (o .rows) in
             effects-at true K (o .rows) E m (subst (λ (k : ℕ). m < k) (sym lenE) low)
             ∙ ap (λ x. cond (hasSign true m && fires) 1 x)
-            (dropped-at ls (o .rows) D m (subst (λ (k : ℕ). m < k) (sym lenD) low)
-            ∙ ap (λ x. cond safe x 0)
+            (put-at 0 (λ q. complement (q .effect)) (λ q. canFire N C ls (q .conditions)) (o .rows) D m (subst (λ (k : ℕ). m < k) (sym lenD) low)
+            ∙ ap (λ x. cond (changes m) 0 x)
             (effects-at false K (o .rows) F m (subst (λ (k : ℕ). m < k) (sym lenF) low)
             ∙ ap (λ x. cond (hasSign false m && fires) 1 x) (table-at (λ l. bit (has K l)) (2 * N) m low)))
-            ∙ flag-bits (positive m) fires safe (has K m)
-            ∙ ap₂ (λ a b. bit ((a && (positive m || b)) || (has K m && b))) (sym (fires-any K m)) (sym (never-all m))
+            ∙ flag-bits (positive m) fires (changes m) (has K m)
+            ∙ ap₂ (λ a b. bit ((a && (positive m || b)) || (has K m && b))) (sym (fires-any K m)) (sym (never-any m))
             ∙ sym (table-at (λ m. bit (guaranteed N C o ls K m)) (2 * N) m low)
 
     pub guaranteed-has : (m : ℕ) → m < 2 * N → has (guaranteedFlags N C o ls) m ≡ guaranteed N C o ls (closure N C ls) m
@@ -250,21 +211,17 @@ module _ (N : ℕ) (C : List (List ℕ)) where
 -- ---- the walks over the rows, by the row that comes next
 module _ (adds : Bool) (K : List ℕ) (rs rs′ : List Row) (e : ℕ) (cs S : List ℕ) (next : rs ≡ record { effect = e; conditions = cs } ∷ rs′) where
   pub effects-other : hasSign adds e ≡ false → flagEffects adds K rs S ≡ flagEffects adds K rs′ S
-  unfolding flagEffects
   effects-other k = rw (next, k)
 
   pub effects-made :
       (S′ : List ℕ) → S′ ≡ set S e 1 → hasSign adds e ≡ true → allIn K cs ≡ true
       → flagEffects adds K rs S ≡ flagEffects adds K rs′ S′
-  unfolding flagEffects
   effects-made S′ es k h = rw (next, k, h, es)
 
   pub effects-passed : hasSign adds e ≡ true → allIn K cs ≡ false → flagEffects adds K rs S ≡ flagEffects adds K rs′ S
-  unfolding flagEffects
   effects-passed k h = rw (next, k, h)
 
 pub effects-end : (adds : Bool) (K : List ℕ) (rs : List Row) (S : List ℕ) → rs ≡ [] → flagEffects adds K rs S ≡ S
-unfolding flagEffects
 effects-end adds K rs S h = rw h
 
 module _ (N : ℕ) (C : List (List ℕ)) (ls : List ℕ) where
@@ -272,12 +229,10 @@ module _ (N : ℕ) (C : List (List ℕ)) (ls : List ℕ) where
     pub drop-fires :
         (l : ℕ) (S′ : List ℕ) → l ≡ complement e → S′ ≡ set S l 0 → canFire N C ls cs ≡ true
         → dropChanged N C ls rs S ≡ dropChanged N C ls rs′ S′
-    unfolding dropChanged
     drop-fires l S′ el es h = rw (next, h, es, el)
 
     -- where the flag is zero already
     pub drop-zero : (l : ℕ) → l ≡ complement e → getD S l 0 ≡ 0 → dropChanged N C ls rs S ≡ dropChanged N C ls rs′ S
-    unfolding dropChanged
     drop-zero l el z = rw next (ap (dropChanged N C ls rs′) (go (canFire N C ls cs)))
       where
         same : set S (complement e) 0 ≡ S
@@ -288,11 +243,9 @@ module _ (N : ℕ) (C : List (List ℕ)) (ls : List ℕ) where
         go false = refl
 
     pub drop-passed : canFire N C ls cs ≡ false → dropChanged N C ls rs S ≡ dropChanged N C ls rs′ S
-    unfolding dropChanged
     drop-passed h = rw (next, h)
 
   pub drop-end : (rs : List Row) (S : List ℕ) → rs ≡ [] → dropChanged N C ls rs S ≡ S
-  unfolding dropChanged
   drop-end rs S h = rw h
 
   pub drop-start : (rs rs′ : List Row) (S : List ℕ) → rs ≡ rs′ → dropChanged N C ls rs′ S ≡ dropChanged N C ls rs S

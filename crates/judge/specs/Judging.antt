@@ -3,12 +3,12 @@ use mathlib.Core.Bool.{Bool, true, false, not, _&&_, cond}
 use mathlib.Core.Path.{_≡_}
 use mathlib.Core.List.{List, [], _∷_, _++_, map}
 use Prim.Native.Nat.{ℕ, _*_}
-use lib.ListN.{set}
 use Rattle.definitions.specs.Lists.{any, below, member}
 use Rattle.definitions.specs.Literal.{complement}
 use Rattle.definitions.specs.Image.{Row, Operator}
 use Rattle.definitions.specs.Closure.{has, bit, closure, contradictory}
 use Rattle.literal.specs.Literal.{hasSign}
+use Rattle.literal.specs.Mark.{putWhere}
 use Rattle.definitions.specs.Kept.{allIn, guaranteed, keptCase, kept}
 
 -- a flag for each literal: whether the set holds it
@@ -16,9 +16,8 @@ unfoldable pub flagsOf : ℕ → List ℕ → List ℕ
 flagsOf N K = map (λ l. bit (has K l)) (below (2 * N))
 
 -- the flags with those of the effects of the adds, or of the deletes, whose conditions lie in K
-unfoldable pub flagEffects : Bool → List ℕ → List Row → List ℕ → List ℕ
-flagEffects adds K [] S = S
-flagEffects adds K (q ∷ qs) S = flagEffects adds K qs (cond (hasSign adds (q .effect) && allIn K (q .conditions)) (set S (q .effect) 1) S)
+abbrev pub flagEffects : Bool → List ℕ → List Row → List ℕ → List ℕ
+flagEffects adds K = putWhere 1 (λ q. q .effect) (λ q. hasSign adds (q .effect) && allIn K (q .conditions))
 
 module _ (N : ℕ) (C : List (List ℕ)) where
   -- a row with conditions cs can fire where C and ls hold, as far as the closure says
@@ -26,9 +25,8 @@ module _ (N : ℕ) (C : List (List ℕ)) where
   canFire ls cs = not (contradictory N (closure N C (ls ++ cs)))
 
   -- the flags without those of the complements of the effects of the rows that can fire
-  unfoldable pub dropChanged : List ℕ → List Row → List ℕ → List ℕ
-  dropChanged ls [] S = S
-  dropChanged ls (q ∷ qs) S = dropChanged ls qs (cond (canFire ls (q .conditions)) (set S (complement (q .effect)) 0) S)
+  abbrev pub dropChanged : List ℕ → List Row → List ℕ → List ℕ
+  dropChanged ls = putWhere 0 (λ q. complement (q .effect)) (λ q. canFire ls (q .conditions))
 
   -- a flag for each literal: whether the operator guarantees it
   unfoldable pub guaranteedFlags : Operator → List ℕ → List ℕ

@@ -1,7 +1,7 @@
 -- Laws of the marks: their walks, and that they are the effects of the fired rows. Assumes nothing.
 use mathlib.Core.Path.{_≡_, refl, sym, ap, subst, _∙_}
 use mathlib.Core.Logic.{_⊎_, inl, inr}
-use mathlib.Core.List.{List, [], _∷_, map}
+use mathlib.Core.List.{List, [], _∷_, map, List·Memᴰ}
 use mathlib.Core.Bool.{Bool, true, false, cond, Bool·beq, _&&_, _||_, and-true, and-false}
 use Prim.Native.Nat.{ℕ, zero, suc, _+_, _*_, _≤_, _<_}
 use native.Mathlib.Numerals.{add-one}
@@ -11,61 +11,41 @@ use lib.ListN.{length, getD, take, drop, set, drop-of-length-le, length-set, rep
 use lib.Seq.{drop-cons, getD-set-same, getD-set-other, ext-getD}
 use lib.Dec.{eqb}
 use borrow.Author.Tests.{eqb-true, eqb-false, eq-eqb}
-use Rattle.definitions.specs.Lists.{any, keep, below, member}
+use Rattle.definitions.specs.Lists.{any, below, member}
 use Rattle.definitions.specs.Literal.{atom, positive, stateOf}
 use Rattle.definitions.specs.Image.{Row, Operator, Task, initialState}
 use Rattle.definitions.specs.Step.{fires, effects, after, result}
 use Rattle.definitions.specs.Closure.{has}
-use Rattle.definitions.proofs.ListLaws.{decide, refuted, never, and-left, and-both, set-if-length, keep-in, keep-of, member-in, member-of, map-in}
+use Rattle.definitions.proofs.ListLaws.{any-of, any-in, decide, refuted, never, and-left, and-right, and-both, set-if-length, member-in, map-in}
 use Rattle.definitions.proofs.ListLaws.{table-at, table-length}
-use Rattle.definitions.proofs.LiteralLaws.{is, positive-even}
-use Rattle.definitions.proofs.StepLaws.{fired-of, value-at}
+use Rattle.definitions.proofs.LiteralLaws.{positive-even}
+use Rattle.definitions.proofs.StepLaws.{fired-in, fired-of, value-at}
+use Rattle.definitions.proofs.EncodeLaws.{same-bool}
 use Rattle.literal.specs.Literal.{literalOf, hasSign}
 use Rattle.literal.specs.Mark.{markIf}
+use Rattle.literal.proofs.Mark.{mark-is, put-at, put-each-at, put-length}
 use Rattle.literal.proofs.Sign.{literal-atom, literal-positive, sign-self, sign-own, other-atom}
-use Rattle.state.specs.Marks.{setAll, markFired, makeTrue, changed, unmarked}
+use Rattle.state.specs.Marks.{setTrue, markFired, makeTrue, changed, unmarked}
 
 -- the effects of rows, fired or not
 abbrev effectsOf : List Row → List ℕ
 effectsOf rows = map (λ r. r .effect) rows
 
--- ---- a byte at each place of a list: one place of the walk, the end, and what is then there
+-- ---- the initial state's walk: one atom, and the end
 pub set-on :
     (s s′ xs : List ℕ) (i x : ℕ) → i < length xs → x ≡ getD xs i 0 → s′ ≡ set s x 1
-    → setAll 1 (drop i xs) s ≡ setAll 1 (drop (i + 1) xs) s′
+    → setTrue (drop i xs) s ≡ setTrue (drop (i + 1) xs) s′
 set-on s s′ xs i x h ex es = let one = add-one i in rw (drop-cons xs i 0 h, ← ex, es, one)
 
-pub set-end : (s xs : List ℕ) (i : ℕ) → length xs ≤ i → setAll 1 (drop i xs) s ≡ s
+pub set-end : (s xs : List ℕ) (i : ℕ) → length xs ≤ i → setTrue (drop i xs) s ≡ s
 set-end s xs i h = rw (drop-of-length-le xs {i = i} h)
-
-set-length : (v : ℕ) (xs s : List ℕ) → length (setAll v xs s) ≡ length s
-set-length v [] s = refl
-set-length v (x ∷ xs) s = set-length v xs (set s x v) ∙ length-set s x v
-
-set-at : (v : ℕ) (xs s : List ℕ) (i : ℕ) → i < length s → getD (setAll v xs s) i 0 ≡ cond (member i xs) v (getD s i 0)
-unfolding member any
-set-at v [] s i h = refl
-set-at v (x ∷ xs) s i h = go (eqb i x) refl (set-at v xs (set s x v) i (rw (length-set s x v) h))
-  where
-    same : (t : Bool) → cond t v v ≡ v
-    same true = refl
-    same false = refl
-
-    go :
-        (b : Bool) → eqb i x ≡ b → getD (setAll v xs (set s x v)) i 0 ≡ cond (member i xs) v (getD (set s x v) i 0)
-        → getD (setAll v xs (set s x v)) i 0 ≡ cond (eqb i x || member i xs) v (getD s i 0)
-    go true e rest =
-        let p : i ≡ x = eqb-true i x e in
-        let q : getD (set s x v) i 0 ≡ v = rw (← p) (getD-set-same s i v 0 h) in
-        rest ∙ rw (q, e) (same (member i xs))
-    go false e rest = rest ∙ rw (getD-set-other s x i v 0 (eqb-false i x e), e)
 
 -- ---- the walks over the rows: one row of each, and the end
 pub fired-next :
     (s : List ℕ) (rows rest : List Row) (r : Row) (t : Bool) (m m′ : List ℕ)
     → rows ≡ r ∷ rest → t ≡ fires s r → m′ ≡ markIf t m (r .effect)
     → markFired s rows m ≡ markFired s rest m′
-fired-next s rows rest r t m m′ er et em = rw (er, em, et)
+fired-next s rows rest r t m m′ er et em = rw (er, em, et, mark-is (fires s r) m (r .effect))
 
 pub fired-end : (s : List ℕ) (rows : List Row) (m : List ℕ) → rows ≡ [] → markFired s rows m ≡ m
 fired-end s rows m e = rw e
@@ -94,45 +74,32 @@ module _ (adds : Bool) (rows : List Row) (er : rows ≡ []) where
   pub unmarked-end : (m : List ℕ) → unmarked adds rows m ≡ m
   unmarked-end m = rw er
 
--- ---- each walk puts one byte at the places of a list
-fired-all : (s : List ℕ) (rows : List Row) (m : List ℕ) → markFired s rows m ≡ setAll 1 (effectsOf (keep (fires s) rows)) m
-unfolding keep
-fired-all s [] m = refl
-fired-all s (r ∷ rows) m = go (fires s r) refl (fired-all s rows)
-  where
-    go :
-        (b : Bool) → fires s r ≡ b → ((m : List ℕ) → markFired s rows m ≡ setAll 1 (effectsOf (keep (fires s) rows)) m)
-        → markFired s (r ∷ rows) m ≡ setAll 1 (effectsOf (keep (fires s) (r ∷ rows))) m
-    go true e rec = rw (e, keep) (rec (set m (r .effect) 1))
-    go false e rec = rw (e, keep) (rec m)
-
-unmarked-all : (adds : Bool) (rows : List Row) (m : List ℕ) → unmarked adds rows m ≡ setAll 0 (keep (hasSign adds) (effectsOf rows)) m
-unfolding keep
-unmarked-all adds [] m = refl
-unmarked-all adds (r ∷ rows) m = go (hasSign adds (r .effect)) refl (unmarked-all adds rows)
-  where
-    go :
-        (b : Bool) → hasSign adds (r .effect) ≡ b → ((m : List ℕ) → unmarked adds rows m ≡ setAll 0 (keep (hasSign adds) (effectsOf rows)) m)
-        → unmarked adds (r ∷ rows) m ≡ setAll 0 (keep (hasSign adds) (effectsOf (r ∷ rows))) m
-    go true e rec = rw (e, keep) (rec (set m (r .effect) 0))
-    go false e rec = rw (e, keep) (rec m)
-
--- the literals of one sign in a list
-kept-sign : (b : Bool) (l : ℕ) (es : List ℕ) → member l es ≡ true → hasSign b l ≡ true → member l (keep (hasSign b) es) ≡ true
-kept-sign b l es h k = member-in (keep-in (hasSign b) (member-of l es h) k)
-
-kept-has : (b : Bool) (l : ℕ) (es : List ℕ) → member l (keep (hasSign b) es) ≡ true → hasSign b l ≡ true
-kept-has b l es h = keep-of (hasSign b) es (member-of l (keep (hasSign b) es) h) .1
-
 -- ---- one pass: the value of an atom, and the marks
+-- a row of the sign has effect l
+abbrev clears : Bool → ℕ → List Row → Bool
+clears adds l rows = any (λ r. eqb (r .effect) l && hasSign adds (r .effect)) rows
+
 unmarked-at :
     (adds : Bool) (rows : List Row) (m : List ℕ) (l : ℕ) → l < length m
-    → getD (unmarked adds rows m) l 0 ≡ cond (member l (keep (hasSign adds) (effectsOf rows))) 0 (getD m l 0)
-unmarked-at adds rows m l h =
-    ap (λ (z : List ℕ). getD z l 0) (unmarked-all adds rows m) ∙ set-at 0 (keep (hasSign adds) (effectsOf rows)) m l h
+    → getD (unmarked adds rows m) l 0 ≡ cond (clears adds l rows) 0 (getD m l 0)
+unmarked-at adds rows m l h = put-at 0 (λ r. r .effect) (λ r. hasSign adds (r .effect)) rows m l h
 
 unmarked-length : (adds : Bool) (rows : List Row) (m : List ℕ) → length (unmarked adds rows m) ≡ length m
-unmarked-length adds rows m = ap length (unmarked-all adds rows m) ∙ set-length 0 (keep (hasSign adds) (effectsOf rows)) m
+unmarked-length adds = put-length 0 (λ r. r .effect) (λ r. hasSign adds (r .effect))
+
+clears-by :
+    (adds : Bool) (l : ℕ) (rows : List Row) {r : Row} → List·Memᴰ r rows → l ≡ r .effect → hasSign adds l ≡ true
+    → clears adds l rows ≡ true
+clears-by adds l rows {r} mr e h =
+    any-in (λ r. eqb (r .effect) l && hasSign adds (r .effect)) mr
+    (and-both (eq-eqb (r .effect) l (sym e)) (subst (λ (z : ℕ). hasSign adds z ≡ true) e h))
+
+clears-sign : (adds : Bool) (l : ℕ) (rows : List Row) → clears adds l rows ≡ true → hasSign adds l ≡ true
+clears-sign adds l rows h =
+    let w = any-of (λ r. eqb (r .effect) l && hasSign adds (r .effect)) rows h in
+    let e = eqb (w .it .effect) l in
+    let k = hasSign adds (w .it .effect) in
+    subst (λ (z : ℕ). hasSign adds z ≡ true) (eqb-true (w .it .effect) l (and-left e k (w .passes))) (and-right e k (w .passes))
 
 has-cleared : (m : List ℕ) (e : ℕ) → e < length m → has (set m e 0) e ≡ false
 unfolding has
@@ -223,17 +190,28 @@ module _ (s : List ℕ) (o : Operator) where
   fired-row l h = let f = fired-of s o l h in rw (f .same) (member-in (map-in (λ r. r .effect) (f .mem)))
 
   marks-at : (n l : ℕ) → l < n → getD (marks n) l 0 ≡ cond (member l (effects s o)) 1 0
-  unfolding effects
   marks-at n l h =
-      ap (λ (z : List ℕ). getD z l 0) (fired-all s (o .rows) (replicate n 0))
-      ∙ set-at 1 (effects s o) (replicate n 0) l (rw length-replicate h)
-      ∙ ap (cond (member l (effects s o)) 1) (getD-replicate n l 0 0 h)
+      put-at 1 (λ r. r .effect) (fires s) (o .rows) (replicate n 0) l (rw length-replicate h)
+      ∙ ap (cond fired 1) (getD-replicate n l 0 0 h)
+      ∙ ap (λ (b : Bool). cond b 1 0) (same-bool fired (member l (effects s o)) forth back)
+    where
+      fired : Bool
+      fired = any (λ r. eqb (r .effect) l && fires s r) (o .rows)
+
+      forth : fired ≡ true → member l (effects s o) ≡ true
+      forth k =
+          let w = any-of (λ r. eqb (r .effect) l && fires s r) (o .rows) k in
+          let e = eqb (w .it .effect) l in
+          subst (λ (z : ℕ). member z (effects s o) ≡ true) (eqb-true (w .it .effect) l (and-left e (fires s (w .it)) (w .passes)))
+          (fired-in s o (w .mem) (and-right e (fires s (w .it)) (w .passes)))
+
+      back : member l (effects s o) ≡ true → fired ≡ true
+      back k =
+          let f = fired-of s o l k in
+          any-in (λ r. eqb (r .effect) l && fires s r) (f .mem) (and-both (eq-eqb (f .row .effect) l (sym (f .same))) (f .fired))
 
   marks-length : (n : ℕ) → length (marks n) ≡ n
-  marks-length n =
-      ap length (fired-all s (o .rows) (replicate n 0))
-      ∙ set-length 1 (effectsOf (keep (fires s) (o .rows))) (replicate n 0)
-      ∙ length-replicate n 0
+  marks-length n = put-length 1 (λ r. r .effect) (fires s) (o .rows) (replicate n 0) ∙ length-replicate n 0
 
   -- an effect is that of an add or of a delete, so that both passes leave no mark
   pub marks-gone : (n : ℕ) → unmarked true (o .rows) (unmarked false (o .rows) (marks n)) ≡ replicate n 0
@@ -241,9 +219,6 @@ module _ (s : List ℕ) (o : Operator) where
       ext-getD 0 gone (replicate n 0) (long ∙ sym (length-replicate n 0))
       (λ l h. let low : l < n = omega (arith, long) in at l low ∙ sym (getD-replicate n l 0 0 low))
     where
-      es : List ℕ
-      es = effectsOf (o .rows)
-
       first : List ℕ
       first = unmarked false (o .rows) (marks n)
 
@@ -256,19 +231,22 @@ module _ (s : List ℕ) (o : Operator) where
       long : length gone ≡ n
       long = unmarked-length true (o .rows) first ∙ first-long
 
+      by : (b : Bool) (l : ℕ) → positive l ≡ b → member l (effects s o) ≡ true → clears b l (o .rows) ≡ true
+      by b l e h =
+          let f = fired-of s o l h in
+          clears-by b l (o .rows) (f .mem) (f .same) (ap (λ (x : Bool). hasSign x l) (sym e) ∙ sign-self l)
+
       clear :
           (l : ℕ) (p f : Bool) → positive l ≡ p → member l (effects s o) ≡ f
-          → _≡_ {A = ℕ} (cond (member l (keep (hasSign true) es)) 0 (cond (member l (keep (hasSign false) es)) 0 (cond f 1 0))) 0
-      clear l p false e f = zeros (member l (keep (hasSign true) es)) (member l (keep (hasSign false) es))
+          → _≡_ {A = ℕ} (cond (clears true l (o .rows)) 0 (cond (clears false l (o .rows)) 0 (cond f 1 0))) 0
+      clear l p false e f = zeros (clears true l (o .rows)) (clears false l (o .rows))
         where
           zeros : (x y : Bool) → _≡_ {A = ℕ} (cond x 0 (cond y 0 0)) 0
           zeros true y = refl
           zeros false true = refl
           zeros false false = refl
-      clear l true true e f = rw (kept-sign true l es (fired-row l f) (ap (λ (x : Bool). hasSign x l) (sym e) ∙ sign-self l))
-      clear l false true e f =
-          rw (kept-sign false l es (fired-row l f) (ap (λ (x : Bool). hasSign x l) (sym e) ∙ sign-self l))
-          (same (member l (keep (hasSign true) es)))
+      clear l true true e f = rw (by true l e f)
+      clear l false true e f = rw (by false l e f) (same (clears true l (o .rows)))
         where
           same : (x : Bool) → _≡_ {A = ℕ} (cond x 0 0) 0
           same true = refl
@@ -277,9 +255,9 @@ module _ (s : List ℕ) (o : Operator) where
       at : (l : ℕ) → l < n → getD gone l 0 ≡ 0
       at l low =
           unmarked-at true (o .rows) first l (omega (arith, first-long))
-          ∙ ap (cond (member l (keep (hasSign true) es)) 0)
+          ∙ ap (cond (clears true l (o .rows)) 0)
           (unmarked-at false (o .rows) (marks n) l (omega (arith, marks-length n))
-          ∙ ap (cond (member l (keep (hasSign false) es)) 0) (marks-at n l low))
+          ∙ ap (cond (clears false l (o .rows)) 0) (marks-at n l low))
           ∙ clear l (positive l) (member l (effects s o)) refl refl
 
   -- ---- the marks of the literals of s: first the deletes and then the adds made true is the step
@@ -302,11 +280,8 @@ module _ (s : List ℕ) (o : Operator) where
   unfolding has deletes-done hasSign
   adds-marked a h = ap (λ (x : ℕ). eqb x 1) there ∙ marked-has (2 * a) (omega arith)
     where
-      deletes : List ℕ
-      deletes = keep (hasSign false) (effectsOf (o .rows))
-
-      no-delete : member (2 * a) deletes ≡ false
-      no-delete = refuted (λ k. never (kept-has false (2 * a) (effectsOf (o .rows)) k) (ap (λ (p : Bool). Bool·beq p false) (positive-even a)))
+      no-delete : clears false (2 * a) (o .rows) ≡ false
+      no-delete = refuted (λ k. never (clears-sign false (2 * a) (o .rows) k) (ap (λ (p : Bool). Bool·beq p false) (positive-even a)))
 
       there : getD deletes-done (2 * a) 0 ≡ getD marked (2 * a) 0
       there =
@@ -354,21 +329,21 @@ module _ (s : List ℕ) (o : Operator) where
       long = changed-length true (o .rows) deletes-done t ∙ size-t
 
 -- ---- the initial state
-pub initial-made : (t : Task) (s : List ℕ) → length s ≡ t .atoms → setAll 1 (t .initial) (replicate (length s) 0) ≡ initialState t
-unfolding initialState stateOf
+pub initial-made : (t : Task) (s : List ℕ) → length s ≡ t .atoms → setTrue (t .initial) (replicate (length s) 0) ≡ initialState t
+unfolding initialState stateOf member
 initial-made t s size =
-    ext-getD 0 (setAll 1 (t .initial) z) (map (stateOf (t .initial)) (below (t .atoms))) (long ∙ sym (table-length (stateOf (t .initial)) (t .atoms)))
+    ext-getD 0 (setTrue (t .initial) z) (map (stateOf (t .initial)) (below (t .atoms))) (long ∙ sym (table-length (stateOf (t .initial)) (t .atoms)))
     (λ a h.
     let low : a < t .atoms = omega (arith, long) in
-    set-at 1 (t .initial) z a (omega (arith, length-replicate {A = ℕ} (length s) 0))
+    put-each-at 1 (λ a. a) (t .initial) z a (omega (arith, length-replicate {A = ℕ} (length s) 0))
     ∙ ap (cond (member a (t .initial)) 1) (getD-replicate (length s) a 0 0 (omega arith))
     ∙ sym (table-at (stateOf (t .initial)) (t .atoms) a low))
   where
     z : List ℕ
     z = replicate (length s) 0
 
-    long : length (setAll 1 (t .initial) z) ≡ t .atoms
-    long = set-length 1 (t .initial) z ∙ length-replicate (length s) 0 ∙ size
+    long : length (setTrue (t .initial) z) ≡ t .atoms
+    long = put-length 1 (λ a. a) (λ a. true) (t .initial) z ∙ length-replicate (length s) 0 ∙ size
 
 pub take-zeros : (k n : ℕ) → k ≤ n → take k (replicate {A = ℕ} n 0) ≡ replicate k 0
 take-zeros zero n h = refl

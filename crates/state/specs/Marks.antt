@@ -8,17 +8,15 @@ use Rattle.definitions.specs.Image.{Row}
 use Rattle.definitions.specs.Step.{fires}
 use Rattle.definitions.specs.Closure.{has}
 use Rattle.literal.specs.Literal.{hasSign}
-use Rattle.literal.specs.Mark.{markIf}
+use Rattle.literal.specs.Mark.{putWhere}
 
--- the byte v at each place of a list
-abbrev pub setAll : ℕ → List ℕ → List ℕ → List ℕ
-setAll v [] s = s
-setAll v (x ∷ xs) s = setAll v xs (set s x v)
+-- a state with the atoms of a list made true
+abbrev pub setTrue : List ℕ → List ℕ → List ℕ
+setTrue = putWhere 1 (λ a. a) (λ a. true)
 
--- the effects of the rows that fire in s, marked in m
+-- marks with those of the effects of the rows that fire in s
 abbrev pub markFired : List ℕ → List Row → List ℕ → List ℕ
-markFired s [] m = m
-markFired s (r ∷ rs) m = markFired s rs (markIf (fires s r) m (r .effect))
+markFired s = putWhere 1 (λ r. r .effect) (fires s)
 
 -- literal l made true in s, if the test holds
 abbrev pub makeTrue : Bool → List ℕ → ℕ → List ℕ
@@ -27,8 +25,7 @@ makeTrue false s l = s
 
 -- the marks without the effects of the adds, or of the deletes
 abbrev pub unmarked : Bool → List Row → List ℕ → List ℕ
-unmarked adds [] m = m
-unmarked adds (r ∷ rs) m = unmarked adds rs (cond (hasSign adds (r .effect)) (set m (r .effect) 0) m)
+unmarked adds = putWhere 0 (λ r. r .effect) (λ r. hasSign adds (r .effect))
 
 -- the state with the marked effects of the adds, or of the deletes, made true, one after the other, each mark cleared then
 abbrev pub changed : Bool → List Row → List ℕ → List ℕ → List ℕ

@@ -12,7 +12,7 @@ ghost use Rattle.answer.specs.Answer.{verdictAnswer, testAnswer, countAnswer};
 ghost use Rattle.answer.specs.Reader.{stateAnswer};
 ghost use Rattle.task.specs.Reads.{taskOf, Reads};
 ghost use Rattle.task.specs.Walk.{blockParses, operatorIn};
-ghost use Rattle.state.specs.Marks.{setAll};
+ghost use Rattle.state.specs.Marks.{setTrue};
 ghost use Rattle.state.specs.Post.{taskReader, Standing, Applies, applied};
 use answer::Counted;
 use answer::Refusal;
@@ -154,7 +154,7 @@ pub fn goal_met(image: &[u16], state: &[u8]) -> Tested
 
 // Makes the atoms of a list true.
 fn set_true(state: &mut [u8], atoms: &[u16])
-    ensures { λ _. ⌜ now (state .exit) ≡ setAll 1 (now (atoms .entry)) (now (state .entry)) ⌝ }
+    ensures { λ _. ⌜ now (state .exit) ≡ setTrue (now (atoms .entry)) (now (state .entry)) ⌝ }
 {
     let mut i: usize = 0;
     while i < atoms.len() {

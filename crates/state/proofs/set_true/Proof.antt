@@ -3,7 +3,7 @@ use Prim.Native.Nat.{_≤_, _-_}
 use mathlib.Core.Path.{_≡_, refl, sym, _∙_}
 use native.Mathlib.Omega.{arith}
 use lib.ListN.{length, drop}
-use Rattle.state.specs.Marks.{setAll}
+use Rattle.state.specs.Marks.{setTrue}
 use Rattle.state.proofs.Marks.{set-on, set-end}
 use borrow.Author.Needs.{needs}
 use Rattle.state.proofs.set_true.Statement.{statement}
@@ -12,7 +12,7 @@ use Rattle.state.proofs.set_true.Tie as tie
 abbrev Inv-loop : tie.InvT-loop
 Inv-loop state₀ atoms i₀ state i =
     (i ≤ length atoms)
-    × ((length state ≡ length state₀) × (setAll 1 atoms state₀ ≡ setAll 1 (drop i atoms) state))
+    × ((length state ≡ length state₀) × (setTrue atoms state₀ ≡ setTrue (drop i atoms) state))
 
 abbrev μ-loop : tie.MeasureT-loop
 μ-loop state₀ atoms i₀ state i = length atoms - i

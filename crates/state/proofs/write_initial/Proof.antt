@@ -4,7 +4,7 @@ use mathlib.Core.List.{List}
 use Prim.Native.Nat.{ℕ}
 use lib.ListN.{length, replicate}
 use Rattle.task.specs.Reads.{taskOf}
-use Rattle.state.specs.Marks.{setAll}
+use Rattle.state.specs.Marks.{setTrue}
 use Rattle.state.proofs.Marks.{initial-made}
 use borrow.Author.Needs.{needs}
 use Rattle.state.proofs.write_initial.Statement.{statement}
@@ -43,8 +43,8 @@ returns c =
     let s = start e in
     let zeros : List ℕ = replicate (length (s .args .state .now)) 0 in
     d .set-true .ensures
-    ∙ ap (setAll 1 (i .initial .result .now)) (e .clear .ensures)
-    ∙ ap (λ (xs : List ℕ). setAll 1 xs zeros) (i .initial .ensures)
+    ∙ ap (setTrue (i .initial .result .now)) (e .clear .ensures)
+    ∙ ap (λ (xs : List ℕ). setTrue xs zeros) (i .initial .ensures)
     ∙ initial-made (taskOf (s .args .image .now)) (s .args .state .now) (s .pre .1)
 
 pub write-initial-spec : {M : Type 1} → statement M
