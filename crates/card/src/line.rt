@@ -1,5 +1,6 @@
 // The lines of the card but those of groups.
 use answer::Refusal;
+use clause::place::RowPlace;
 use literal::Literal;
 ghost use mathlib.Core.Path.{_≡_};
 ghost use Prim.Native.Nat.{_+_, _≤_};
@@ -48,13 +49,12 @@ fn write_clauses(out: &mut [u8], at: usize, clauses: &[u16]) -> usize
     requires { ⌜ at + length (each clauseLine (clausesOf (now clauses))) ≤ length (now out) ⌝ }
     ensures { λ r. ⌜ Wrote (now (out .entry)) at (each clauseLine (clausesOf (now (clauses .entry)))) (now (out .exit)) r ⌝ }
 {
-    let count = clause::rows(clauses);
     let mut to = at;
-    let mut i: usize = 0;
-    while i < count {
-        let row = clause::row(clauses, i);
+    let mut place = RowPlace::first();
+    while place.is_in(clauses) {
+        let row = place.row(clauses);
         to = write_clause(out, to, clause::literals(row));
-        i += 1;
+        place = place.next();
     }
     to
 }

@@ -16,18 +16,18 @@ ghost use Rattle.checker.specs.Search.{falseAnswer, FirstFlag, Judging, 
 use answer::Refusal;
 use answer::Verdict;
 use clause::WIDTH;
+use clause::place::RowPlace;
 
 // Whether all clauses hold in a state, or a refusal that names the lowest one that is false there.
 pub fn check_true(clauses: &[u16], state: &[u8]) -> Verdict
     ensures { λ r. ⌜ verdictAnswer r ≡ falseAnswer (firstFail (holdsIn (now (state .entry))) 0 (clausesOf (now (clauses .entry)))) ⌝ }
 {
-    let count = clause::rows(clauses);
-    let mut i: usize = 0;
-    while i < count {
-        if !clause::holds(clause::row(clauses, i), state) {
-            return answer::refuse_at(Refusal::CLAUSE_FALSE, i);
+    let mut place = RowPlace::first();
+    while place.is_in(clauses) {
+        if !clause::holds(place.row(clauses), state) {
+            return answer::refuse_at(Refusal::CLAUSE_FALSE, place.number);
         }
-        i += 1;
+        place = place.next();
     }
     Verdict::Fine
 }

@@ -1,3 +1,4 @@
 pub mod Rows
 pub mod Order
 pub mod Search
+pub mod Place

@@ -1,4 +1,5 @@
 // Which groups have the value none: all but those in which all atoms of a clause of positive literals lie.
+use clause::place::RowPlace;
 use literal::Literal;
 ghost use mathlib.Core.Path.{_≡_};
 ghost use mathlib.Core.Bool.{true, cond};
@@ -54,11 +55,10 @@ pub fn omit_all(clauses: &[u16], places: &[u16], none: &mut [u16])
     requires { ⌜ (Within (now clauses) (now places)) × ((i : ℕ) → getD (now places) i 0 < length (now none)) ⌝ }
     ensures { λ _. ⌜ ((v : ℕ) → getD (now (none .exit)) v 0 ≡ cond (any (liesIn (now (places .entry)) v) (clausesOf (now (clauses .entry)))) 0 (getD (now (none .entry)) v 0)) ⌝ }
 {
-    let count = clause::rows(clauses);
-    let mut i: usize = 0;
-    while i < count {
-        let row = clause::row(clauses, i);
+    let mut place = RowPlace::first();
+    while place.is_in(clauses) {
+        let row = place.row(clauses);
         omit(clause::literals(row), places, none);
-        i += 1;
+        place = place.next();
     }
 }

@@ -1,4 +1,5 @@
 // The lines of a text, written into a lent buffer from a place on. Each function that writes gives the place after the bytes that it wrote.
+use clause::place::RowPlace;
 use literal::Literal;
 ghost use mathlib.Core.Path.{_≡_};
 ghost use Prim.Native.Nat.{_+_, _≤_};
@@ -58,13 +59,12 @@ fn write_rows(out: &mut [u8], at: usize, clauses: &[u16]) -> usize
     requires { ⌜ at + length (each rowLine (clausesOf (now clauses))) ≤ length (now out) ⌝ }
     ensures { λ r. ⌜ Wrote (now (out .entry)) at (each rowLine (clausesOf (now (clauses .entry)))) (now (out .exit)) r ⌝ }
 {
-    let count = clause::rows(clauses);
     let mut to = at;
-    let mut i: usize = 0;
-    while i < count {
-        let row = clause::row(clauses, i);
+    let mut place = RowPlace::first();
+    while place.is_in(clauses) {
+        let row = place.row(clauses);
         to = write_row(out, to, clause::literals(row));
-        i += 1;
+        place = place.next();
     }
     to
 }

@@ -1,4 +1,5 @@
 // The number of bytes of a text, before it is written.
+use clause::place::RowPlace;
 use literal::Literal;
 ghost use mathlib.Core.Path.{_≡_};
 ghost use Prim.Native.Nat.{_≤_};
@@ -37,13 +38,12 @@ fn rows_length(clauses: &[u16]) -> usize
     requires { ⌜ rowCount (now clauses) ≤ mostRows ⌝ }
     ensures { λ r. ⌜ r ≡ length (each rowLine (clausesOf (now (clauses .entry)))) ⌝ }
 {
-    let count = clause::rows(clauses);
     let mut sum: usize = 0;
-    let mut i: usize = 0;
-    while i < count {
-        let row = clause::row(clauses, i);
+    let mut place = RowPlace::first();
+    while place.is_in(clauses) {
+        let row = place.row(clauses);
         sum += row_length(clause::literals(row));
-        i += 1;
+        place = place.next();
     }
     sum
 }

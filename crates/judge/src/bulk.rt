@@ -12,6 +12,7 @@ ghost use Rattle.judge.specs.Judging.{lacksFlag, flagMore, guaranteedFla
 ghost use Rattle.judge.specs.Promise.{Given, BulkGiven, ConsistentClosure, ClosedGiven, FlagsGuaranteed};
 ghost use Rattle.propagation.specs.Marks.{Asked, ConsistentMarks};
 ghost use Rattle.task.specs.Walk.{row, operatorIn};
+use clause::place::RowPlace;
 use propagation::Closing;
 use task::block::BlockHead;
 use task::block::RowPart;
@@ -44,13 +45,12 @@ fn lacks_flag(row: &[u16], l: u16, flags: &[u8]) -> bool
 fn some_holds(judged: &[u16], l: u16) -> bool
     ensures { λ r. ⌜ r ≡ any (member l) (clausesOf (now (judged .entry))) ⌝ }
 {
-    let count = clause::rows(judged);
-    let mut i: usize = 0;
-    while i < count {
-        if clause::has_literal(clause::row(judged, i), l) {
+    let mut place = RowPlace::first();
+    while place.is_in(judged) {
+        if clause::has_literal(place.row(judged), l) {
             return true;
         }
-        i += 1;
+        place = place.next();
     }
     false
 }
@@ -60,15 +60,15 @@ fn flag_lacking(judged: &[u16], l: u16, flags: &[u8], fails: &mut [u8])
     requires { ⌜ length (now fails) ≡ rowCount (now judged) ⌝ }
     ensures { λ _. ⌜ now (fails .exit) ≡ flagMore (lacksFlag l (now (flags .entry))) (clausesOf (now (judged .entry))) (now (fails .entry)) ⌝ }
 {
-    let count = clause::rows(judged);
-    let mut i: usize = 0;
-    while i < count {
-        let at = i;
-        i += 1;
-        if !lacks_flag(clause::row(judged, at), l, flags) {
+    let mut place = RowPlace::first();
+    while place.is_in(judged) {
+        let here = place;
+        place = place.next();
+        if !lacks_flag(here.row(judged), l, flags) {
             continue;
         }
-        fails[at] = 1;
+        let number = here.number;
+        fails[number] = 1;
     }
 }
 

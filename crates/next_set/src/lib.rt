@@ -8,7 +8,7 @@ ghost use Rattle.task.specs.Reads.{taskOf};
 ghost use Rattle.clause_set.specs.Held.{Holds};
 ghost use Rattle.next_set.specs.Build.{fitted};
 ghost use Rattle.next_set.specs.Post.{Copied, TestedRound};
-use clause::WIDTH;
+use clause::place::RowPlace;
 use clause_set::Built;
 
 pub mod test; // test.rt: the test of all clauses under all operators
@@ -19,19 +19,19 @@ fn copy_unflagged(clauses: &[u16], flags: &[u8], work: &mut [u16]) -> usize
     requires { ⌜ (length (now flags) ≡ rowCount (now clauses)) × (length (now clauses) ≤ length (now work)) ⌝ }
     ensures { λ r. ⌜ Copied (now (clauses .entry)) (now (flags .entry)) (now (work .exit)) r ⌝ }
 {
-    let size = clause::rows(clauses);
-    let mut count: usize = 0;
-    let mut i: usize = 0;
-    while i < size {
-        let at = i;
-        i += 1;
-        if flags[at] == 1 {
+    let mut to = RowPlace::first();
+    let mut from = RowPlace::first();
+    while from.is_in(clauses) {
+        let here = from;
+        from = from.next();
+        let number = here.number;
+        if flags[number] == 1 {
             continue;
         }
-        writing::words(clause::row(clauses, at), work, WIDTH * count);
-        count += 1;
+        writing::words(here.row(clauses), work, to.at);
+        to = to.next();
     }
-    count
+    to.number
 }
 
 // Builds the next set in `work`, where the clauses that fail have their flag and `due` says which operators fail clauses of how many literals.

@@ -17,21 +17,23 @@ ghost use Rattle.judge.specs.Judging.{failFlags};
 ghost use Rattle.next_set.specs.Build.{failsBelow};
 ghost use Rattle.next_set.specs.Post.{ReadWithRoom, FlagsAdded, FailuresNoted};
 use clause::WIDTH;
+use clause::place::RowPlace;
 
 // Adds flags of clauses to those of `to`. In `due`, from place `at` on, it flags the numbers of literals of the flagged clauses.
 fn add_flags(clauses: &[u16], flags: &[u8], to: &mut [u8], due: &mut [u8], at: usize)
     requires { ⌜ (length (now flags) ≡ rowCount (now clauses)) × (length (now flags) ≡ length (now to)) × (at ≤ width * mostOperators) ⌝ }
     ensures { λ _. ⌜ ((p : List ℕ → Bool) → now (flags .entry) ≡ map (λ f. bit (p f)) (clausesOf (now (clauses .entry))) → FlagsAdded p (clausesOf (now (clauses .entry))) at (now (to .entry)) (now (to .exit)) (now (due .entry)) (now (due .exit))) ⌝ }
 {
-    let mut i: usize = 0;
-    while i < flags.len() {
-        let row = i;
-        i += 1;
-        if flags[row] != 1 {
+    let mut place = RowPlace::first();
+    while place.is_in(clauses) {
+        let here = place;
+        place = place.next();
+        let number = here.number;
+        if flags[number] != 1 {
             continue;
         }
-        to[row] = 1;
-        let literals = clause::literals(clause::row(clauses, row));
+        to[number] = 1;
+        let literals = clause::literals(here.row(clauses));
         literal::flags::put(due, at + literals.len(), 1);
     }
 }

@@ -9,6 +9,7 @@ ghost use Rattle.definitions.specs.Image.{Task};
 ghost use Rattle.definitions.specs.Clauses.{width};
 ghost use Rattle.definitions.specs.Step.{operatorAt};
 ghost use Rattle.clause.specs.Rows.{rowCount, clausesOf};
+ghost use Rattle.clause.specs.Place.{AtRow};
 ghost use Rattle.task.specs.Reads.{taskOf};
 ghost use Rattle.task.specs.Walk.{operatorIn};
 ghost use Rattle.judge.specs.Judging.{failFlags};
@@ -18,6 +19,7 @@ ghost use Rattle.clause_set.specs.Held.{held, Room, Holds};
 ghost use Rattle.next_set.specs.Build.{isDue, addedRow, addedBy, addedAt, addedFrom};
 ghost use Rattle.next_set.specs.Post.{Listed, ListedGuarantees, Weakening, WeakensAt, WeakensBelow};
 use clause::WIDTH;
+use clause::place::RowPlace;
 use clause_set::Built;
 
 // Lists the literals that have their flag.
@@ -68,36 +70,39 @@ fn judge_listed(
     list_flagged(&flags[..size], list)
 }
 
-// Whether row `i` has `k` literals and its flag.
-fn is_due(clauses: &[u16], flags: &[u8], k: usize, i: usize) -> bool
-    requires { ⌜ (length (now flags) ≡ rowCount (now clauses)) × (i < rowCount (now clauses)) ⌝ }
-    ensures { λ r. ⌜ r ≡ isDue (clausesOf (now (clauses .entry))) (now (flags .entry)) k i ⌝ }
+// Whether the row at a place has `k` literals and its flag.
+fn is_due(clauses: &[u16], flags: &[u8], k: usize, place: RowPlace) -> bool
+    requires { ⌜ (length (now flags) ≡ rowCount (now clauses)) × AtRow (now clauses) place ⌝ }
+    ensures { λ r. ⌜ r ≡ isDue (clausesOf (now (clauses .entry))) (now (flags .entry)) k (place .number) ⌝ }
 {
-    if flags[i] != 1 {
+    let number = place.number;
+    if flags[number] != 1 {
         return false;
     }
-    let literals = clause::literals(clause::row(clauses, i));
+    let literals = clause::literals(place.row(clauses));
     literals.len() == k
 }
 
-// Puts the clause of row `i` in with each literal of a list, if it has `k` literals and its flag.
+// Puts the clause of the row at a place in with each literal of a list, if it has `k` literals and its flag.
 fn weaken_row(
     clauses: &[u16],
     flags: &[u8],
     list: &[u16],
     k: usize,
-    i: usize,
+    place: RowPlace,
     work: &mut [u16],
     count: usize,
     rows: usize,
 ) -> Built
-    requires { ⌜ Weakening (now clauses) (now flags) (now list) k × Room rows count (now work) × (i < rowCount (now clauses)) ⌝ }
-    ensures { λ r. ⌜ Holds rows r (now (work .exit)) (putAll rows (addedRow (clausesOf (now (clauses .entry))) (now (flags .entry)) (now (list .entry)) k i) (some (held count (now (work .entry))))) ⌝ }
+    requires { ⌜ Weakening (now clauses) (now flags) (now list) k × Room rows count (now work) × AtRow (now clauses) place ⌝ }
+    ensures { λ r. ⌜ Holds rows r (now (work .exit))
+        (putAll rows (addedRow (clausesOf (now (clauses .entry))) (now (flags .entry)) (now (list .entry)) k (place .number))
+        (some (held count (now (work .entry))))) ⌝ }
 {
-    if !is_due(clauses, flags, k, i) {
+    if !is_due(clauses, flags, k, place) {
         return Built::Rows(count);
     }
-    let literals = clause::literals(clause::row(clauses, i));
+    let literals = clause::literals(place.row(clauses));
     clause_set::put_with_each(literals, list, work, count, rows)
 }
 
@@ -114,11 +119,10 @@ fn weaken_rows(
     requires { ⌜ Weakening (now clauses) (now flags) (now list) k × Room rows count (now work) ⌝ }
     ensures { λ r. ⌜ Holds rows r (now (work .exit)) (putAll rows (each (addedRow (clausesOf (now (clauses .entry))) (now (flags .entry)) (now (list .entry)) k) (range 0 (rowCount (now (clauses .entry))))) (some (held count (now (work .entry))))) ⌝ }
 {
-    let size = clause::rows(clauses);
     let mut taken = count;
-    let mut i: usize = 0;
-    while i < size {
-        let built = weaken_row(clauses, flags, list, k, i, work, taken, rows);
+    let mut place = RowPlace::first();
+    while place.is_in(clauses) {
+        let built = weaken_row(clauses, flags, list, k, place, work, taken, rows);
         match built {
             Built::Full => {
                 return Built::Full;
@@ -127,7 +131,7 @@ fn weaken_rows(
                 taken = more;
             }
         }
-        i += 1;
+        place = place.next();
     }
     Built::Rows(taken)
 }

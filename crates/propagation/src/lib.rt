@@ -1,6 +1,7 @@
 // Propagation: the closure of clauses and literals in a mark buffer. From the clauses and literals given it marks the least set of
 // literals that holds those given and, for each clause all of whose literals but one have their complement in it, that one.
 use clause::WIDTH;
+use clause::place::RowPlace;
 use literal::Literal;
 ghost use mathlib.Core.Path.{_≡_};
 ghost use mathlib.Core.Bool.{true};
@@ -113,14 +114,14 @@ fn walk(clauses: &[u16], marks: &mut [u8]) -> Pass
     ensures { λ r. ⌜ Passed (now (clauses .entry)) (now (marks .entry)) (now (marks .exit)) r ⌝ }
 {
     let mut pass = Pass::Same;
-    let mut at: usize = 0;
-    'walk: while at < clauses.len() {
-        let row = at;
-        at += WIDTH;
+    let mut place = RowPlace::first();
+    'walk: while place.is_in(clauses) {
+        let at = place.at;
+        place = place.next();
         let mut first = Literal::FILL;
         let mut k: usize = 0;
         while k < WIDTH {
-            let word = clauses[row + k];
+            let word = clauses[at + k];
             let scan = scan_word(marks, word, first);
             match scan {
                 Scan::Same => {}

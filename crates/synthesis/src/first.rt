@@ -10,6 +10,7 @@ ghost use Rattle.definitions.specs.Synthesis.{firstSet};
 ghost use Rattle.task.specs.Reads.{taskOf, Reads};
 ghost use Rattle.synthesis.specs.Rounds.{unitsFrom};
 use clause::WIDTH;
+use clause::place::RowPlace;
 use literal::Literal;
 
 // Writes the one-literal clauses true in a state into rows of fill.
@@ -17,11 +18,13 @@ fn write_units(state: &[u8], words: &mut [u16])
     requires { ⌜ (length (now state) ≤ mostAtoms) × (isState (length (now state)) (now state) ≡ true) × (now words ≡ replicate (width * length (now state)) fill) ⌝ }
     ensures { λ _. ⌜ now (words .exit) ≡ clauseWords (unitsFrom (now (state .entry)) 0 (length (now (state .entry)))) ⌝ }
 {
-    let mut a: usize = 0;
-    while a < state.len() {
+    let mut place = RowPlace::first();
+    while place.number < state.len() {
+        let a = place.number;
+        let at = place.at;
         let l = Literal::new(a as u16, state[a] == 1);
-        words[WIDTH * a] = l.code;
-        a += 1;
+        words[at] = l.code;
+        place = place.next();
     }
 }
 

@@ -1,0 +1,63 @@
+-- Laws of places of rows, for the walks over rows. Assumes nothing.
+use mathlib.Core.Path.{_≡_, refl, sym, _∙_, ap}
+use mathlib.Core.Bool.{Bool, true, false}
+use mathlib.Core.List.{List}
+use Prim.Native.Nat.{ℕ, _+_, _-_, _*_, _^_, _≤_, _<_}
+use native.Mathlib.Omega.{arith}
+use lib.Dec.{ltb, leb}
+use lib.ListN.{length}
+use borrow.Author.Tests.{ltb-true, ltb-false, lt-ltb, le-ltb, leb-true, leb-false}
+use Rattle.definitions.specs.Clauses.{width}
+use Rattle.clause.specs.Rows.{rowCount}
+use Rattle.clause.specs.Place.{At, Placed, AtRow, Follows, Precedes}
+use Rattle.clause.specs.declared.place.RowPlace.{RowPlace}
+use Rattle.clause.proofs.RowLaws.{row-inside}
+
+at-position : {p : RowPlace} (n : ℕ) → At n p → p .at ≡ width * p .number
+at-position n a = a .position ∙ ap (λ (k : ℕ). width * k) (sym (a .number))
+
+-- a walk starts
+pub placed-first : {w : List ℕ} {p : RowPlace} → At 0 p → Placed w p
+placed-first a = record { position = at-position 0 a; inside = omega (arith, a .number) }
+
+module _ {w : List ℕ} {p : RowPlace} (placed : Placed w p) where
+  pub place-inside : p .at ≤ length w
+  unfolding width rowCount
+  place-inside = omega (arith, placed .position, placed .inside)
+
+  pub at-row : p .number < rowCount w → AtRow w p
+  at-row h = record { position = placed .position; inside = h }
+
+  -- by the walk's test there is a row, or none is left
+  pub is-row : {r : Bool} → r ≡ ltb (p .number) (rowCount w) → r ≡ true → AtRow w p
+  is-row e h = at-row (ltb-true (p .number) (rowCount w) (sym e ∙ h))
+
+  pub no-row : {r : Bool} → r ≡ ltb (p .number) (rowCount w) → r ≡ false → rowCount w ≤ p .number
+  no-row e h = ltb-false (p .number) (rowCount w) (sym e ∙ h)
+
+  -- the code's test
+  pub row-left : leb width (length w - p .at) ≡ ltb (p .number) (rowCount w)
+  unfolding width rowCount
+  row-left = go (leb width (length w - p .at)) refl
+    where
+      go : (r : Bool) → leb width (length w - p .at) ≡ r → leb width (length w - p .at) ≡ ltb (p .number) (rowCount w)
+      go true e = e ∙ sym (lt-ltb (p .number) (rowCount w) (omega (arith, placed .position, leb-true width (length w - p .at) e)))
+      go false e = e ∙ sym (le-ltb (p .number) (rowCount w) (omega (arith, placed .position, leb-false width (length w - p .at) e)))
+
+module _ {w : List ℕ} {p : RowPlace} (row : AtRow w p) where
+  pub row-ends : p .at + width ≤ length w
+  row-ends = omega (arith, row .position, row-inside w (p .number) (row .inside))
+
+  -- the next row
+  pub follows : length w < 2 ^ 64 → Follows p
+  follows h = record { position = row .position; fits = omega (arith, row-ends) }
+
+  pub placed-next : {q : RowPlace} → At (p .number + 1) q → Placed w q
+  placed-next a = record { position = at-position (p .number + 1) a; inside = omega (arith, row .inside, a .number) }
+
+  -- the row before
+  pub precedes : (p .number ≡ 0 → ⊥) → Precedes p
+  precedes h = record { position = row .position; some-row = omega arith }
+
+  pub row-before : {q : RowPlace} → At (p .number - 1) q → AtRow w q
+  row-before a = record { position = at-position (p .number - 1) a; inside = omega (arith, row .inside, a .number) }
