@@ -3,11 +3,12 @@ use mathlib.Core.Path.{_≡_, refl, sym, _∙_, ap}
 use mathlib.Core.Bool.{Bool, true, false}
 use mathlib.Core.List.{List}
 use Prim.Native.Nat.{ℕ, _+_, _-_, _*_, _^_, _≤_, _<_}
+use native.Mathlib.Nat.{mul-suc, mul-zero}
 use native.Mathlib.Omega.{arith}
 use lib.Dec.{ltb, leb}
-use lib.ListN.{length}
+use lib.ListN.{length, take, drop}
 use borrow.Author.Tests.{ltb-true, ltb-false, lt-ltb, le-ltb, leb-true, leb-false}
-use Rattle.definitions.specs.Clauses.{width}
+use Rattle.definitions.specs.Clauses.{width, rowAt}
 use Rattle.clause.specs.Rows.{rowCount}
 use Rattle.clause.specs.Place.{At, Placed, AtRow, Follows, Precedes}
 use Rattle.clause.specs.declared.place.RowPlace.{RowPlace}
@@ -20,6 +21,9 @@ at-position n a = a .position ∙ ap (λ (k : ℕ). width * k) (sym (a .number))
 pub placed-first : {w : List ℕ} {p : RowPlace} → At 0 p → Placed w p
 placed-first a = record { position = at-position 0 a; inside = omega (arith, a .number) }
 
+pub first-position : {p : RowPlace} → At 0 p → p .at ≡ 0
+first-position a = a .position ∙ mul-zero width
+
 module _ {w : List ℕ} {p : RowPlace} (placed : Placed w p) where
   pub place-inside : p .at ≤ length w
   unfolding width rowCount
@@ -27,6 +31,10 @@ module _ {w : List ℕ} {p : RowPlace} (placed : Placed w p) where
 
   pub at-row : p .number < rowCount w → AtRow w p
   at-row h = record { position = placed .position; inside = h }
+
+  pub rows-end : rowCount w ≤ p .number → length w < p .at + width
+  unfolding width rowCount
+  rows-end h = omega (arith, placed .position)
 
   -- by the walk's test there is a row, or none is left
   pub is-row : {r : Bool} → r ≡ ltb (p .number) (rowCount w) → r ≡ true → AtRow w p
@@ -48,12 +56,20 @@ module _ {w : List ℕ} {p : RowPlace} (row : AtRow w p) where
   pub row-ends : p .at + width ≤ length w
   row-ends = omega (arith, row .position, row-inside w (p .number) (row .inside))
 
+  -- the words of the row
+  pub row-words : take width (drop (p .at) w) ≡ rowAt w (p .number)
+  unfolding rowAt
+  row-words = rw (row .position)
+
   -- the next row
   pub follows : length w < 2 ^ 64 → Follows p
   follows h = record { position = row .position; fits = omega (arith, row-ends) }
 
   pub placed-next : {q : RowPlace} → At (p .number + 1) q → Placed w q
   placed-next a = record { position = at-position (p .number + 1) a; inside = omega (arith, row .inside, a .number) }
+
+  pub next-position : {q : RowPlace} → At (p .number + 1) q → q .at ≡ p .at + width
+  next-position a = omega (arith, a .position, row .position, mul-suc width (p .number))
 
   -- the row before
   pub precedes : (p .number ≡ 0 → ⊥) → Precedes p

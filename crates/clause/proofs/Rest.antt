@@ -1,33 +1,16 @@
--- The row that starts at a word, and the literals left of it at word k: for walks over the rows and their words. Assumes nothing.
+-- The literals left at word k of the row that starts at a word: for walks over the rows and their words. Assumes nothing.
 use mathlib.Core.Path.{_≡_, refl, sym, _∙_, ap}
-use mathlib.Core.Bool.{true}
 use mathlib.Core.List.{List, [], _∷_, _++_}
-use Prim.Native.Nat.{ℕ, zero, suc, _+_, _-_, _*_, _/_, _%_, _≤_, _<_}
+use Prim.Native.Nat.{ℕ, zero, suc, _+_, _-_, _≤_, _<_}
 use native.Mathlib.Numerals.{add-one}
 use native.Mathlib.Decide.{ℕ-discrete}
 use native.Mathlib.Omega.{arith}
 use lib.ListN.{length, getD, take, drop, replicate, length-take, length-drop}
 use lib.Seq.{getD-take, getD-drop}
 use Rattle.definitions.specs.Literal.{fill}
-use Rattle.definitions.specs.Clauses.{width, rowOf, clauseOf, clauseRight, rowAt}
-use Rattle.clause.specs.Rows.{rowCount, clauseAt, RightRows}
+use Rattle.definitions.specs.Clauses.{width, rowOf, clauseOf}
+use Rattle.clause.specs.Rows.{clauseAt}
 use Rattle.clause.proofs.Words.{clause-none, clause-fill, clause-cons, clause-stop, clause-on, clause-end}
-
-aligned-row : (w : List ℕ) (at : ℕ) → at % width ≡ 0 → at + width ≤ length w → (width * (at / width) ≡ at) × (at / width < rowCount w)
-unfolding rowCount width
-aligned-row w at e h = (omega arith, omega arith)
-
--- a row that starts within whole rows ends within them
-pub row-fits : (n at : ℕ) → n % width ≡ 0 → at % width ≡ 0 → at < n → at + width ≤ n
-unfolding width
-row-fits n at a b h = omega arith
-
--- the row at a word where rows start is right
-pub start-right : (N : ℕ) (w : List ℕ) (at : ℕ) → RightRows N w → at % width ≡ 0 → at + width ≤ length w → clauseRight N (take width (drop at w)) ≡ true
-unfolding rowAt
-start-right N w at rows e h =
-    let a = aligned-row w at e h in
-    rw (a .0) at (rows .right (at / width) (a .1))
 
 -- ---- after a fill stands only fill
 fill-none : (m j : ℕ) → clauseOf (drop j (replicate m fill)) ≡ []

@@ -3,7 +3,7 @@ use mathlib.Core.Path.{_≡_, refl, ap, _∙_}
 use mathlib.Core.Bool.{true, false}
 use mathlib.Core.Logic.{_⊎_, inl, inr, ⊎-elim}
 use mathlib.Core.List.{List, [], _∷_, List·Memᴰ, List·Memᴰ·head, List·Memᴰ·tail}
-use Prim.Native.Nat.{ℕ, _+_, _%_, _≤_, _<_}
+use Prim.Native.Nat.{ℕ, _+_, _≤_, _<_}
 use native.Mathlib.Omega.{arith}
 use lib.ListN.{length, take, drop, set, length-set}
 use Rattle.definitions.specs.Literal.{complement}
@@ -17,18 +17,6 @@ use Rattle.propagation.specs.declared.Pass.the-variants.{Same, Grown, Co
 use Rattle.propagation.specs.Walk.{In, ClosedAt, Clash, zeros, Sound, Reached, Passed}
 use Rattle.propagation.proofs.Sets.{set-in, set-least, set-bits, set-consistent, zeros-set, no-bit, forces-more, forces-by}
 
-zero-aligned : 0 % width ≡ 0
-unfolding width
-zero-aligned = omega arith
-
-next-aligned : (at : ℕ) → at % width ≡ 0 → (at + width) % width ≡ 0
-unfolding width
-next-aligned at e = omega arith
-
-past : (n at : ℕ) → n ≤ at → n < at + width
-unfolding width
-past n at h = omega arith
-
 -- the set s₀ at the walk's start, the set s now, the place of the next row, and the answer so far
 abbrev pub Progress : List ℕ → List ℕ → List ℕ → ℕ → Pass → Type 0
 Progress w s₀ s at Same = (s ≡ s₀) × ((f : List ℕ) → List·Memᴰ f (clausesOf w) → List·Memᴰ f (clausesFrom w at) ⊎ ClosedAt s₀ f)
@@ -37,7 +25,6 @@ Progress w s₀ s at Contradictory = ⊥
 
 pub record Walk (w s₀ s : List ℕ) (at : ℕ) (answer : Pass) : Type 0 where
   pub reached : Reached (clausesOf w) s₀ s
-  pub aligned : at % width ≡ 0
   pub ahead : (f : List ℕ) → List·Memᴰ f (clausesFrom w at) → List·Memᴰ f (clausesOf w)
   pub progress : Progress w s₀ s at answer
 
@@ -48,14 +35,13 @@ pub walk-start : (w s : List ℕ) → Sound s → Walk w s s 0 Same
 walk-start w s o =
     record {
       reached = reached-self (clausesOf w) s o;
-      aligned = zero-aligned;
       ahead = λ f m. rw from-start at m;
       progress = (refl, λ f m. inl (rw from-start m));
     }
 
-pub walk-end : (w s₀ s : List ℕ) (at : ℕ) (answer : Pass) → length w ≤ at → Walk w s₀ s at answer → Passed w s₀ s answer
+pub walk-end : (w s₀ s : List ℕ) (at : ℕ) (answer : Pass) → length w < at + width → Walk w s₀ s at answer → Passed w s₀ s answer
 walk-end w s₀ s at Same h k =
-    (k .progress .0, λ f m. ⊎-elim (λ z. absurd (elim (rw (from-end w at (past (length w) at h)) at z) [ ])) (λ d. d) (k .progress .1 f m))
+    (k .progress .0, λ f m. ⊎-elim (λ z. absurd (elim (rw (from-end w at h) at z) [ ])) (λ d. d) (k .progress .1 f m))
 walk-end w s₀ s at Grown h k = (k .reached, k .progress)
 walk-end w s₀ s at Contradictory h k = absurd (k .progress)
 
@@ -83,12 +69,9 @@ module _ (w s₀ s : List ℕ) (at : ℕ) (h : at + width ≤ length w) (answer 
   pub this : List·Memᴰ (clauseAt w at) (clausesOf w)
   this = k .ahead (clauseAt w at) (rw (from-next w at h) (List·Memᴰ·head refl))
 
-  aligned-next : (at + width) % width ≡ 0
-  aligned-next = next-aligned at (k .aligned)
-
   -- it forces nothing new
   pub pass-row : ClosedAt s (clauseAt w at) → Walk w s₀ s (at + width) answer
-  pass-row cl = record { reached = k .reached; aligned = aligned-next; ahead = ahead-next; progress = pass-progress answer cl (k .progress) }
+  pass-row cl = record { reached = k .reached; ahead = ahead-next; progress = pass-progress answer cl (k .progress) }
 
   -- all of its literals have their complement in the set
   pub clash-row :
@@ -129,7 +112,6 @@ module _ (w s₀ s : List ℕ) (at : ℕ) (h : at + width ≤ length w) (answer 
           above = λ l p. set-in s u b l (q .above l p);
           least = λ T c p. set-least s u b T (q .least T c p) (c (clauseAt w at) this u (forces-more s T u (clauseAt w at) (q .least T c p) fo));
         };
-        aligned = aligned-next;
         ahead = ahead-next;
         progress = fewer answer (set s u 1) (k .progress) (zeros-set s u b (no-bit s u (q .bits) off));
       }

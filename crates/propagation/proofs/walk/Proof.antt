@@ -10,8 +10,9 @@ use Rattle.propagation.specs.declared.Pass.the-variants.{Grown}
 use denote.Ref.{now}
 use Rattle.definitions.specs.Literal.{fill}
 use Rattle.definitions.specs.Clauses.{width, clauseRight}
-use Rattle.clause.specs.Rows.{clauseAt, RightRows}
-use Rattle.clause.proofs.Rest.{row-fits, start-right}
+use Rattle.clause.specs.Rows.{rowCount, clauseAt, RightRows}
+use Rattle.clause.specs.Place.{Placed, AtRow}
+use Rattle.clause.proofs.PlaceLaws.{placed-first, first-position, is-row, no-row, rows-end, row-ends, row-words, follows, placed-next, next-position}
 use Rattle.clause.proofs.ReadLaws.{read-right}
 use Rattle.definitions.proofs.RowsRead.{right-row}
 use Rattle.clause.proofs.ClauseLaws.{clause-below}
@@ -27,41 +28,61 @@ use Rattle.propagation.proofs.walk.Statement.{statement}
 use Rattle.propagation.proofs.walk.Tie as tie
 
 abbrev Inv-loop : tie.InvT-loop
-Inv-loop clauses marks pass at row first₀ k₀ first k = (k ≤ width) × Scanning clauses marks row k first
+Inv-loop clauses marks pass place at first₀ k₀ first k = (k ≤ width) × Scanning clauses marks at k first
 
 abbrev μ-loop : tie.MeasureT-loop
-μ-loop clauses marks pass at row first₀ k₀ first k = width - k
+μ-loop clauses marks pass place at first₀ k₀ first k = width - k
 
 abbrev Inv-walk : tie.InvT-walk
-Inv-walk clauses marks₀ pass₀ at₀ marks pass at = Walk clauses marks₀ marks at pass
+Inv-walk clauses marks₀ pass₀ place₀ marks pass place = Placed clauses place × Walk clauses marks₀ marks (place .at) pass
 
 abbrev μ-walk : tie.MeasureT-walk
-μ-walk clauses marks₀ pass₀ at₀ marks pass at = length clauses - at
+μ-walk clauses marks₀ pass₀ place₀ marks pass place = rowCount clauses - place .number
 
--- in the outer loop: the clause words, the set at the start and now, the row's place and the answer so far
+-- at the outer loop's head: the clause words
+abbrev head : Type 0
+head = tie.At-walk Inv-loop μ-loop Inv-walk μ-walk
+
+abbrev lent : head → tie.After-slice-known Inv-loop μ-loop Inv-walk μ-walk
+lent h = h .before .before
+
+abbrev start-of : head → tie.Start Inv-loop μ-loop Inv-walk μ-walk
+start-of h = lent h .before .before
+
+abbrev words-of : head → List ℕ
+words-of h = now (start-of h .args .clauses)
+
+-- where there is a row
+row-of-test : (t : tie.Then1 Inv-loop μ-loop Inv-walk μ-walk) → let h = t .before .before in AtRow (words-of h) (h .walk .place)
+row-of-test t = is-row (t .before .before .walk .inv .0) (t .before .is-in .ensures) (t .if1 .taken)
+
+-- in the outer loop: the clause words, the set at the start and now, the row's place and position, and the answer so far
 abbrev outer : Type 0
-outer = tie.In-walk Inv-loop μ-loop Inv-walk μ-walk
+outer = tie.After-next Inv-loop μ-loop Inv-walk μ-walk
 
-abbrev head : outer → tie.At-walk Inv-loop μ-loop Inv-walk μ-walk
-head w = w .before
+abbrev at-head : outer → head
+at-head w = w .before .before .before
 
 abbrev start : outer → tie.Start Inv-loop μ-loop Inv-walk μ-walk
-start w = head w .before .before .before
+start w = start-of (at-head w)
 
 abbrev words : outer → List ℕ
-words w = now (start w .args .clauses)
+words w = words-of (at-head w)
 
 abbrev set-first : outer → List ℕ
 set-first w = now (start w .args .marks)
 
 abbrev set-now : outer → List ℕ
-set-now w = w .before .walk .marks
+set-now w = at-head w .walk .marks
 
 abbrev place : outer → ℕ
-place w = w .before .walk .at
+place w = at-head w .walk .place .at
 
 abbrev so-far : outer → Pass
-so-far w = w .before .walk .pass
+so-far w = at-head w .walk .pass
+
+at-row-of : (w : outer) → AtRow (words w) (at-head w .walk .place)
+at-row-of w = row-of-test (w .before)
 
 ready : (w : outer) → Ready (words w) (set-first w)
 ready w = start w .pre
@@ -70,7 +91,7 @@ atoms : outer → ℕ
 atoms w = ready w .atoms
 
 state : (w : outer) → Walk (words w) (set-first w) (set-now w) (place w) (so-far w)
-state w = w .before .walk .inv
+state w = at-head w .walk .inv .1
 
 length-now : (w : outer) → length (set-now w) ≡ length (set-first w)
 length-now w = state w .reached .same-length
@@ -80,10 +101,23 @@ unfolding atoms
 rows w = read-right (atoms w) (words w) (ready w .rows)
 
 inside : (w : outer) → place w + width ≤ length (words w)
-inside w = row-fits (length (words w)) (place w) (rows w .ascending .whole) (state w .aligned) (w .walk-test .taken)
+inside w = row-ends (at-row-of w)
 
 row-right : (w : outer) → clauseRight (atoms w) (take width (drop (place w) (words w))) ≡ true
-row-right w = start-right (atoms w) (words w) (place w) (rows w) (state w .aligned) (inside w)
+row-right w = rw (row-words (at-row-of w)) (rows w .right (at-head w .walk .place .number) (at-row-of w .inside))
+
+-- the walk goes on at the next row
+fewer-left : (w : outer) → let c = rowCount (words w) in c - w .next .result .number < c - at-head w .walk .place .number
+fewer-left w = omega (arith, at-row-of w .inside, w .next .ensures .number)
+
+abbrev On : outer → List ℕ → Pass → Type 0
+On w s a = Placed (words w) (w .next .result) × Walk (words w) (set-first w) s (w .next .result .at) a
+
+on : (w : outer) (s : List ℕ) (a : Pass) → Walk (words w) (set-first w) s (place w + width) a → On w s a
+on w s a k = (
+  placed-next (at-row-of w) (w .next .ensures),
+  subst (λ (x : ℕ). Walk (words w) (set-first w) s x a) (sym (next-position (at-row-of w) (w .next .ensures))) k,
+)
 
 -- in the inner loop: the word
 abbrev inner : Type 0
@@ -134,7 +168,7 @@ scan-of c = c .before .before
 
 some-found : (c : opened) → scan-of c .before .loop .first ≡ fill → ⊥
 unfolding fill
-some-found c = c .before .if1 .left
+some-found c = c .before .if2 .left
 
 mark-inside : (c : opened) → c .wide .result < length (set-now (row (scan-of c)))
 mark-inside c = omega (arith, c .wide .ensures .0, scanned (scan-of c) .found (some-found c) .2)
@@ -160,12 +194,20 @@ looked-by c = c .before .before
 abbrev open-of : tie.After-slice-known2 Inv-loop μ-loop Inv-walk μ-walk → opened
 open-of c = c .before
 
-walk-holds : tie.Need-walk-holds Inv-loop μ-loop Inv-walk μ-walk
-walk-holds c = walk-start _ _ (c .before .before .pre .sound)
+first-requires : tie.Need-first-requires Inv-loop μ-loop Inv-walk μ-walk
+first-requires c κs = search needs
 
-add-at : tie.Need-add-at Inv-loop μ-loop Inv-walk μ-walk
-unfolding width
-add-at c = omega (arith, inside c)
+abbrev start-of-first : tie.After-first Inv-loop μ-loop Inv-walk μ-walk → tie.Start Inv-loop μ-loop Inv-walk μ-walk
+start-of-first c = c .before .before .before
+
+walk-holds : tie.Need-walk-holds Inv-loop μ-loop Inv-walk μ-walk
+walk-holds c = (placed-first (c .first .ensures), rw (first-position (c .first .ensures)) (walk-start _ _ (start-of-first c .pre .sound)))
+
+is-in-requires : tie.Need-is-in-requires Inv-loop μ-loop Inv-walk μ-walk
+is-in-requires c κs = c .walk .inv .0
+
+next-requires : tie.Need-next-requires Inv-loop μ-loop Inv-walk μ-walk
+next-requires c κs = follows (row-of-test c) (start-of (c .before .before) .good .0 .0)
 
 loop-holds : tie.Need-loop-holds Inv-loop μ-loop Inv-walk μ-walk
 unfolding fill
@@ -197,7 +239,7 @@ enum-told-3 c = c .match .keys3
 
 walk-less : tie.Need-walk-less Inv-loop μ-loop Inv-walk μ-walk
 unfolding width
-walk-less c = omega (arith, inside (row-of (at (looked-by c))))
+walk-less c = fewer-left (row-of (at (looked-by c)))
 
 walk-again : tie.Need-walk-again Inv-loop μ-loop Inv-walk μ-walk
 unfolding width
@@ -207,7 +249,7 @@ walk-again c =
     let w = row-of i in
     let l = i .before .loop in
     let two = scan-second (words w) (set-now w) (place w) (l .k) (l .first) (l .inv .1) (in-width i) (added o scan.Second (c .enum-told3 .given .1)) in
-    pass-row (words w) (set-first w) (set-now w) (place w) (inside w) (so-far w) (state w) two
+    on w (set-now w) (so-far w) (pass-row (words w) (set-first w) (set-now w) (place w) (inside w) (so-far w) (state w) two)
 
 add-k : tie.Need-add-k Inv-loop μ-loop Inv-walk μ-walk
 unfolding width
@@ -240,15 +282,15 @@ loop-again c =
 wide-requires : tie.Need-wide-requires Inv-loop μ-loop Inv-walk μ-walk
 wide-requires c κs = search needs
 
-slice-read-if2 : tie.Need-slice-read-if2 Inv-loop μ-loop Inv-walk μ-walk
-slice-read-if2 c = mark-inside (open-of c)
+slice-read-if3 : tie.Need-slice-read-if3 Inv-loop μ-loop Inv-walk μ-walk
+slice-read-if3 c = mark-inside (open-of c)
 
 slice-write-marks : tie.Need-slice-write-marks Inv-loop μ-loop Inv-walk μ-walk
 slice-write-marks c = mark-inside (open-of (c .before))
 
 walk-less-2 : tie.Need-walk-less-2 Inv-loop μ-loop Inv-walk μ-walk
 unfolding width
-walk-less-2 c = omega (arith, inside (row (scan-of (open-of (c .before)))))
+walk-less-2 c = fewer-left (row (scan-of (open-of (c .before))))
 
 walk-again-2 : tie.Need-walk-again-2 Inv-loop μ-loop Inv-walk μ-walk
 unfolding width
@@ -261,13 +303,13 @@ walk-again-2 c =
     let some = some-found o in
     let f = scanned a .found some in
     let one = scan-one (words w) (set-now w) (place w) (l .k) (l .first) (scanned a) (all-words a) some in
-    let out = out-byte (set-now w) (l .first) (λ q. c .if2 .taken (ap (λ (x : ℕ). getD (set-now w) x 0) e ∙ q)) in
-    subst (λ (x : ℕ). Walk (words w) (set-first w) (set (set-now w) x 1) (place w + width) Grown) (sym e)
-    (set-row (words w) (set-first w) (set-now w) (place w) (inside w) (so-far w) (state w) (l .first) (f .2) one out (f .1))
+    let out = out-byte (set-now w) (l .first) (λ q. c .if3 .taken (ap (λ (x : ℕ). getD (set-now w) x 0) e ∙ q)) in
+    let next = set-row (words w) (set-first w) (set-now w) (place w) (inside w) (so-far w) (state w) (l .first) (f .2) one out (f .1) in
+    subst (λ (x : ℕ). On w (set (set-now w) x 1) Grown) (sym e) (on w (set (set-now w) (l .first) 1) Grown next)
 
 walk-less-3 : tie.Need-walk-less-3 Inv-loop μ-loop Inv-walk μ-walk
 unfolding width
-walk-less-3 c = omega (arith, inside (row (scan-of (open-of (c .before)))))
+walk-less-3 c = fewer-left (row (scan-of (open-of (c .before))))
 
 walk-again-3 : tie.Need-walk-again-3 Inv-loop μ-loop Inv-walk μ-walk
 unfolding width
@@ -276,15 +318,18 @@ walk-again-3 c =
     let a = scan-of o in
     let w = row a in
     let l = a .before .loop in
-    let there = in-byte (set-now w) (l .first) (ap (λ (x : ℕ). getD (set-now w) x 0) (sym (o .wide .ensures .0)) ∙ c .if2 .left) in
+    let there = in-byte (set-now w) (l .first) (ap (λ (x : ℕ). getD (set-now w) x 0) (sym (o .wide .ensures .0)) ∙ c .if3 .left) in
     let only = scan-only (words w) (set-now w) (place w) (l .k) (l .first) (scanned a) (all-words a) (some-found o) there in
-    pass-row (words w) (set-first w) (set-now w) (place w) (inside w) (so-far w) (state w) only
+    on w (set-now w) (so-far w) (pass-row (words w) (set-first w) (set-now w) (place w) (inside w) (so-far w) (state w) only)
 
 same-length : tie.Need-same-length Inv-loop μ-loop Inv-walk μ-walk
-same-length c = c .before .walk .inv .reached .same-length
+same-length c = c .before .before .walk .inv .1 .reached .same-length
 
 returns : tie.Need-returns Inv-loop μ-loop Inv-walk μ-walk
-returns c = walk-end _ _ _ _ _ (c .walk-test .left) (c .before .walk .inv)
+returns c =
+    let h = c .before .before in
+    let done = no-row (h .walk .inv .0) (c .before .is-in .ensures) (c .if1 .left) in
+    walk-end _ _ _ _ _ (rows-end (h .walk .inv .0) done) (h .walk .inv .1)
 
 same-length-2 : tie.Need-same-length-2 Inv-loop μ-loop Inv-walk μ-walk
 same-length-2 c = length-now (row (c .before))
@@ -296,7 +341,7 @@ returns-2 c =
     let w = row a in
     let l = a .before .loop in
     clash-row (words w) (set-first w) (set-now w) (place w) (inside w) (so-far w) (state w) (atoms w) (row-right w)
-    (scan-none (words w) (set-now w) (place w) (l .k) (l .first) (scanned a) (all-words a) (c .if1 .taken))
+    (scan-none (words w) (set-now w) (place w) (l .k) (l .first) (scanned a) (all-words a) (c .if2 .taken))
 
 pub walk-spec : {M : Type 1} → statement M
 walk-spec =
@@ -306,8 +351,10 @@ walk-spec =
     μ-loop
     Inv-walk
     μ-walk
+    first-requires
     walk-holds
-    add-at
+    is-in-requires
+    next-requires
     loop-holds
     add-word
     mul-word
@@ -322,7 +369,7 @@ walk-spec =
     loop-less
     loop-again
     wide-requires
-    slice-read-if2
+    slice-read-if3
     slice-write-marks
     walk-less-2
     walk-again-2
