@@ -1,14 +1,16 @@
--- `judge::bulk::flag_lacking`: the flags before i are done, the others are still to be given.
-use denote.Ref.{now}
-use Prim.Native.Nat.{_≤_, _<_, _-_}
-use mathlib.Core.Path.{_≡_, refl, sym, _∙_}
-use mathlib.Core.List.{_++_}
+-- `judge::bulk::flag_lacking`: the flags of the rows before the place are done, the others are still to be given. Assumes nothing.
+use Prim.Native.Nat.{ℕ, _<_, _-_, _+_}
+use mathlib.Core.Path.{_≡_, refl, sym, _∙_, ap}
+use mathlib.Core.List.{List, [], _++_}
 use native.Mathlib.Omega.{arith}
-use lib.ListN.{length, take, drop, length-set}
+use lib.ListN.{length, getD, take, drop, length-set}
 use borrow.Author.Tests.{not-true, not-false}
+use Rattle.definitions.specs.Clauses.{clauseOf}
 use Rattle.clause.specs.Rows.{rowCount, clausesOf}
+use Rattle.clause.specs.Place.{Placed, AtRow}
 use Rattle.judge.specs.Judging.{lacksFlag, flagMore}
 use Rattle.clause.proofs.RowLaws.{clauses-length}
+use Rattle.clause.proofs.PlaceLaws.{placed-first, is-row, no-row, follows, placed-next}
 use Rattle.judge.proofs.Rows.{clause-read}
 use Rattle.judge.proofs.Flagged.{flag-set, flag-stay, flag-end}
 use borrow.Author.Needs.{needs}
@@ -16,110 +18,120 @@ use Rattle.judge.proofs.bulk.flag_lacking.Statement.{statement}
 use Rattle.judge.proofs.bulk.flag_lacking.Tie as tie
 
 abbrev Inv-loop : tie.InvT-loop
-Inv-loop judged l flags fails₀ count i₀ fails i =
-    (i ≤ count) × (count ≡ rowCount judged) × (length fails ≡ count) × (length fails ≡ length fails₀) ×
-    (flagMore (lacksFlag l flags) (clausesOf judged) fails₀ ≡ take i fails ++ flagMore (lacksFlag l flags) (drop i (clausesOf judged)) (drop i fails))
+Inv-loop judged l flags fails₀ place₀ fails place =
+    Placed judged place × (length fails ≡ length fails₀) ×
+    (flagMore (lacksFlag l flags) (clausesOf judged) fails₀
+    ≡ take (place .number) fails ++ flagMore (lacksFlag l flags) (drop (place .number) (clausesOf judged)) (drop (place .number) fails))
 
 abbrev μ-loop : tie.MeasureT-loop
-μ-loop judged l flags fails₀ count i₀ fails i = count - i
+μ-loop judged l flags fails₀ place₀ fails place = rowCount judged - place .number
 
-rows-requires : tie.Need-rows-requires Inv-loop μ-loop
-rows-requires c κs = search needs
+-- at the loop's head: the clause words
+abbrev head : Type 0
+head = tie.At-loop Inv-loop μ-loop
 
--- the places of the function
-abbrev at-start : tie.After-shared-slice-known Inv-loop μ-loop → tie.Start Inv-loop μ-loop
-at-start c = c .before
+abbrev lent : head → tie.After-shared-slice-known2 Inv-loop μ-loop
+lent h = h .before .before .before
 
-abbrev after-shared-slice-known : tie.After-rows Inv-loop μ-loop → tie.After-shared-slice-known Inv-loop μ-loop
-after-shared-slice-known c = c .before .before .before
+abbrev start : head → tie.Start Inv-loop μ-loop
+start h = lent h .before .before
 
-abbrev after-rows : tie.At-loop Inv-loop μ-loop → tie.After-rows Inv-loop μ-loop
-after-rows c = c .before
+abbrev words : head → List ℕ
+words h = start h .args .judged .now
 
-abbrev at-loop-of-after-loop : tie.After-loop Inv-loop μ-loop → tie.At-loop Inv-loop μ-loop
-at-loop-of-after-loop c = c .before
+-- in the loop: the row
+abbrev turn : Type 0
+turn = tie.Then1 Inv-loop μ-loop
 
-abbrev at-loop-of-in-loop : tie.In-loop Inv-loop μ-loop → tie.At-loop Inv-loop μ-loop
-at-loop-of-in-loop c = c .before
+abbrev at : turn → head
+at t = t .before .before
 
-abbrev at-start-from-after-loop : tie.After-loop Inv-loop μ-loop → tie.Start Inv-loop μ-loop
-at-start-from-after-loop c = at-start (after-shared-slice-known (after-rows (at-loop-of-after-loop c)))
+row : (t : turn) → AtRow (words (at t)) (at t .loop .place)
+row t = is-row (at t .loop .inv .0) (t .before .is-in .ensures) (t .if1 .taken)
 
-abbrev in-loop-of-else1 : tie.Else1 Inv-loop μ-loop → tie.In-loop Inv-loop μ-loop
-in-loop-of-else1 c = c .before .before .before
+more : (t : turn) → at t .loop .place .number < length (clausesOf (words (at t)))
+more t = omega (arith, row t .inside, clauses-length (words (at t)))
 
-abbrev in-loop-of-then1 : tie.Then1 Inv-loop μ-loop → tie.In-loop Inv-loop μ-loop
-in-loop-of-then1 c = c .before .before .before
+in-flags : (t : turn) → at t .loop .place .number < length (at t .loop .fails)
+in-flags t = omega (arith, row t .inside, at t .loop .inv .1, start (at t) .pre)
 
-abbrev at-start-from-else1 : tie.Else1 Inv-loop μ-loop → tie.Start Inv-loop μ-loop
-at-start-from-else1 c = at-start (after-shared-slice-known (after-rows (at-loop-of-in-loop (in-loop-of-else1 c))))
+-- its clause, and the next place
+abbrev asked : Type 0
+asked = tie.After-lacks-flag Inv-loop μ-loop
 
-abbrev at-start-from-then1 : tie.Then1 Inv-loop μ-loop → tie.Start Inv-loop μ-loop
-at-start-from-then1 c = at-start (after-shared-slice-known (after-rows (at-loop-of-in-loop (in-loop-of-then1 c))))
+abbrev next-of : asked → tie.After-next Inv-loop μ-loop
+next-of q = q .before .before
+
+abbrev turn-of : asked → turn
+turn-of q = next-of q .before
+
+clause : (q : asked) → let h = at (turn-of q) in clauseOf (q .before .row .result .now) ≡ getD (clausesOf (words h)) (h .loop .place .number) []
+clause q = clause-read _ _ _ _ (row (turn-of q) .inside) (q .before .row .ensures) refl
+
+fewer-left : (q : asked) → let h = at (turn-of q) in rowCount (words h) - next-of q .next .result .number < rowCount (words h) - h .loop .place .number
+fewer-left q = omega (arith, row (turn-of q) .inside, next-of q .next .ensures .number)
+
+first-requires : tie.Need-first-requires Inv-loop μ-loop
+first-requires c κs = search needs
 
 loop-holds : tie.Need-loop-holds Inv-loop μ-loop
-loop-holds c = (omega arith, c .rows .ensures, omega (arith, c .rows .ensures, at-start (after-shared-slice-known c) .pre), refl, refl)
+loop-holds c = (placed-first (c .first .ensures), refl, rw (c .first .ensures .number) refl)
 
-add-i : tie.Need-add-i Inv-loop μ-loop
-add-i c = search needs
+is-in-requires : tie.Need-is-in-requires Inv-loop μ-loop
+is-in-requires c κs = c .loop .inv .0
+
+next-requires : tie.Need-next-requires Inv-loop μ-loop
+next-requires c κs = follows (row c) (start (at c) .good .0 .0)
 
 row-requires : tie.Need-row-requires Inv-loop μ-loop
-row-requires c κs = omega (arith, c .before .loop .inv .1)
+row-requires c κs = row (c .before)
 
 lacks-flag-requires : tie.Need-lacks-flag-requires Inv-loop μ-loop
 lacks-flag-requires c κs = search needs
 
 loop-less : tie.Need-loop-less Inv-loop μ-loop
-loop-less c = search needs
+loop-less c = fewer-left (c .before)
 
 loop-again : tie.Need-loop-again Inv-loop μ-loop
 loop-again c =
-    let i = at-loop-of-in-loop (in-loop-of-then1 c) .loop .inv in
-    let w = now (at-start-from-then1 c .args .judged) in
-    let h : (at-loop-of-in-loop (in-loop-of-then1 c)) .loop .i < rowCount w = omega (arith, i .1) in (
-      omega arith,
+    let q = c .before in
+    let t = turn-of q in
+    let i = at t .loop .inv in
+    let a = next-of q .next .ensures in
+    let no = sym (q .lacks-flag .ensures) ∙ not-true _ (c .if2 .taken) in (
+      placed-next (row t) a,
       i .1,
-      i .2,
-      i .3,
-      i .4
-          ∙ flag-stay (lacksFlag _ _) (clausesOf w) _ _ _
-          (clause-read w _ _ _ h (c .before .before .row .ensures) refl)
-          (omega (arith, clauses-length w))
-          (omega (arith, i .2))
-          (sym (c .before .lacks-flag .ensures) ∙ not-true _ (c .if1 .taken)),
+      rw (a .number) (i .2 ∙ flag-stay (lacksFlag _ _) (clausesOf (words (at t))) _ _ _ (clause q) (more t) (in-flags t) no),
     )
 
 slice-write-fails : tie.Need-slice-write-fails Inv-loop μ-loop
-slice-write-fails c = omega (arith, at-loop-of-in-loop (in-loop-of-else1 c) .loop .inv .2)
+slice-write-fails c = in-flags (turn-of (c .before))
 
 loop-less-2 : tie.Need-loop-less-2 Inv-loop μ-loop
-loop-less-2 c = search needs
+loop-less-2 c = fewer-left (c .before)
 
 loop-again-2 : tie.Need-loop-again-2 Inv-loop μ-loop
 loop-again-2 c =
-    let i = at-loop-of-in-loop (in-loop-of-else1 c) .loop .inv in
-    let w = now (at-start-from-else1 c .args .judged) in
-    let h : (at-loop-of-in-loop (in-loop-of-else1 c)) .loop .i < rowCount w = omega (arith, i .1) in (
-      omega arith,
-      i .1,
-      simp length-set (i .2),
-      simp length-set (i .3),
-      i .4
-          ∙ flag-set (lacksFlag _ _) (clausesOf w) _ _ _
-          (clause-read w _ _ _ h (c .before .before .row .ensures) refl)
-          (omega (arith, clauses-length w))
-          (omega (arith, i .2))
-          (sym (c .before .lacks-flag .ensures) ∙ not-false _ (c .if1 .left)),
+    let q = c .before in
+    let t = turn-of q in
+    let i = at t .loop .inv in
+    let a = next-of q .next .ensures in
+    let yes = sym (q .lacks-flag .ensures) ∙ not-false _ (c .if2 .left) in (
+      placed-next (row t) a,
+      simp length-set (i .1),
+      rw (a .number) (i .2 ∙ flag-set (lacksFlag _ _) (clausesOf (words (at t))) _ _ _ (clause q) (more t) (in-flags t) yes),
     )
 
 same-length : tie.Need-same-length Inv-loop μ-loop
-same-length c = c .before .loop .inv .3
+same-length c = c .before .before .loop .inv .1
 
 returns : tie.Need-returns Inv-loop μ-loop
 returns c =
-    let i = c .before .loop .inv in
-    let w = now (at-start-from-after-loop c .args .judged) in
-    sym (i .4 ∙ flag-end (lacksFlag _ _) (clausesOf w) (c .before .loop .fails) (c .before .loop .i) (omega (arith, i .1, clauses-length w)))
+    let h = c .before .before in
+    let l = h .loop in
+    let w = words h in
+    let done = no-row (l .inv .0) (c .before .is-in .ensures) (c .if1 .left) in
+    sym (l .inv .2 ∙ flag-end (lacksFlag _ _) (clausesOf w) (l .fails) (l .place .number) (omega (arith, done, clauses-length w)))
 
 pub flag-lacking-spec : {M : Type 1} → statement M
 flag-lacking-spec =
@@ -127,9 +139,10 @@ flag-lacking-spec =
     (tie.spec
     Inv-loop
     μ-loop
-    rows-requires
+    first-requires
     loop-holds
-    add-i
+    is-in-requires
+    next-requires
     row-requires
     lacks-flag-requires
     loop-less

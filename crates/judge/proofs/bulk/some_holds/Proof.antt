@@ -1,99 +1,107 @@
 -- `judge::bulk::some_holds`: the test of all clauses is the test of those that are left. Assumes nothing.
-use denote.Ref.{now}
-use Prim.Native.Nat.{_≤_, _<_, _-_}
+use Prim.Native.Nat.{ℕ, _<_, _-_}
 use mathlib.Core.Path.{_≡_, refl, sym, _∙_}
-use mathlib.Core.List.{[]}
+use mathlib.Core.List.{List, []}
 use native.Mathlib.Omega.{arith}
-use lib.ListN.{drop}
+use lib.ListN.{length, getD, drop}
 use Rattle.definitions.specs.Lists.{any, member}
+use Rattle.definitions.specs.Clauses.{clauseOf}
 use Rattle.definitions.proofs.Walks.{any-found, any-on, any-end}
 use Rattle.clause.specs.Rows.{rowCount, clausesOf}
+use Rattle.clause.specs.Place.{Placed, AtRow}
 use Rattle.clause.proofs.RowLaws.{clauses-length}
+use Rattle.clause.proofs.PlaceLaws.{placed-first, is-row, no-row, follows, placed-next}
 use Rattle.judge.proofs.Rows.{clause-read}
 use borrow.Author.Needs.{needs}
 use Rattle.judge.proofs.bulk.some_holds.Statement.{statement}
 use Rattle.judge.proofs.bulk.some_holds.Tie as tie
 
 abbrev Inv-loop : tie.InvT-loop
-Inv-loop judged l count i₀ i =
-    (i ≤ count) × (count ≡ rowCount judged) × (any (member l) (clausesOf judged) ≡ any (member l) (drop i (clausesOf judged)))
+Inv-loop judged l place₀ place =
+    Placed judged place × (any (member l) (clausesOf judged) ≡ any (member l) (drop (place .number) (clausesOf judged)))
 
 abbrev μ-loop : tie.MeasureT-loop
-μ-loop judged l count i₀ i = count - i
+μ-loop judged l place₀ place = rowCount judged - place .number
 
-rows-requires : tie.Need-rows-requires Inv-loop μ-loop
-rows-requires c κs = search needs
+-- at the loop's head: the clause words
+abbrev head : Type 0
+head = tie.At-loop Inv-loop μ-loop
+
+abbrev start : head → tie.Start Inv-loop μ-loop
+start h = h .before .before .before
+
+abbrev words : head → List ℕ
+words h = start h .args .judged .now
+
+-- in the loop: the row
+abbrev turn : Type 0
+turn = tie.Then1 Inv-loop μ-loop
+
+abbrev at : turn → head
+at t = t .before .before
+
+row : (t : turn) → AtRow (words (at t)) (at t .loop .place)
+row t = is-row (at t .loop .inv .0) (t .before .is-in .ensures) (t .if1 .taken)
+
+more : (t : turn) → at t .loop .place .number < length (clausesOf (words (at t)))
+more t = omega (arith, row t .inside, clauses-length (words (at t)))
+
+-- and its clause
+abbrev asked : Type 0
+asked = tie.After-has-literal Inv-loop μ-loop
+
+abbrev turn-of : asked → turn
+turn-of q = q .before .before
+
+clause : (q : asked) → let h = at (turn-of q) in clauseOf (q .before .row .result .now) ≡ getD (clausesOf (words h)) (h .loop .place .number) []
+clause q = clause-read _ _ _ _ (row (turn-of q) .inside) (q .before .row .ensures) refl
+
+first-requires : tie.Need-first-requires Inv-loop μ-loop
+first-requires c κs = search needs
 
 loop-holds : tie.Need-loop-holds Inv-loop μ-loop
-loop-holds c = (omega arith, c .rows .ensures, refl)
+loop-holds c = (placed-first (c .first .ensures), rw (c .first .ensures .number) refl)
+
+is-in-requires : tie.Need-is-in-requires Inv-loop μ-loop
+is-in-requires c κs = c .loop .inv .0
 
 row-requires : tie.Need-row-requires Inv-loop μ-loop
-row-requires c κs = omega (arith, c .before .loop .inv .1)
+row-requires c κs = row c
 
 has-literal-requires : tie.Need-has-literal-requires Inv-loop μ-loop
 has-literal-requires c κs = search needs
 
--- the places of the function
-abbrev at-start : tie.At-loop Inv-loop μ-loop → tie.Start Inv-loop μ-loop
-at-start c = c .before .before .before
-
-abbrev at-loop-of-after-loop : tie.After-loop Inv-loop μ-loop → tie.At-loop Inv-loop μ-loop
-at-loop-of-after-loop c = c .before
-
-abbrev at-loop-of-in-loop : tie.In-loop Inv-loop μ-loop → tie.At-loop Inv-loop μ-loop
-at-loop-of-in-loop c = c .before
-
-abbrev in-loop-of-else1 : tie.Else1 Inv-loop μ-loop → tie.In-loop Inv-loop μ-loop
-in-loop-of-else1 c = c .before .before .before
-
-abbrev in-loop-of-then1 : tie.Then1 Inv-loop μ-loop → tie.In-loop Inv-loop μ-loop
-in-loop-of-then1 c = c .before .before .before
-
-abbrev at-start-from-else1 : tie.Else1 Inv-loop μ-loop → tie.Start Inv-loop μ-loop
-at-start-from-else1 c = at-start (at-loop-of-in-loop (in-loop-of-else1 c))
-
-abbrev at-start-from-then1 : tie.Then1 Inv-loop μ-loop → tie.Start Inv-loop μ-loop
-at-start-from-then1 c = at-start (at-loop-of-in-loop (in-loop-of-then1 c))
-
 returns : tie.Need-returns Inv-loop μ-loop
 returns c =
-    let i = at-loop-of-in-loop (in-loop-of-then1 c) .loop .inv in
-    let w = now (at-start-from-then1 c .args .judged) in
-    let h : (at-loop-of-in-loop (in-loop-of-then1 c)) .loop .i < rowCount w = omega (arith, i .1) in
+    let q = c .before in
+    let t = turn-of q in
     sym
-    (i .2
-    ∙ any-found (clausesOf w) _ [] _
-    (clause-read w _ _ _ h (c .before .before .row .ensures) refl)
-    (omega (arith, clauses-length w))
-    (member _)
-    (sym (c .before .has-literal .ensures) ∙ c .if1 .taken))
+    (at t .loop .inv .1
+    ∙ any-found (clausesOf (words (at t))) _ [] _ (clause q) (more t) (member _) (sym (q .has-literal .ensures) ∙ c .if2 .taken))
 
-add-i : tie.Need-add-i Inv-loop μ-loop
-add-i c = search needs
+next-requires : tie.Need-next-requires Inv-loop μ-loop
+next-requires c κs = let t = turn-of (c .before) in follows (row t) (start (at t) .good .0 .0)
+
+-- after the row
+abbrev passed : tie.After-next Inv-loop μ-loop → asked
+passed c = c .before .before
 
 loop-less : tie.Need-loop-less Inv-loop μ-loop
-loop-less c = search needs
+loop-less c = omega (arith, row (turn-of (passed c)) .inside, c .next .ensures .number)
 
 loop-again : tie.Need-loop-again Inv-loop μ-loop
 loop-again c =
-    let i = at-loop-of-in-loop (in-loop-of-else1 c) .loop .inv in
-    let w = now (at-start-from-else1 c .args .judged) in
-    let h : (at-loop-of-in-loop (in-loop-of-else1 c)) .loop .i < rowCount w = omega (arith, i .1) in (
-      omega arith,
-      i .1,
-      i .2
-          ∙ any-on (clausesOf w) _ [] _
-          (clause-read w _ _ _ h (c .before .before .row .ensures) refl)
-          (omega (arith, clauses-length w))
-          (member _)
-          (sym (c .before .has-literal .ensures) ∙ c .if1 .left),
-    )
+    let q = passed c in
+    let t = turn-of q in
+    let on = any-on (clausesOf (words (at t))) _ [] _ (clause q) (more t) (member _) (sym (q .has-literal .ensures) ∙ c .before .if2 .left) in
+    (placed-next (row t) (c .next .ensures), rw (c .next .ensures .number) (at t .loop .inv .1 ∙ on))
 
 returns-2 : tie.Need-returns-2 Inv-loop μ-loop
 returns-2 c =
-    let i = c .before .loop .inv in
-    let w = now (at-start (at-loop-of-after-loop c) .args .judged) in
-    sym (i .2 ∙ any-end (member _) (clausesOf w) (c .before .loop .i) (omega (arith, i .1, clauses-length w)))
+    let h = c .before .before in
+    let w = words h in
+    let done = no-row (h .loop .inv .0) (c .before .is-in .ensures) (c .if1 .left) in
+    sym (h .loop .inv .1 ∙ any-end (member _) (clausesOf w) (h .loop .place .number) (omega (arith, done, clauses-length w)))
 
 pub some-holds-spec : {M : Type 1} → statement M
 some-holds-spec =
@@ -101,12 +109,13 @@ some-holds-spec =
     (tie.spec
     Inv-loop
     μ-loop
-    rows-requires
+    first-requires
     loop-holds
+    is-in-requires
     row-requires
     has-literal-requires
     returns
-    add-i
+    next-requires
     loop-less
     loop-again
     returns-2)
