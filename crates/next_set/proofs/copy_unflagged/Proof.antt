@@ -1,194 +1,142 @@
--- `next_set::copy_unflagged`: the rows before `i` that have no flag are copied. Assumes nothing.
-use denote.Ref.{now}
-use Prim.Native.Nat.{ℕ, _+_, _-_, _*_, _≤_}
-use mathlib.Core.Path.{_≡_, refl, sym, _∙_, ap}
-use mathlib.Core.List.{_++_}
+-- `next_set::copy_unflagged`: the rows before the place that have no flag are copied. Assumes nothing.
+use Prim.Native.Nat.{ℕ, _+_, _-_, _≤_, _<_}
+use mathlib.Core.Path.{_≡_, _∙_, ap}
+use mathlib.Core.List.{List}
 use native.Mathlib.Omega.{arith}
-use lib.ListN.{length, take}
-use Rattle.definitions.specs.Lists.{each, range}
-use Rattle.definitions.specs.Clauses.{width}
+use lib.ListN.{length}
 use Rattle.clause.specs.Rows.{rowCount}
+use Rattle.clause.specs.Place.{AtRow}
 use Rattle.clause.proofs.RowLaws.{row-length}
+use Rattle.clause.proofs.PlaceLaws.{is-row, no-row, row-ends, follows}
 use Rattle.writing.proofs.Writes.{wrote-between}
-use Rattle.next_set.specs.Build.{rowsWithout, wordsWithout}
-use Rattle.next_set.proofs.Copying.{copy-start, copy-skip, copy-room, copy-row, copy-end}
+use Rattle.next_set.proofs.Copying.{Copying, copying-start, copying-skip, copying-room, copying-row, copying-end}
 use borrow.Author.Needs.{needs}
 use Rattle.next_set.proofs.copy_unflagged.Statement.{statement}
 use Rattle.next_set.proofs.copy_unflagged.Tie as tie
 
 abbrev Inv-loop : tie.InvT-loop
-Inv-loop clauses flags work₀ size count₀ i₀ work count i =
-    (size ≡ rowCount clauses) × (count ≤ i) × (i ≤ size) × (length work ≡ length work₀) ×
-    (wordsWithout clauses flags ≡ take (width * count) work ++ each (rowsWithout clauses flags) (range i (size - i)))
+Inv-loop clauses flags work₀ to₀ from₀ work to from = Copying clauses flags work₀ work to from
 
 abbrev μ-loop : tie.MeasureT-loop
-μ-loop clauses flags work₀ size count₀ i₀ work count i = size - i
+μ-loop clauses flags work₀ to₀ from₀ work to from = rowCount clauses - from .number
 
-rows-requires : tie.Need-rows-requires Inv-loop μ-loop
-rows-requires c κs = search needs
+-- where all is lent: the start
+abbrev start-of : tie.After-slice-known Inv-loop μ-loop → tie.Start Inv-loop μ-loop
+start-of k = k .before .before .before
 
--- the places of the function
-abbrev at-start : tie.After-shared-slice-known Inv-loop μ-loop → tie.Start Inv-loop μ-loop
-at-start c = c .before
+-- at the loop's head: the clause words
+abbrev head : Type 0
+head = tie.At-loop Inv-loop μ-loop
 
-abbrev after-shared-slice-known : tie.After-rows Inv-loop μ-loop → tie.After-shared-slice-known Inv-loop μ-loop
-after-shared-slice-known c = c .before .before .before
+abbrev start : head → tie.Start Inv-loop μ-loop
+start h = start-of (h .before .before .before)
 
-abbrev after-rows : tie.At-loop Inv-loop μ-loop → tie.After-rows Inv-loop μ-loop
-after-rows c = c .before
+abbrev words : head → List ℕ
+words h = start h .args .clauses .now
 
-abbrev at-loop-of-after-loop : tie.After-loop Inv-loop μ-loop → tie.At-loop Inv-loop μ-loop
-at-loop-of-after-loop c = c .before
+-- in the loop: the row, and the next one
+abbrev turn : Type 0
+turn = tie.Then1 Inv-loop μ-loop
 
-abbrev at-loop-of-in-loop : tie.In-loop Inv-loop μ-loop → tie.At-loop Inv-loop μ-loop
-at-loop-of-in-loop c = c .before
+abbrev at : turn → head
+at t = t .before .before
 
-abbrev at-start-from-after-loop : tie.After-loop Inv-loop μ-loop → tie.Start Inv-loop μ-loop
-at-start-from-after-loop c = at-start (after-shared-slice-known (after-rows (at-loop-of-after-loop c)))
+row : (t : turn) → AtRow (words (at t)) (at t .loop .from)
+row t = is-row (at t .loop .inv .read) (t .before .is-in .ensures) (t .if1 .taken)
 
-abbrev in-loop-of-else1 : tie.Else1 Inv-loop μ-loop → tie.In-loop Inv-loop μ-loop
-in-loop-of-else1 c = c .before .before
+abbrev next-row : Type 0
+next-row = tie.After-next Inv-loop μ-loop
 
-abbrev in-loop-of-then1 : tie.Then1 Inv-loop μ-loop → tie.In-loop Inv-loop μ-loop
-in-loop-of-then1 c = c .before .before
+abbrev fewer-left : next-row → Type 0
+fewer-left n = let h = at (n .before) in rowCount (words h) - n .next .result .number < rowCount (words h) - h .loop .from .number
 
-abbrev after-rows-from-then1 : tie.Then1 Inv-loop μ-loop → tie.After-rows Inv-loop μ-loop
-after-rows-from-then1 c = after-rows (at-loop-of-in-loop (in-loop-of-then1 c))
+fewer : (n : next-row) → fewer-left n
+fewer n = omega (arith, row (n .before) .inside, n .next .ensures .number)
 
-abbrev at-start-from-then1 : tie.Then1 Inv-loop μ-loop → tie.Start Inv-loop μ-loop
-at-start-from-then1 c = at-start (after-shared-slice-known (after-rows (at-loop-of-in-loop (in-loop-of-then1 c))))
+-- where it has no flag: there is room for it
+abbrev next-of : tie.Else2 Inv-loop μ-loop → next-row
+next-of u = u .before .before
 
-abbrev else1 : tie.After-row Inv-loop μ-loop → tie.Else1 Inv-loop μ-loop
-else1 c = c .before
+abbrev turn-of : tie.Else2 Inv-loop μ-loop → turn
+turn-of u = next-of u .before
 
-abbrev after-row : tie.After-words-arg Inv-loop μ-loop → tie.After-row Inv-loop μ-loop
-after-row c = c .before
+room : (u : tie.Else2 Inv-loop μ-loop) → AtRow (at (turn-of u) .loop .work) (at (turn-of u) .loop .to)
+room u = let t = turn-of u in copying-room _ _ (at t .loop .inv) (row t) (start (at t) .pre .1)
 
-abbrev after-rows-from-words-arg : tie.After-words-arg Inv-loop μ-loop → tie.After-rows Inv-loop μ-loop
-after-rows-from-words-arg c = after-rows (at-loop-of-in-loop (in-loop-of-else1 (else1 (after-row c))))
+abbrev unflagged : tie.After-words-arg Inv-loop μ-loop → tie.Else2 Inv-loop μ-loop
+unflagged a = a .before .before
 
-abbrev at-loop-from-words-arg : tie.After-words-arg Inv-loop μ-loop → tie.At-loop Inv-loop μ-loop
-at-loop-from-words-arg c = at-loop-of-in-loop (in-loop-of-else1 (else1 (after-row c)))
+fits :
+    (a : tie.After-words-arg Inv-loop μ-loop) → let l = at (turn-of (unflagged a)) .loop in
+    l .to .at + length (a .before .row .result .now) ≤ length (l .work)
+fits a =
+    let u = unflagged a in
+    let t = turn-of u in
+    omega (arith, ap length (a .before .row .ensures), row-length (words (at t)) (at t .loop .from .number) (row t .inside), row-ends (room u))
 
-abbrev at-start-from-words-arg : tie.After-words-arg Inv-loop μ-loop → tie.Start Inv-loop μ-loop
-at-start-from-words-arg c = at-start (after-shared-slice-known (after-rows (at-loop-of-in-loop (in-loop-of-else1 (else1 (after-row c))))))
+-- where it is written
+abbrev written : tie.After-slice-known2 Inv-loop μ-loop → tie.After-words Inv-loop μ-loop
+written k = k .before .before
 
-abbrev in-loop-from-words-arg : tie.After-words-arg Inv-loop μ-loop → tie.In-loop Inv-loop μ-loop
-in-loop-from-words-arg c = in-loop-of-else1 (else1 (after-row c))
+first-requires : tie.Need-first-requires Inv-loop μ-loop
+first-requires c κs = search needs
 
-abbrev after-words-arg : tie.After-slice-known2 Inv-loop μ-loop → tie.After-words-arg Inv-loop μ-loop
-after-words-arg c = c .before .before .before
-
-abbrev after-rows-from-slice-known2 : tie.After-slice-known2 Inv-loop μ-loop → tie.After-rows Inv-loop μ-loop
-after-rows-from-slice-known2 c = after-rows (at-loop-of-in-loop (in-loop-of-else1 (else1 (after-row (after-words-arg c)))))
-
-abbrev at-loop-from-slice-known2 : tie.After-slice-known2 Inv-loop μ-loop → tie.At-loop Inv-loop μ-loop
-at-loop-from-slice-known2 c = at-loop-of-in-loop (in-loop-of-else1 (else1 (after-row (after-words-arg c))))
-
-abbrev at-start-from-slice-known2 : tie.After-slice-known2 Inv-loop μ-loop → tie.Start Inv-loop μ-loop
-at-start-from-slice-known2 c =
-    at-start (after-shared-slice-known (after-rows (at-loop-of-in-loop (in-loop-of-else1 (else1 (after-row (after-words-arg c)))))))
-
-abbrev else1-from-slice-known2 : tie.After-slice-known2 Inv-loop μ-loop → tie.Else1 Inv-loop μ-loop
-else1-from-slice-known2 c = else1 (after-row (after-words-arg c))
-
-abbrev in-loop-from-slice-known2 : tie.After-slice-known2 Inv-loop μ-loop → tie.In-loop Inv-loop μ-loop
-in-loop-from-slice-known2 c = in-loop-of-else1 (else1 (after-row (after-words-arg c)))
+first-requires-2 : tie.Need-first-requires-2 Inv-loop μ-loop
+first-requires-2 c κs = search needs
 
 loop-holds : tie.Need-loop-holds Inv-loop μ-loop
-loop-holds c = (
-  c .rows .ensures,
-  omega arith,
-  omega arith,
-  refl,
-  copy-start (now (at-start (after-shared-slice-known c) .args .clauses)) (now (at-start (after-shared-slice-known c) .args .flags))
-      (c .rows .result) (now (at-start (after-shared-slice-known c) .args .work)) (c .rows .ensures),
-)
+loop-holds c = copying-start _ _ _ _ _ (c .before .first .ensures) (c .first2 .ensures)
 
-add-i : tie.Need-add-i Inv-loop μ-loop
-add-i c = search needs
+is-in-requires : tie.Need-is-in-requires Inv-loop μ-loop
+is-in-requires c κs = c .loop .inv .read
 
-shared-slice-read-if1 : tie.Need-shared-slice-read-if1 Inv-loop μ-loop
-shared-slice-read-if1 c = search needs
+next-requires : tie.Need-next-requires Inv-loop μ-loop
+next-requires c κs = follows (row c) (start (at c) .good .0 .0)
+
+shared-slice-read-if2 : tie.Need-shared-slice-read-if2 Inv-loop μ-loop
+shared-slice-read-if2 c = let t = c .before .before in omega (arith, row t .inside, start (at t) .pre .0)
 
 loop-less : tie.Need-loop-less Inv-loop μ-loop
-loop-less c = search needs
+loop-less c = fewer (c .before .before)
 
 loop-again : tie.Need-loop-again Inv-loop μ-loop
 loop-again c =
-    let l = c .before .before .before .loop in
-    let a = at-start-from-then1 c .args in (
-      l .inv .0,
-      omega arith,
-      omega arith,
-      l .inv .3,
-      copy-skip (now (a .clauses)) (now (a .flags)) (l .work) (after-rows-from-then1 c .rows .result) (l .count) (l .i) (l .inv .4)
-          (c .before .before .loop-test .taken) (c .if1 .taken),
-    )
+    let n = c .before .before in
+    let t = n .before in
+    copying-skip _ _ (at t .loop .inv) (row t) (c .if2 .taken) (n .next .ensures)
 
 row-requires : tie.Need-row-requires Inv-loop μ-loop
-row-requires c κs = search needs
-
-mul-words : tie.Need-mul-words Inv-loop μ-loop
-unfolding width
-mul-words c =
-    let l = at-loop-from-words-arg c .loop in
-    let a = at-start-from-words-arg c .args in
-    omega (
-      arith,
-      copy-room (now (a .clauses)) (now (a .flags)) (l .work) (after-rows-from-words-arg c .rows .result) (l .count) (l .i) (l .inv .4)
-          (in-loop-from-words-arg c .loop-test .taken) (l .inv .0) (l .inv .1) (omega (arith, l .inv .3, at-start-from-words-arg c .pre .1)),
-    )
-
--- the row fits
-room : (c : tie.After-words-arg Inv-loop μ-loop) → let l = at-loop-from-words-arg c .loop in
-    width * l .count + length (now (after-row c .row .result)) ≤ length (l .work)
-unfolding width
-room c =
-    let l = at-loop-from-words-arg c .loop in
-    let a = at-start-from-words-arg c .args in
-    omega (
-      arith,
-      ap length (after-row c .row .ensures),
-      row-length (now (a .clauses)) (l .i) (omega (arith, in-loop-from-words-arg c .loop-test .taken, l .inv .0)),
-      copy-room (now (a .clauses)) (now (a .flags)) (l .work) (after-rows-from-words-arg c .rows .result) (l .count) (l .i) (l .inv .4)
-          (in-loop-from-words-arg c .loop-test .taken) (l .inv .0) (l .inv .1) (omega (arith, l .inv .3, at-start-from-words-arg c .pre .1)),
-    )
+row-requires c κs = row (turn-of c)
 
 words-requires : tie.Need-words-requires Inv-loop μ-loop
-unfolding width
-words-requires c κs = room c
+words-requires c κs = fits c
 
-add-count : tie.Need-add-count Inv-loop μ-loop
-add-count c = search needs
+next-requires-2 : tie.Need-next-requires-2 Inv-loop μ-loop
+next-requires-2 c κs =
+    let u = unflagged (written c .before) in
+    let h = at (turn-of u) in
+    follows (room u) (omega (arith, start h .good .1 .1 .0 .0, h .loop .inv .same-length))
 
 loop-less-2 : tie.Need-loop-less-2 Inv-loop μ-loop
-loop-less-2 c = search needs
+loop-less-2 c = fewer (next-of (unflagged (written (c .before) .before)))
 
 loop-again-2 : tie.Need-loop-again-2 Inv-loop μ-loop
-unfolding width
 loop-again-2 c =
-    let l = at-loop-from-slice-known2 c .loop in
-    let a = at-start-from-slice-known2 c .args in (
-      l .inv .0,
-      omega arith,
-      omega arith,
-      c .before .before .words .kept .1 .0 ∙ l .inv .3,
-      copy-row (now (a .clauses)) (now (a .flags)) (l .work) (after-rows-from-slice-known2 c .rows .result) (l .count) (l .i) (l .inv .4)
-          (in-loop-from-slice-known2 c .loop-test .taken) (l .inv .0) (l .inv .1) (omega (arith, l .inv .3, at-start-from-slice-known2 c .pre .1))
-          (else1-from-slice-known2 c .if1 .left) (now (after-row (after-words-arg c) .row .result)) (c .before .before .words .last .1 .0)
-          (after-row (after-words-arg c) .row .ensures) (wrote-between (room (after-words-arg c)) (c .before .before .words .ensures)),
-    )
+    let o = written (c .before) in
+    let a = o .before in
+    let u = unflagged a in
+    let t = turn-of u in
+    copying-row _ _ (at t .loop .inv) (row t) (start (at t) .pre .1) (u .if2 .left) _ _ (a .before .row .ensures) (o .words .kept .1 .0)
+    (wrote-between (fits a) (o .words .ensures)) (c .next2 .ensures) (next-of u .next .ensures)
 
 same-length : tie.Need-same-length Inv-loop μ-loop
-same-length c = c .before .loop .inv .3
+same-length c = c .before .before .loop .inv .same-length
 
 returns : tie.Need-returns Inv-loop μ-loop
 returns c =
-    let l = c .before .loop in
-    let a = at-start-from-after-loop c .args in
-    copy-end (now (a .clauses)) (now (a .flags)) (l .work) (c .before .before .rows .result) (l .count) (l .i) (l .inv .4) (c .loop-test .left)
-    (l .inv .0) (omega arith) (omega (arith, l .inv .3, at-start-from-after-loop c .pre .1))
+    let h = c .before .before in
+    let i = h .loop .inv in
+    copying-end _ _ i (no-row (i .read) (c .before .is-in .ensures) (c .if1 .left)) (start h .pre .1)
 
 pub copy-unflagged-spec : {M : Type 1} → statement M
 copy-unflagged-spec =
@@ -196,16 +144,17 @@ copy-unflagged-spec =
     (tie.spec
     Inv-loop
     μ-loop
-    rows-requires
+    first-requires
+    first-requires-2
     loop-holds
-    add-i
-    shared-slice-read-if1
+    is-in-requires
+    next-requires
+    shared-slice-read-if2
     loop-less
     loop-again
     row-requires
-    mul-words
     words-requires
-    add-count
+    next-requires-2
     loop-less-2
     loop-again-2
     same-length
