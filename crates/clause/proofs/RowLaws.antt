@@ -23,6 +23,11 @@ module _ (w : List ℕ) (i : ℕ) (inside : i < rowCount w) where
   unfolding rowAt
   row-length = let h = row-inside in simp (length-take, length-drop) (omega arith)
 
+-- the number of rows of words of a known length
+pub rows-of : (w : List ℕ) (n : ℕ) → length w ≡ width * n → rowCount w ≡ n
+unfolding rowCount width
+rows-of w n e = omega arith
+
 -- the row that the code cuts out
 pub row-cut : (w : List ℕ) (i a e : ℕ) → a ≡ width * i → e ≡ a + width → take (e - a) (drop a w) ≡ rowAt w i
 unfolding rowAt

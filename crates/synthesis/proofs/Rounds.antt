@@ -23,7 +23,7 @@ use Rattle.definitions.proofs.ListLaws.{some-none, none-some}
 use Rattle.definitions.proofs.SetRight.{good-sets, up-sets}
 use Rattle.answer.specs.Answer.{refusalAt}
 use Rattle.clause.specs.Rows.{rowCount, clausesOf, ClausesRead}
-use Rattle.clause.proofs.RowLaws.{clauses-length}
+use Rattle.clause.proofs.RowLaws.{clauses-length, rows-of}
 use Rattle.clause.proofs.ReadLaws.{read-right}
 use Rattle.clause.proofs.WordLaws.{words-back, words-read, words-clauses}
 use Rattle.task.specs.Reads.{taskOf, Reads}
@@ -105,10 +105,6 @@ few-flags w c atoms n rows r k e room h =
     let a = r .size in
     let b = r .few in
     omega arith
-
-rows-of : (v : List ℕ) (k : ℕ) → length v ≡ width * k → rowCount v ≡ k
-unfolding rowCount width
-rows-of v k h = omega arith
 
 -- ---- a set of the synthesis in the first rows of the clause buffer
 good-wider : (N n : ℕ) (f : List ℕ) → n ≤ width → GoodClause N n f → GoodClause N width f

@@ -73,14 +73,6 @@ module _ (s : List ℕ) where
   units-start atoms w e = let q : atoms - 0 ≡ atoms = omega arith in rw q e
 
   module _ (atoms a : ℕ) (w : List ℕ) (inv : w ≡ clauseWords (unitsFrom s 0 a) ++ replicate (width * (atoms - a)) fill) where
-    pub units-room : a < atoms → width * a < length w
-    units-room h =
-        let l = units-length 0 a in
-        let k : atoms - a ≡ suc (atoms - suc a) = omega arith in
-        let m = mul-suc width (atoms - suc a) in
-        let p = some-width in
-        rw (inv, length-append, length-replicate, k) (omega arith)
-
     pub units-row :
         (l : ℕ) → a < atoms → l ≡ 2 * a + (1 - getD s a 0)
         → set w (width * a) l ≡ clauseWords (unitsFrom s 0 (a + 1)) ++ replicate (width * (atoms - (a + 1))) fill

@@ -1,31 +1,39 @@
--- `synthesis::first::write_units`: the rows of the atoms below `a` are written, the others are fill. Assumes nothing.
+-- `synthesis::first::write_units`: the rows of the atoms below the place's number are written, the others are fill. Assumes nothing.
 use Prim.Native.Nat.{ℕ, _+_, _-_, _*_, _≤_, _<_}
 use mathlib.Core.Bool.{true}
 use mathlib.Core.List.{List, _++_}
-use mathlib.Core.Path.{_≡_, refl, _∙_}
+use mathlib.Core.Path.{_≡_, refl, sym, _∙_, ap, subst}
 use native.Mathlib.Omega.{arith}
-use lib.ListN.{length, replicate, length-set}
+use lib.ListN.{length, replicate, set, length-set, length-replicate}
 use Rattle.definitions.specs.Literal.{mostAtoms, fill, isState}
 use Rattle.definitions.specs.Clauses.{width, clauseWords}
+use Rattle.clause.specs.Rows.{rowCount}
+use Rattle.clause.specs.Place.{Placed, AtRow}
+use Rattle.clause.proofs.RowLaws.{rows-of}
+use Rattle.clause.proofs.PlaceLaws.{placed-first, at-row, row-ends, follows, placed-next, placed-in}
 use Rattle.synthesis.specs.Rounds.{unitsFrom}
-use Rattle.synthesis.proofs.Units.{unit-word, units-start, units-room, units-row, units-end}
+use Rattle.synthesis.proofs.Units.{unit-word, units-start, units-row, units-end}
 use borrow.Author.Needs.{needs}
 use Rattle.synthesis.proofs.first.write_units.Statement.{statement}
 use Rattle.synthesis.proofs.first.write_units.Tie as tie
 
 abbrev Inv-loop : tie.InvT-loop
-Inv-loop state words₀ a₀ words a =
-    (a ≤ length state) × (length words ≡ length words₀) × (words ≡ clauseWords (unitsFrom state 0 a) ++ replicate (width * (length state - a)) fill)
+Inv-loop state words₀ place₀ words place =
+    Placed words place × (length words ≡ length words₀)
+    × (words ≡ clauseWords (unitsFrom state 0 (place .number)) ++ replicate (width * (length state - place .number)) fill)
 
 abbrev μ-loop : tie.MeasureT-loop
-μ-loop state words₀ a₀ words a = length state - a
+μ-loop state words₀ place₀ words place = length state - place .number
 
 -- at the loop's head: the start, the state
 abbrev head : Type 0
 head = tie.At-loop Inv-loop μ-loop
 
+abbrev lent : head → tie.After-slice-known Inv-loop μ-loop
+lent h = h .before .before
+
 abbrev start : head → tie.Start Inv-loop μ-loop
-start h = h .before .before .before
+start h = lent h .before .before
 
 abbrev bytes : head → List ℕ
 bytes h = start h .args .state .now
@@ -36,68 +44,88 @@ few h = start h .pre .0
 right : (h : head) → isState (length (bytes h)) (bytes h) ≡ true
 right h = start h .pre .1
 
--- in the loop: there is room for the row
-room : (c : tie.In-loop Inv-loop μ-loop) → width * c .before .loop .a < length (c .before .loop .words)
-room c =
-    let h = c .before in
-    let s = bytes h in
-    units-room s (length s) (h .loop .a) (h .loop .words) (h .loop .inv .2) (c .loop-test .taken)
+-- there are as many rows as atoms
+count : (h : head) → rowCount (h .loop .words) ≡ length (bytes h)
+count h = rows-of (h .loop .words) (length (bytes h)) (h .loop .inv .1 ∙ ap length (start h .pre .2) ∙ length-replicate _ fill)
+
+-- in the loop: the row of the atom
+abbrev turn : Type 0
+turn = tie.Then1 Inv-loop μ-loop
+
+abbrev at : turn → head
+at t = t .before .before
+
+atom : (t : turn) → at t .loop .place .number < length (bytes (at t))
+atom t = t .if1 .taken
+
+row : (t : turn) → AtRow (at t .loop .words) (at t .loop .place)
+row t = at-row (at t .loop .inv .0) (omega (arith, count (at t), atom t))
 
 -- where its literal is made
-abbrev inside : tie.After-new Inv-loop μ-loop → tie.In-loop Inv-loop μ-loop
-inside c = c .before .before
+abbrev made : Type 0
+made = tie.After-new Inv-loop μ-loop
+
+abbrev turn-of : made → turn
+turn-of c = c .before .before
+
+first-requires : tie.Need-first-requires Inv-loop μ-loop
+first-requires c κs = search needs
 
 loop-holds : tie.Need-loop-holds Inv-loop μ-loop
 loop-holds c =
-    let s = c .before .before in
+    let s = c .before .before .before in
     let b = s .args .state .now in
-    (omega arith, refl, units-start b (length b) (s .args .words .now) (s .pre .2))
+    (placed-first (c .first .ensures), refl, rw (c .first .ensures .number) (units-start b (length b) (s .args .words .now) (s .pre .2)))
 
 cast-new : tie.Need-cast-new Inv-loop μ-loop
-cast-new c = omega (arith, few (c .before))
+cast-new c = omega (arith, few (at c), atom c)
 
 shared-slice-read-new : tie.Need-shared-slice-read-new Inv-loop μ-loop
 shared-slice-read-new c = search needs
 
 new-requires : tie.Need-new-requires Inv-loop μ-loop
-new-requires c κs = omega (arith, few (c .before .before))
+new-requires c κs = omega (arith, few (at (c .before)), atom (c .before))
 
 mul-words : tie.Need-mul-words Inv-loop μ-loop
 unfolding width
-mul-words c = omega (arith, room (inside c))
-
-mul-words-2 : tie.Need-mul-words-2 Inv-loop μ-loop
-mul-words-2 c = omega (arith, few (inside c .before))
+mul-words c = omega (arith, row-ends (row (turn-of c)))
 
 slice-write-words : tie.Need-slice-write-words Inv-loop μ-loop
 unfolding width
-slice-write-words c = room (inside c)
+slice-write-words c = omega (arith, row-ends (row (turn-of c)))
 
-add-a : tie.Need-add-a Inv-loop μ-loop
-add-a c = search needs
+next-requires : tie.Need-next-requires Inv-loop μ-loop
+next-requires c κs =
+    let t = turn-of c in
+    follows (row t) (omega (arith, start (at t) .good .1 .0 .0, at t .loop .inv .1))
 
 loop-less : tie.Need-loop-less Inv-loop μ-loop
-loop-less c = search needs
+loop-less c = omega (arith, atom (turn-of (c .before)), c .next .ensures .number)
 
 loop-again : tie.Need-loop-again Inv-loop μ-loop
-unfolding width
 loop-again c =
-    let i = inside c in
-    let h = i .before in
+    let m = c .before in
+    let t = turn-of m in
+    let h = at t in
     let l = h .loop in
     let s = bytes h in
-    let below = i .loop-test .taken in
-    let literal = c .new .ensures ∙ unit-word s (length s) (l .a) (right h) below in
-    (omega arith, simp length-set (l .inv .1), units-row s (length s) (l .a) (l .words) (l .inv .2) (c .new .result .code) below literal)
+    let a = c .next .ensures in
+    let literal = m .new .ensures ∙ unit-word s (length s) (l .place .number) (right h) (atom t) in
+    let words = units-row s (length s) (l .place .number) (l .words) (l .inv .2) (m .new .result .code) (atom t) literal in (
+      placed-in (length-set (l .words) (l .place .at) (m .new .result .code)) (placed-next (row t) a),
+      simp length-set (l .inv .1),
+      rw (a .number) (ap (λ (x : ℕ). set (l .words) x (m .new .result .code)) (row t .position) ∙ words),
+    )
 
 same-length : tie.Need-same-length Inv-loop μ-loop
-same-length c = c .before .loop .inv .1
+same-length c = c .before .before .loop .inv .1
 
 returns : tie.Need-returns Inv-loop μ-loop
 returns c =
-    let h = c .before in
+    let h = c .before .before in
+    let l = h .loop in
     let s = bytes h in
-    units-end s (length s) (h .loop .a) (h .loop .words) (h .loop .inv .2) (c .loop-test .left) (h .loop .inv .0)
+    units-end s (length s) (l .place .number) (l .words) (l .inv .2) (c .if1 .left) (omega (arith, l .inv .0 .inside, count h))
 
 pub write-units-spec : {M : Type 1} → statement M
 write-units-spec =
@@ -105,14 +133,14 @@ write-units-spec =
     (tie.spec
     Inv-loop
     μ-loop
+    first-requires
     loop-holds
     cast-new
     shared-slice-read-new
     new-requires
     mul-words
-    mul-words-2
     slice-write-words
-    add-a
+    next-requires
     loop-less
     loop-again
     same-length
