@@ -1,15 +1,13 @@
 -- The loop that copies the rows without a flag: from one place to another. Assumes nothing.
-use mathlib.Core.Bool.{Bool, true, false, cond}
 use mathlib.Core.Path.{_≡_, refl, sym, _∙_, ap}
-use mathlib.Core.List.{List, [], _∷_, _++_, append-assoc, append-nil}
-use Prim.Native.Nat.{ℕ, suc, _+_, _-_, _*_, _≤_, _<_}
+use mathlib.Core.List.{List, [], _++_, append-assoc, append-nil}
+use Prim.Native.Nat.{ℕ, _+_, _-_, _*_, _≤_}
 use native.Mathlib.Nat.{mul-suc, mul-zero, mul-le-mul-left}
 use native.Mathlib.Numerals.{add-one}
 use native.Mathlib.Omega.{arith}
 use lib.ListN.{length, getD, take, drop, length-append}
 use lib.Seq.{take-at, length-take-le}
 use Rattle.definitions.specs.Lists.{each, range}
-use Rattle.definitions.specs.Closure.{has}
 use Rattle.definitions.specs.Clauses.{width, rowAt}
 use Rattle.clause.specs.Rows.{rowCount}
 use Rattle.clause.specs.Place.{At, Placed, AtRow}

@@ -1,5 +1,5 @@
 -- The first set written into rows of fill. Assumes nothing.
-use mathlib.Core.Bool.{Bool, true, false, _&&_, cond}
+use mathlib.Core.Bool.{Bool, true, false, cond}
 use mathlib.Core.Logic.{_⊎_, inl, inr}
 use mathlib.Core.Path.{_≡_, refl, sym, _∙_, ap}
 use mathlib.Core.List.{List, [], _∷_, _++_, map, append-assoc, append-nil}
@@ -8,10 +8,10 @@ use native.Mathlib.Nat.{mul-suc, mul-zero}
 use native.Mathlib.Numerals.{add-one}
 use native.Mathlib.Omega.{arith}
 use lib.Dec.{eqb, ltb}
-use lib.ListN.{length, getD, set, take, drop, replicate, length-append, length-replicate, replicate-append-replicate}
+use lib.ListN.{length, getD, set, take, replicate, length-append, length-replicate, replicate-append-replicate}
 use lib.Seq.{set-at}
-use borrow.Author.Tests.{eq-eqb, ne-eqb, eqb-true, eqb-false, lt-ltb}
-use Rattle.definitions.specs.Lists.{all, each, range, below, member}
+use borrow.Author.Tests.{eq-eqb, eqb-true, eqb-false, lt-ltb}
+use Rattle.definitions.specs.Lists.{each, range, below, member}
 use Rattle.definitions.specs.Literal.{fill, allBelow, isState, stateOf}
 use Rattle.definitions.specs.Image.{Task, initialState}
 use Rattle.definitions.specs.Clauses.{width, rowOf, clauseWords}

@@ -1,6 +1,6 @@
 -- `judge::bulk::flag_lacking`: the flags of the rows before the place are done, the others are still to be given. Assumes nothing.
-use Prim.Native.Nat.{ℕ, _<_, _-_, _+_}
-use mathlib.Core.Path.{_≡_, refl, sym, _∙_, ap}
+use Prim.Native.Nat.{ℕ, _<_, _-_}
+use mathlib.Core.Path.{_≡_, refl, sym, _∙_}
 use mathlib.Core.List.{List, [], _++_}
 use native.Mathlib.Omega.{arith}
 use lib.ListN.{length, getD, take, drop, length-set}

@@ -1,6 +1,6 @@
 -- `next_set::weaken::weaken_rows`: what is added for the rows from the place on is to be put in. Assumes nothing.
-use Prim.Native.Nat.{ℕ, _-_, _+_, _<_}
-use mathlib.Core.Path.{_≡_, refl, sym, _∙_, ap}
+use Prim.Native.Nat.{ℕ, _-_, _+_}
+use mathlib.Core.Path.{_≡_, refl, _∙_}
 use mathlib.Core.Option.{some}
 use mathlib.Core.List.{List, _++_}
 use native.Mathlib.Omega.{arith}
@@ -86,7 +86,6 @@ loop-holds c =
     let s = start-of (c .before) in
     let a = s .args in
     let n = rowCount (a .clauses .now) in
-    let more = each (addedRow (clausesOf (a .clauses .now)) (a .flags .now) (a .list .now) (a .k)) in
     let all : n - 0 ≡ n = omega arith in (
       placed-first (c .first .ensures),
       refl,
