@@ -1,5 +1,5 @@
--- `dimacs::size::rows_length`: the bytes of the lines from row i on, and those counted so far, are those of all rows.
-use Prim.Native.Nat.{ℕ, _+_, _-_, _≤_, _<_}
+-- `dimacs::size::rows_length`: the bytes of the lines from the place on, and those counted so far, are those of all rows.
+use Prim.Native.Nat.{ℕ, _+_, _-_, _<_}
 use native.Mathlib.Omega.{arith}
 use mathlib.Core.Path.{_≡_, sym, _∙_, ap}
 use mathlib.Core.List.{List, []}
@@ -7,7 +7,9 @@ use lib.ListN.{length, getD, drop}
 use Rattle.definitions.specs.Lists.{each}
 use Rattle.definitions.specs.Clauses.{width, mostRows, clauseOf, rowAt}
 use Rattle.clause.specs.Rows.{clausesOf, rowCount}
+use Rattle.clause.specs.Place.{Placed, AtRow}
 use Rattle.clause.proofs.RowLaws.{clauses-length, clauses-at}
+use Rattle.clause.proofs.PlaceLaws.{placed-first, is-row, no-row, follows, placed-next}
 use Rattle.text.proofs.Lines.{sum-next, sum-end}
 use Rattle.dimacs.specs.Write.{rowLine}
 use Rattle.dimacs.proofs.Parts.{clause-width, rows-size}
@@ -16,88 +18,109 @@ use Rattle.dimacs.proofs.size.rows_length.Statement.{statement}
 use Rattle.dimacs.proofs.size.rows_length.Tie as tie
 
 abbrev Inv-loop : tie.InvT-loop
-Inv-loop clauses count sum₀ i₀ sum i =
-    (i ≤ rowCount clauses) × (length (each rowLine (clausesOf clauses)) ≡ sum + length (each rowLine (drop i (clausesOf clauses))))
+Inv-loop clauses sum₀ place₀ sum place =
+    Placed clauses place × (length (each rowLine (clausesOf clauses)) ≡ sum + length (each rowLine (drop (place .number) (clausesOf clauses))))
 
 abbrev μ-loop : tie.MeasureT-loop
-μ-loop clauses count sum₀ i₀ sum i = rowCount clauses - i
+μ-loop clauses sum₀ place₀ sum place = rowCount clauses - place .number
 
-abbrev start : tie.At-loop Inv-loop μ-loop → tie.Start Inv-loop μ-loop
-start l = l .before .before .before
+-- at the loop's head: the start, the clause words
+abbrev head : Type 0
+head = tie.At-loop Inv-loop μ-loop
 
-abbrev words : tie.At-loop Inv-loop μ-loop → List ℕ
-words l = start l .args .clauses .now
+abbrev start : head → tie.Start Inv-loop μ-loop
+start h = h .before .before .before
 
-counted : (l : tie.At-loop Inv-loop μ-loop) → l .before .rows .result ≡ length (clausesOf (words l))
-counted l = l .before .rows .ensures ∙ sym (clauses-length (words l))
+abbrev words : head → List ℕ
+words h = start h .args .clauses .now
 
-inside : (t : tie.In-loop Inv-loop μ-loop) → t .before .loop .i < rowCount (words (t .before))
-inside t = omega (arith, t .loop-test .taken, t .before .before .rows .ensures)
+-- in the loop: the row
+abbrev turn : Type 0
+turn = tie.Then1 Inv-loop μ-loop
 
-more : (t : tie.In-loop Inv-loop μ-loop) → t .before .loop .i < length (clausesOf (words (t .before)))
-more t = omega (arith, t .loop-test .taken, counted (t .before))
+abbrev at : turn → head
+at t = t .before .before
 
--- the clause of row i
-abbrev in-loop : tie.After-literals Inv-loop μ-loop → tie.In-loop Inv-loop μ-loop
+row : (t : turn) → AtRow (words (at t)) (at t .loop .place)
+row t = is-row (at t .loop .inv .0) (t .before .is-in .ensures) (t .if1 .taken)
+
+more : (t : turn) → at t .loop .place .number < length (clausesOf (words (at t)))
+more t = omega (arith, row t .inside, clauses-length (words (at t)))
+
+-- its clause
+abbrev listed : Type 0
+listed = tie.After-literals Inv-loop μ-loop
+
+abbrev in-loop : listed → turn
 in-loop c = c .before .before
 
-row : (c : tie.After-literals Inv-loop μ-loop) → let l = in-loop c .before in c .literals .result .now ≡ clauseOf (rowAt (words l) (l .loop .i))
-row c = c .literals .ensures ∙ ap clauseOf (c .before .row .ensures)
+read : (c : listed) → let h = at (in-loop c) in c .literals .result .now ≡ clauseOf (rowAt (words h) (h .loop .place .number))
+read c = c .literals .ensures ∙ ap clauseOf (c .before .row .ensures)
 
-clause : (c : tie.After-literals Inv-loop μ-loop) → let l = in-loop c .before in c .literals .result .now ≡ getD (clausesOf (words l)) (l .loop .i) []
-clause c = let l = in-loop c .before in row c ∙ sym (clauses-at (words l) (l .loop .i) (inside (in-loop c)))
+clause : (c : listed) → let h = at (in-loop c) in c .literals .result .now ≡ getD (clausesOf (words h)) (h .loop .place .number) []
+clause c =
+    let t = in-loop c in
+    read c ∙ sym (clauses-at (words (at t)) (at t .loop .place .number) (row t .inside))
 
 -- after the bytes of its line
-abbrev turn : tie.After-row-length Inv-loop μ-loop → tie.In-loop Inv-loop μ-loop
-turn c = in-loop (c .before)
+abbrev counted : Type 0
+counted = tie.After-row-length Inv-loop μ-loop
 
-abbrev at : tie.After-row-length Inv-loop μ-loop → tie.At-loop Inv-loop μ-loop
-at c = turn c .before
+abbrev of-turn : counted → turn
+of-turn c = in-loop (c .before)
 
 next :
-    (c : tie.After-row-length Inv-loop μ-loop) → let l = at c in
-    length (each rowLine (clausesOf (words l)))
-    ≡ l .loop .sum + c .row-length .result + length (each rowLine (drop (l .loop .i + 1) (clausesOf (words l))))
+    (c : counted) → let h = at (of-turn c) in
+    length (each rowLine (clausesOf (words h)))
+    ≡ h .loop .sum + c .row-length .result + length (each rowLine (drop (h .loop .place .number + 1) (clausesOf (words h))))
 next c =
-    let l = at c in
-    sum-next rowLine (clausesOf (words l)) (l .loop .i) _ (l .loop .sum) (l .loop .inv .1) [] _ (clause (c .before)) (more (turn c)) _
+    let t = of-turn c in
+    let l = at t .loop in
+    sum-next rowLine (clausesOf (words (at t))) (l .place .number) _ (l .sum) (l .inv .1) [] _ (clause (c .before)) (more t) _
     (c .row-length .ensures)
 
-low : (l : tie.At-loop Inv-loop μ-loop) → length (each rowLine (clausesOf (words l))) < 1000000
+low : (h : head) → length (each rowLine (clausesOf (words h))) < 1000000
 unfolding width mostRows
-low l = omega (arith, rows-size (words l) (start l .pre))
+low h = omega (arith, rows-size (words h) (start h .pre))
 
-rows-requires : tie.Need-rows-requires Inv-loop μ-loop
-rows-requires c κs = search needs
+first-requires : tie.Need-first-requires Inv-loop μ-loop
+first-requires c κs = search needs
 
 loop-holds : tie.Need-loop-holds Inv-loop μ-loop
-loop-holds c = (omega arith, omega arith)
+loop-holds c = let a = c .first .ensures in (placed-first a, rw (a .number) (omega arith))
+
+is-in-requires : tie.Need-is-in-requires Inv-loop μ-loop
+is-in-requires c κs = c .loop .inv .0
 
 row-requires : tie.Need-row-requires Inv-loop μ-loop
-row-requires c κs = inside c
+row-requires c κs = row c
 
 literals-requires : tie.Need-literals-requires Inv-loop μ-loop
 literals-requires c κs = search needs
 
 row-length-requires : tie.Need-row-length-requires Inv-loop μ-loop
-row-length-requires c κs = let l = in-loop c .before in rw (row c) (clause-width (words l) (l .loop .i) (inside (in-loop c)))
+row-length-requires c κs = let t = in-loop c in rw (read c) (clause-width (words (at t)) (at t .loop .place .number) (row t .inside))
 
 add-sum : tie.Need-add-sum Inv-loop μ-loop
-add-sum c = omega (arith, next c, low (at c))
+add-sum c = omega (arith, next c, low (at (of-turn c)))
 
-add-i : tie.Need-add-i Inv-loop μ-loop
-add-i c = omega (arith, at c .before .rows .ensures)
+next-requires : tie.Need-next-requires Inv-loop μ-loop
+next-requires c κs =
+    let t = of-turn c in
+    follows (row t) (start (at t) .good .0 .0)
 
 loop-less : tie.Need-loop-less Inv-loop μ-loop
-loop-less c = let h = inside (turn c) in omega arith
+loop-less c = omega (arith, row (of-turn (c .before)) .inside, c .next .ensures .number)
 
 loop-again : tie.Need-loop-again Inv-loop μ-loop
-loop-again c = let h = inside (turn c) in (omega arith, next c)
+loop-again c = let a = c .next .ensures in (placed-next (row (of-turn (c .before))) a, rw (a .number) (next (c .before)))
 
 returns : tie.Need-returns Inv-loop μ-loop
 returns c =
-    let l = c .before in
-    sum-end rowLine (clausesOf (words l)) (l .loop .i) _ (l .loop .sum) (l .loop .inv .1) (omega (arith, c .loop-test .left, counted l))
+    let h = c .before .before in
+    let l = h .loop in
+    let done = no-row (l .inv .0) (c .before .is-in .ensures) (c .if1 .left) in
+    sum-end rowLine (clausesOf (words h)) (l .place .number) _ (l .sum) (l .inv .1) (omega (arith, done, clauses-length (words h)))
 
 pub rows-length-spec : {M : Type 1} → statement M
 rows-length-spec =
@@ -105,13 +128,14 @@ rows-length-spec =
     (tie.spec
     Inv-loop
     μ-loop
-    rows-requires
+    first-requires
     loop-holds
+    is-in-requires
     row-requires
     literals-requires
     row-length-requires
     add-sum
-    add-i
+    next-requires
     loop-less
     loop-again
     returns)
