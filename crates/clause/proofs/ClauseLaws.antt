@@ -27,7 +27,7 @@ use Rattle.clause.specs.Rows.{rowCount, clausesIn, clausesOf, RightRows}
 use Rattle.clause.specs.Search.{Sought, isThere}
 use Rattle.clause.specs.declared.Found.{Found}
 use Rattle.clause.specs.declared.Found.the-variants.{At, Missing}
-use Rattle.clause.proofs.RowLaws.{in-none, in-step, row-length, Placed, clause-in, clause-of}
+use Rattle.clause.proofs.RowLaws.{in-none, in-step, row-length, RowOf, clause-in, clause-of}
 use Rattle.clause.proofs.RowOrder.{row-trans, row-irrefl}
 
 -- ---- a literal list
@@ -62,7 +62,7 @@ module _ (N : ℕ) (w : List ℕ) (rows : RightRows N w) where
   clause-below f mf l ml = below-at (2 * N) f (list-low N f (clause-good f mf .list)) l ml
 
   -- a clause's row is the row where it stands
-  placed-row : (f : List ℕ) (p : Placed w f) → rowAt w (p .row) ≡ rowOf f
+  placed-row : (f : List ℕ) (p : RowOf w f) → rowAt w (p .row) ≡ rowOf f
   placed-row f p = sym (ap rowOf (p .same) ∙ right-row N (rowAt w (p .row)) (rows .right (p .row) (p .inside)))
 
   in-up : (i k : ℕ) → i + k ≤ rowCount w → up (clausesIn w i k) ≡ true
@@ -89,7 +89,7 @@ module _ (N : ℕ) (w : List ℕ) (rows : RightRows N w) where
       any-in (λ g. isSame (compareWords f g)) (rw e at (clause-in w i (s .inside))) (same-self f)
   sought-clause f (Missing i) few low s = go (decide (any (λ g. isSame (compareWords f g)) (clausesOf w)))
     where
-      apart : (p : Placed w f) → Dec (p .row < i) → ⊥
+      apart : (p : RowOf w f) → Dec (p .row < i) → ⊥
       apart p (yes l) = row-irrefl (rowOf f) (rw (placed-row f p) at (s .before (p .row) l))
       apart p (no l) = row-irrefl (rowOf f) (rw (placed-row f p) at (s .later (p .row) (omega arith) (p .inside)))
 
@@ -99,7 +99,7 @@ module _ (N : ℕ) (w : List ℕ) (rows : RightRows N w) where
       go (inl h) =
           let x = any-of (λ g. isSame (compareWords f g)) (clausesOf w) h in
           let e : f ≡ x .it = same-words f (x .it) (x .passes) in
-          let p : Placed w f = clause-of w f (rw e (x .mem)) in
+          let p : RowOf w f = clause-of w f (rw e (x .mem)) in
           absurd (apart p (decLt (p .row) i))
       go (inr h) = h
 

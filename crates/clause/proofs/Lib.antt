@@ -1,6 +1,6 @@
 pub mod Words
 pub mod RowLaws
-pub mod PlaceLaws
+pub mod RowPlaces
 pub mod Right
 pub mod Reading
 pub mod RowOrder

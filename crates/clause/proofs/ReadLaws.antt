@@ -8,15 +8,15 @@ use native.Mathlib.Decide.{decLt}
 use lib.Dec.{eqb, leb}
 use lib.ListN.{length}
 use borrow.Author.Tests.{eqb-true, leb-true}
-use Rattle.definitions.specs.Lists.{all, ascending}
+use Rattle.definitions.specs.Lists.{ascending}
 use Rattle.definitions.specs.Answer.{finding, verdict, ask, askAt, _>>=_}
-use Rattle.definitions.specs.Clauses.{width, mostRows, clauseOf, clauseRight, rowLess, rowAt, aboveLast, readRows, readClauses}
+use Rattle.definitions.specs.Clauses.{width, mostRows, clauseOf, clauseRight, rowAt, aboveLast, readRows, readClauses}
 use Rattle.definitions.proofs.ListLaws.{and-left, and-right, and-both}
 use Rattle.definitions.proofs.AnswerLaws.{same-finding, bind-of, ask-of}
 use Rattle.answer.proofs.Laws.{verdict-finding}
 use Rattle.clause.specs.Rows.{rowCount, clausesIn, clausesOf, ClausesRead, RightRows}
 use Rattle.clause.proofs.RowLaws.{in-none, in-step}
-use Rattle.clause.proofs.RowOrder.{row-trans}
+use Rattle.clause.proofs.RowOrder.{rows-ascend}
 use Rattle.clause.proofs.Reading.{read-start}
 
 -- ---- the rows from row i on, k of them
@@ -93,22 +93,13 @@ module _ (N : ℕ) (w : List ℕ) (read : ClausesRead N w) where
   row-right : (i : ℕ) → i < rowCount w → (clauseRight N (rowAt w i) && aboveLast w i) ≡ true
   row-right i h = rows-right N w 0 (rowCount w) (clausesOf w) (read-rows N w (clausesOf w) (read .read) .2) i (omega arith) (omega arith)
 
-  up-less : (i j : ℕ) → i < j → j < rowCount w → rowLess (rowAt w i) (rowAt w j) ≡ true
-  unfolding aboveLast
-  up-less i zero a b = absurd (omega arith)
-  up-less i (suc j) a b = go (decLt i j) (λ l. up-less i j l (omega arith))
-    where
-      last : rowLess (rowAt w j) (rowAt w (suc j)) ≡ true
-      last = and-right (clauseRight N (rowAt w (suc j))) (aboveLast w (suc j)) (row-right (suc j) b)
-
-      go : Dec (i < j) → (i < j → rowLess (rowAt w i) (rowAt w j) ≡ true) → rowLess (rowAt w i) (rowAt w (suc j)) ≡ true
-      go (yes l) rec = row-trans (rowAt w i) (rowAt w j) (rowAt w (suc j)) (rec l) last
-      go (no l) rec = let s : i ≡ j = omega arith in rw s last
+  above : (i : ℕ) → i < rowCount w → aboveLast w i ≡ true
+  above i h = and-right (clauseRight N (rowAt w i)) (aboveLast w i) (row-right i h)
 
   pub read-right : RightRows N w
   read-right =
       record {
-        ascending = record { whole = read-whole; less = up-less };
+        ascending = record { whole = read-whole; less = rows-ascend w (rowCount w) above };
         right = λ i h. and-left (clauseRight N (rowAt w i)) (aboveLast w i) (row-right i h);
       }
 

@@ -77,7 +77,7 @@ module _ (w : List ℕ) (i : ℕ) where
   clauses-done h = drop-of-length-le (clausesOf w) {i = i} (rw clauses-length h)
 
 -- the row of a clause
-pub record Placed (w f : List ℕ) : Type 0 where
+pub record RowOf (w f : List ℕ) : Type 0 where
   pub row : ℕ
   pub inside : row < rowCount w
   pub same : f ≡ clauseOf (rowAt w row)
@@ -87,7 +87,7 @@ module _ (w : List ℕ) where
   unfolding clausesOf clausesIn below
   clause-in i h = map-in (λ j. clauseOf (rowAt w j)) (below-in (rowCount w) i h)
 
-  pub clause-of : (f : List ℕ) → List·Memᴰ f (clausesOf w) → Placed w f
+  pub clause-of : (f : List ℕ) → List·Memᴰ f (clausesOf w) → RowOf w f
   unfolding clausesOf clausesIn
   clause-of f m =
       let o = map-of (λ j. clauseOf (rowAt w j)) (range 0 (rowCount w)) m in

@@ -1,7 +1,7 @@
 -- Rows stored one after the other, and the set that they make. Assumes nothing.
 use mathlib.Core.Path.{_≡_, refl, sym, _∙_, ap, subst}
 use mathlib.Core.List.{List, [], _∷_, _++_}
-use Prim.Native.Nat.{ℕ, _+_, _-_, _*_, _≤_, _<_}
+use Prim.Native.Nat.{ℕ, _+_, _*_, _≤_, _<_}
 use native.Mathlib.Nat.{mul-suc, mul-zero}
 use native.Mathlib.Omega.{arith}
 use lib.ListN.{length, take, drop, length-append}
@@ -12,16 +12,16 @@ use Rattle.definitions.specs.Synthesis.{insertAll}
 use Rattle.definitions.proofs.MergeLaws.{rows-longer}
 use Rattle.definitions.proofs.OrderLaws.{up, insertAll-up}
 use Rattle.definitions.proofs.MergeLaws.{merge-none, insertAll-append}
-use Rattle.clause.specs.Rows.{rowCount, clausesOf, RightRows}
-use Rattle.clause.proofs.RowLaws.{clauses-length}
+use Rattle.clause.specs.Rows.{rowCount, clausesOf}
+use Rattle.clause.proofs.RowLaws.{clauses-length, rows-of}
 use Rattle.clause.proofs.WordLaws.{words-back}
 use Rattle.clause_set.specs.Held.{ClauseRow}
 use Rattle.writing.specs.Writing.{Wrote}
 use Rattle.writing.proofs.Writes.{wrote-between}
 use Rattle.row_sort.specs.Sorted.{Sortable, Sorted}
-use Rattle.row_sort.proofs.SetWords.{rows-of, clauses-append, one-clause, sortable-append}
-use Rattle.dimacs_rows.specs.Rows.{mostStored, Rows, Fit, Makes, Stores}
-use Rattle.dimacs_rows.specs.Collected.{Set, Comes}
+use Rattle.row_sort.proofs.SetWords.{clauses-append, one-clause, sortable-append}
+use Rattle.dimacs_rows.specs.Rows.{mostStored, Rows, Makes, Stores}
+use Rattle.dimacs_rows.specs.Collected.{Set}
 use Rattle.dimacs_rows.specs.declared.rows.Stored as stores
 
 -- nothing is stored
@@ -108,7 +108,8 @@ module _ (old new : List ℕ) (k : ℕ) (s : Sorted old new k) where
 
   -- the set's rows come first, whatever stands behind the rows that were sorted
   pub sorted-set :
-      (rest : List ℕ) → k ≤ mostRows → (E : List (List ℕ)) → insertAll (clausesOf old) [] ≡ insertAll E [] → Set (insertAll E []) (new ++ rest) k
+      (rest : List ℕ) → k ≤ mostRows → (E : List (List ℕ)) → insertAll (clausesOf old) [] ≡ insertAll E []
+      → Set (insertAll E []) (new ++ rest) k
   sorted-set rest h E e =
       record {
         few = h;
@@ -146,5 +147,7 @@ module _ (old last : List ℕ) (k n : ℕ) (s : Sorted (take (width * n) old) la
   pub comes-full : mostRows < k → (E : List (List ℕ)) → Makes old (stores.the-variants.Rows n) E → mostRows < length (insertAll E [])
   comes-full h E e = subst (λ (z : List (List ℕ)). mostRows < length z) e (sorted-many (take (width * n) old) last k s h)
 
-  pub comes-rows : (rest : List ℕ) → k ≤ mostRows → (E : List (List ℕ)) → Makes old (stores.the-variants.Rows n) E → Set (insertAll E []) (last ++ rest) k
+  pub comes-rows :
+      (rest : List ℕ) → k ≤ mostRows → (E : List (List ℕ)) → Makes old (stores.the-variants.Rows n) E
+      → Set (insertAll E []) (last ++ rest) k
   comes-rows rest h E e = sorted-set (take (width * n) old) last k s rest h E e

@@ -1,7 +1,6 @@
 pub mod Parts
 pub mod Closures
 pub mod BlockRows
-pub mod Rows
 pub mod Guaranteed
 pub mod Firing
 pub mod Violations

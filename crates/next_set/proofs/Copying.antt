@@ -13,7 +13,7 @@ use Rattle.clause.specs.Rows.{rowCount}
 use Rattle.clause.specs.Place.{At, Placed, AtRow}
 use Rattle.clause.specs.declared.place.RowPlace.{RowPlace}
 use Rattle.clause.proofs.RowLaws.{row-length}
-use Rattle.clause.proofs.PlaceLaws.{placed-first, at-row, row-ends, placed-next, placed-in}
+use Rattle.clause.proofs.RowPlaces.{placed-first, at-row, row-ends, placed-next, placed-in}
 use Rattle.clause_set.proofs.Extended.{range-left, range-done}
 use Rattle.next_set.specs.Build.{rowsWithout, wordsWithout}
 use Rattle.next_set.specs.Post.{Copied}

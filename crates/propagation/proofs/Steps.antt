@@ -53,7 +53,9 @@ module _ (w s₀ s : List ℕ) (at : ℕ) (h : at + width ≤ length w) (answer 
       cl₀ : ClosedAt s₀ (clauseAt w at)
       cl₀ = rw (p .0) at cl
 
-      split : (f : List ℕ) → List·Memᴰ f (clauseAt w at ∷ clausesFrom w (at + width)) → List·Memᴰ f (clausesFrom w (at + width)) ⊎ ClosedAt s₀ f
+      split :
+          (f : List ℕ) → List·Memᴰ f (clauseAt w at ∷ clausesFrom w (at + width))
+          → List·Memᴰ f (clausesFrom w (at + width)) ⊎ ClosedAt s₀ f
       split f (List·Memᴰ·head e) = inr (rw e cl₀)
       split f (List·Memᴰ·tail m) = inl m
 

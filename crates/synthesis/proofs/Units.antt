@@ -68,7 +68,8 @@ module _ (s : List ℕ) where
       ∙ sym (append-assoc (rowOf (unit a)) (clauseWords (unitsFrom s (suc a) k)) (rowOf (unit (a + suc k))))
 
   -- ---- rows of fill, of which the first are written
-  pub units-start : (atoms : ℕ) (w : List ℕ) → w ≡ replicate (width * atoms) fill → w ≡ clauseWords (unitsFrom s 0 0) ++ replicate (width * (atoms - 0)) fill
+  pub units-start :
+      (atoms : ℕ) (w : List ℕ) → w ≡ replicate (width * atoms) fill → w ≡ clauseWords (unitsFrom s 0 0) ++ replicate (width * (atoms - 0)) fill
   unfolding unitsFrom clauseWords each range
   units-start atoms w e = let q : atoms - 0 ≡ atoms = omega arith in rw q e
 

@@ -1,18 +1,15 @@
 -- `checker::check_true`: the first clause that is false is the first of those that are left.
-use Prim.Native.Nat.{ℕ, _<_, _-_}
+use Prim.Native.Nat.{ℕ, _-_}
 use mathlib.Core.Path.{_≡_, refl, sym, _∙_}
 use mathlib.Core.List.{List, []}
-use native.Mathlib.Omega.{arith}
-use lib.ListN.{length, getD, drop}
+use lib.ListN.{getD, drop}
 use borrow.Author.Tests.{not-true, not-false}
 use Rattle.definitions.specs.Lists.{firstFail}
 use Rattle.definitions.specs.Literal.{holdsIn}
 use Rattle.definitions.specs.Clauses.{clauseOf}
 use Rattle.clause.specs.Rows.{rowCount, clausesOf}
 use Rattle.clause.specs.Place.{Placed, AtRow}
-use Rattle.clause.proofs.RowLaws.{clauses-length}
-use Rattle.clause.proofs.PlaceLaws.{placed-first, is-row, no-row, follows, placed-next}
-use Rattle.judge.proofs.Rows.{clause-read}
+use Rattle.clause.proofs.RowPlaces.{placed-first, is-row, no-clause, row-clause, has-clause, follows, placed-next, fewer-left}
 use Rattle.checker.proofs.Checking.{first-left, first-on, first-end, false-at, false-none}
 use borrow.Author.Needs.{needs}
 use Rattle.checker.proofs.check_true.Statement.{statement}
@@ -49,9 +46,6 @@ at t = t .before .before
 row : (t : turn) → AtRow (words (at t)) (at t .loop .place)
 row t = is-row (at t .loop .inv .0) (t .before .is-in .ensures) (t .if1 .taken)
 
-more : (t : turn) → at t .loop .place .number < length (clausesOf (words (at t)))
-more t = omega (arith, row t .inside, clauses-length (words (at t)))
-
 -- and its clause
 abbrev asked : Type 0
 asked = tie.After-holds Inv-loop μ-loop
@@ -60,7 +54,7 @@ abbrev turn-of : asked → turn
 turn-of q = q .before .before
 
 clause : (q : asked) → let h = at (turn-of q) in clauseOf (q .before .row .result .now) ≡ getD (clausesOf (words h)) (h .loop .place .number) []
-clause q = clause-read _ _ _ _ (row (turn-of q) .inside) (q .before .row .ensures) refl
+clause q = row-clause (row (turn-of q)) (q .before .row .ensures) refl
 
 first-requires : tie.Need-first-requires Inv-loop μ-loop
 first-requires c κs = search needs
@@ -86,7 +80,7 @@ returns c =
     let t = turn-of q in
     let no = sym (q .holds .ensures) ∙ not-true _ (c .before .if2 .taken) in
     c .refuse-at .ensures
-    ∙ false-at _ _ (at t .loop .inv .1 ∙ first-left (holdsIn _) (clausesOf (words (at t))) _ [] _ (clause q) (more t) no)
+    ∙ false-at _ _ (at t .loop .inv .1 ∙ first-left (holdsIn _) (clausesOf (words (at t))) _ [] _ (clause q) (has-clause (row t)) no)
 
 next-requires : tie.Need-next-requires Inv-loop μ-loop
 next-requires c κs = let t = turn-of (c .before) in follows (row t) (start (at t) .good .0 .0)
@@ -96,22 +90,22 @@ abbrev passed : tie.After-next Inv-loop μ-loop → asked
 passed c = c .before .before
 
 loop-less : tie.Need-loop-less Inv-loop μ-loop
-loop-less c = omega (arith, row (turn-of (passed c)) .inside, c .next .ensures .number)
+loop-less c = fewer-left (row (turn-of (passed c))) (c .next .ensures)
 
 loop-again : tie.Need-loop-again Inv-loop μ-loop
 loop-again c =
     let q = passed c in
     let t = turn-of q in
     let yes = sym (q .holds .ensures) ∙ not-false _ (c .before .if2 .left) in
-    let on = first-on (holdsIn _) (clausesOf (words (at t))) _ [] _ (clause q) (more t) yes in
+    let on = first-on (holdsIn _) (clausesOf (words (at t))) _ [] _ (clause q) (has-clause (row t)) yes in
     (placed-next (row t) (c .next .ensures), rw (c .next .ensures .number) (at t .loop .inv .1 ∙ on))
 
 returns-2 : tie.Need-returns-2 Inv-loop μ-loop
 returns-2 c =
     let h = c .before .before in
     let w = words h in
-    let done = no-row (h .loop .inv .0) (c .before .is-in .ensures) (c .if1 .left) in
-    false-none _ (h .loop .inv .1 ∙ first-end (holdsIn _) (clausesOf w) (h .loop .place .number) (omega (arith, done, clauses-length w)))
+    let done = no-clause (h .loop .inv .0) (c .before .is-in .ensures) (c .if1 .left) in
+    false-none _ (h .loop .inv .1 ∙ first-end (holdsIn _) (clausesOf w) (h .loop .place .number) done)
 
 pub check-true-spec : {M : Type 1} → statement M
 check-true-spec =

@@ -1,5 +1,5 @@
 -- `next_set::copy_unflagged`: the rows before the place that have no flag are copied. Assumes nothing.
-use Prim.Native.Nat.{ℕ, _+_, _-_, _≤_, _<_}
+use Prim.Native.Nat.{ℕ, _+_, _-_, _≤_}
 use mathlib.Core.Path.{ap}
 use mathlib.Core.List.{List}
 use native.Mathlib.Omega.{arith}
@@ -7,7 +7,7 @@ use lib.ListN.{length}
 use Rattle.clause.specs.Rows.{rowCount}
 use Rattle.clause.specs.Place.{AtRow}
 use Rattle.clause.proofs.RowLaws.{row-length}
-use Rattle.clause.proofs.PlaceLaws.{is-row, no-row, row-ends, follows}
+use Rattle.clause.proofs.RowPlaces.{is-row, no-row, row-ends, follows, fewer-left}
 use Rattle.writing.proofs.Writes.{wrote-between}
 use Rattle.next_set.proofs.Copying.{Copying, copying-start, copying-skip, copying-room, copying-row, copying-end}
 use borrow.Author.Needs.{needs}
@@ -46,12 +46,6 @@ row t = is-row (at t .loop .inv .read) (t .before .is-in .ensures) (t .if1 .take
 
 abbrev next-row : Type 0
 next-row = tie.After-next Inv-loop μ-loop
-
-abbrev fewer-left : next-row → Type 0
-fewer-left n = let h = at (n .before) in rowCount (words h) - n .next .result .number < rowCount (words h) - h .loop .from .number
-
-fewer : (n : next-row) → fewer-left n
-fewer n = omega (arith, row (n .before) .inside, n .next .ensures .number)
 
 -- where it has no flag: there is room for it
 abbrev next-of : tie.Else2 Inv-loop μ-loop → next-row
@@ -97,7 +91,7 @@ shared-slice-read-if2 : tie.Need-shared-slice-read-if2 Inv-loop μ-loop
 shared-slice-read-if2 c = let t = c .before .before in omega (arith, row t .inside, start (at t) .pre .0)
 
 loop-less : tie.Need-loop-less Inv-loop μ-loop
-loop-less c = fewer (c .before .before)
+loop-less c = let n = c .before .before in fewer-left (row (n .before)) (n .next .ensures)
 
 loop-again : tie.Need-loop-again Inv-loop μ-loop
 loop-again c =
@@ -118,7 +112,7 @@ next-requires-2 c κs =
     follows (room u) (omega (arith, start h .good .1 .1 .0 .0, h .loop .inv .same-length))
 
 loop-less-2 : tie.Need-loop-less-2 Inv-loop μ-loop
-loop-less-2 c = fewer (next-of (unflagged (written (c .before) .before)))
+loop-less-2 c = let n = next-of (unflagged (written (c .before) .before)) in fewer-left (row (n .before)) (n .next .ensures)
 
 loop-again-2 : tie.Need-loop-again-2 Inv-loop μ-loop
 loop-again-2 c =

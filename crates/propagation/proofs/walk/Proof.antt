@@ -12,7 +12,8 @@ use Rattle.definitions.specs.Literal.{fill}
 use Rattle.definitions.specs.Clauses.{width, clauseRight}
 use Rattle.clause.specs.Rows.{rowCount, clauseAt, RightRows}
 use Rattle.clause.specs.Place.{Placed, AtRow}
-use Rattle.clause.proofs.PlaceLaws.{placed-first, first-position, is-row, no-row, rows-end, row-ends, row-words, follows, placed-next, next-position}
+use Rattle.clause.proofs.RowPlaces.{placed-first, first-position, is-row, no-row, rows-end, row-ends, row-words}
+use Rattle.clause.proofs.RowPlaces.{follows, placed-next, next-position, fewer-left}
 use Rattle.clause.proofs.ReadLaws.{read-right}
 use Rattle.definitions.proofs.RowsRead.{right-row}
 use Rattle.clause.proofs.ClauseLaws.{clause-below}
@@ -107,8 +108,8 @@ row-right : (w : outer) → clauseRight (atoms w) (take width (drop (place w) (w
 row-right w = rw (row-words (at-row-of w)) (rows w .right (at-head w .walk .place .number) (at-row-of w .inside))
 
 -- the walk goes on at the next row
-fewer-left : (w : outer) → let c = rowCount (words w) in c - w .next .result .number < c - at-head w .walk .place .number
-fewer-left w = omega (arith, at-row-of w .inside, w .next .ensures .number)
+less-left : (w : outer) → let c = rowCount (words w) in c - w .next .result .number < c - at-head w .walk .place .number
+less-left w = fewer-left (at-row-of w) (w .next .ensures)
 
 abbrev On : outer → List ℕ → Pass → Type 0
 On w s a = Placed (words w) (w .next .result) × Walk (words w) (set-first w) s (w .next .result .at) a
@@ -239,7 +240,7 @@ enum-told-3 c = c .match .keys3
 
 walk-less : tie.Need-walk-less Inv-loop μ-loop Inv-walk μ-walk
 unfolding width
-walk-less c = fewer-left (row-of (at (looked-by c)))
+walk-less c = less-left (row-of (at (looked-by c)))
 
 walk-again : tie.Need-walk-again Inv-loop μ-loop Inv-walk μ-walk
 unfolding width
@@ -290,7 +291,7 @@ slice-write-marks c = mark-inside (open-of (c .before))
 
 walk-less-2 : tie.Need-walk-less-2 Inv-loop μ-loop Inv-walk μ-walk
 unfolding width
-walk-less-2 c = fewer-left (row (scan-of (open-of (c .before))))
+walk-less-2 c = less-left (row (scan-of (open-of (c .before))))
 
 walk-again-2 : tie.Need-walk-again-2 Inv-loop μ-loop Inv-walk μ-walk
 unfolding width
@@ -309,7 +310,7 @@ walk-again-2 c =
 
 walk-less-3 : tie.Need-walk-less-3 Inv-loop μ-loop Inv-walk μ-walk
 unfolding width
-walk-less-3 c = fewer-left (row (scan-of (open-of (c .before))))
+walk-less-3 c = less-left (row (scan-of (open-of (c .before))))
 
 walk-again-3 : tie.Need-walk-again-3 Inv-loop μ-loop Inv-walk μ-walk
 unfolding width

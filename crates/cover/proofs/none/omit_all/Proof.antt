@@ -9,7 +9,7 @@ use Rattle.definitions.specs.Lists.{any}
 use Rattle.definitions.specs.Clauses.{clauseOf, rowAt}
 use Rattle.clause.specs.Rows.{rowCount, clausesOf}
 use Rattle.clause.specs.Place.{Placed, AtRow}
-use Rattle.clause.proofs.PlaceLaws.{placed-first, is-row, no-row, follows, placed-next}
+use Rattle.clause.proofs.RowPlaces.{placed-first, is-row, no-row, follows, placed-next, fewer-left}
 use Rattle.cover.specs.None.{liesIn}
 use Rattle.cover.proofs.Omitting.{flagAfter, omit-on, omit-end}
 use borrow.Author.Needs.{needs}
@@ -93,7 +93,7 @@ next-requires c κs =
     follows (row t) (start (at t) .good .0 .0)
 
 loop-less : tie.Need-loop-less Inv-loop μ-loop
-loop-less c = omega (arith, row (in-loop (listed (omitted (c .before)))) .inside, c .next .ensures .number)
+loop-less c = fewer-left (row (in-loop (listed (omitted (c .before))))) (c .next .ensures)
 
 loop-again : tie.Need-loop-again Inv-loop μ-loop
 loop-again c =

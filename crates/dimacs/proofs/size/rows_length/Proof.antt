@@ -8,8 +8,8 @@ use Rattle.definitions.specs.Lists.{each}
 use Rattle.definitions.specs.Clauses.{width, mostRows, clauseOf, rowAt}
 use Rattle.clause.specs.Rows.{clausesOf, rowCount}
 use Rattle.clause.specs.Place.{Placed, AtRow}
-use Rattle.clause.proofs.RowLaws.{clauses-length, clauses-at}
-use Rattle.clause.proofs.PlaceLaws.{placed-first, is-row, no-row, follows, placed-next}
+use Rattle.clause.proofs.RowLaws.{clauses-at}
+use Rattle.clause.proofs.RowPlaces.{placed-first, is-row, no-clause, has-clause, follows, placed-next, fewer-left}
 use Rattle.text.proofs.Lines.{sum-next, sum-end}
 use Rattle.dimacs.specs.Write.{rowLine}
 use Rattle.dimacs.proofs.Parts.{clause-width, rows-size}
@@ -44,9 +44,6 @@ at t = t .before .before
 row : (t : turn) → AtRow (words (at t)) (at t .loop .place)
 row t = is-row (at t .loop .inv .0) (t .before .is-in .ensures) (t .if1 .taken)
 
-more : (t : turn) → at t .loop .place .number < length (clausesOf (words (at t)))
-more t = omega (arith, row t .inside, clauses-length (words (at t)))
-
 -- its clause
 abbrev listed : Type 0
 listed = tie.After-literals Inv-loop μ-loop
@@ -76,7 +73,7 @@ next :
 next c =
     let t = of-turn c in
     let l = at t .loop in
-    sum-next rowLine (clausesOf (words (at t))) (l .place .number) _ (l .sum) (l .inv .1) [] _ (clause (c .before)) (more t) _
+    sum-next rowLine (clausesOf (words (at t))) (l .place .number) _ (l .sum) (l .inv .1) [] _ (clause (c .before)) (has-clause (row t)) _
     (c .row-length .ensures)
 
 low : (h : head) → length (each rowLine (clausesOf (words h))) < 1000000
@@ -110,7 +107,7 @@ next-requires c κs =
     follows (row t) (start (at t) .good .0 .0)
 
 loop-less : tie.Need-loop-less Inv-loop μ-loop
-loop-less c = omega (arith, row (of-turn (c .before)) .inside, c .next .ensures .number)
+loop-less c = fewer-left (row (of-turn (c .before))) (c .next .ensures)
 
 loop-again : tie.Need-loop-again Inv-loop μ-loop
 loop-again c = let a = c .next .ensures in (placed-next (row (of-turn (c .before))) a, rw (a .number) (next (c .before)))
@@ -119,8 +116,8 @@ returns : tie.Need-returns Inv-loop μ-loop
 returns c =
     let h = c .before .before in
     let l = h .loop in
-    let done = no-row (l .inv .0) (c .before .is-in .ensures) (c .if1 .left) in
-    sum-end rowLine (clausesOf (words h)) (l .place .number) _ (l .sum) (l .inv .1) (omega (arith, done, clauses-length (words h)))
+    let done = no-clause (l .inv .0) (c .before .is-in .ensures) (c .if1 .left) in
+    sum-end rowLine (clausesOf (words h)) (l .place .number) _ (l .sum) (l .inv .1) done
 
 pub rows-length-spec : {M : Type 1} → statement M
 rows-length-spec =

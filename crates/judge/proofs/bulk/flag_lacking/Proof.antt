@@ -9,9 +9,7 @@ use Rattle.definitions.specs.Clauses.{clauseOf}
 use Rattle.clause.specs.Rows.{rowCount, clausesOf}
 use Rattle.clause.specs.Place.{Placed, AtRow}
 use Rattle.judge.specs.Judging.{lacksFlag, flagMore}
-use Rattle.clause.proofs.RowLaws.{clauses-length}
-use Rattle.clause.proofs.PlaceLaws.{placed-first, is-row, no-row, follows, placed-next}
-use Rattle.judge.proofs.Rows.{clause-read}
+use Rattle.clause.proofs.RowPlaces.{placed-first, is-row, no-clause, row-clause, has-clause, follows, placed-next, fewer-left}
 use Rattle.judge.proofs.Flagged.{flag-set, flag-stay, flag-end}
 use borrow.Author.Needs.{needs}
 use Rattle.judge.proofs.bulk.flag_lacking.Statement.{statement}
@@ -49,9 +47,6 @@ at t = t .before .before
 row : (t : turn) → AtRow (words (at t)) (at t .loop .place)
 row t = is-row (at t .loop .inv .0) (t .before .is-in .ensures) (t .if1 .taken)
 
-more : (t : turn) → at t .loop .place .number < length (clausesOf (words (at t)))
-more t = omega (arith, row t .inside, clauses-length (words (at t)))
-
 in-flags : (t : turn) → at t .loop .place .number < length (at t .loop .fails)
 in-flags t = omega (arith, row t .inside, at t .loop .inv .1, start (at t) .pre)
 
@@ -66,10 +61,7 @@ abbrev turn-of : asked → turn
 turn-of q = next-of q .before
 
 clause : (q : asked) → let h = at (turn-of q) in clauseOf (q .before .row .result .now) ≡ getD (clausesOf (words h)) (h .loop .place .number) []
-clause q = clause-read _ _ _ _ (row (turn-of q) .inside) (q .before .row .ensures) refl
-
-fewer-left : (q : asked) → let h = at (turn-of q) in rowCount (words h) - next-of q .next .result .number < rowCount (words h) - h .loop .place .number
-fewer-left q = omega (arith, row (turn-of q) .inside, next-of q .next .ensures .number)
+clause q = row-clause (row (turn-of q)) (q .before .row .ensures) refl
 
 first-requires : tie.Need-first-requires Inv-loop μ-loop
 first-requires c κs = search needs
@@ -90,7 +82,7 @@ lacks-flag-requires : tie.Need-lacks-flag-requires Inv-loop μ-loop
 lacks-flag-requires c κs = search needs
 
 loop-less : tie.Need-loop-less Inv-loop μ-loop
-loop-less c = fewer-left (c .before)
+loop-less c = fewer-left (row (turn-of (c .before))) (next-of (c .before) .next .ensures)
 
 loop-again : tie.Need-loop-again Inv-loop μ-loop
 loop-again c =
@@ -101,14 +93,14 @@ loop-again c =
     let no = sym (q .lacks-flag .ensures) ∙ not-true _ (c .if2 .taken) in (
       placed-next (row t) a,
       i .1,
-      rw (a .number) (i .2 ∙ flag-stay (lacksFlag _ _) (clausesOf (words (at t))) _ _ _ (clause q) (more t) (in-flags t) no),
+      rw (a .number) (i .2 ∙ flag-stay (lacksFlag _ _) (clausesOf (words (at t))) _ _ _ (clause q) (has-clause (row t)) (in-flags t) no),
     )
 
 slice-write-fails : tie.Need-slice-write-fails Inv-loop μ-loop
 slice-write-fails c = in-flags (turn-of (c .before))
 
 loop-less-2 : tie.Need-loop-less-2 Inv-loop μ-loop
-loop-less-2 c = fewer-left (c .before)
+loop-less-2 c = fewer-left (row (turn-of (c .before))) (next-of (c .before) .next .ensures)
 
 loop-again-2 : tie.Need-loop-again-2 Inv-loop μ-loop
 loop-again-2 c =
@@ -119,7 +111,7 @@ loop-again-2 c =
     let yes = sym (q .lacks-flag .ensures) ∙ not-false _ (c .if2 .left) in (
       placed-next (row t) a,
       simp length-set (i .1),
-      rw (a .number) (i .2 ∙ flag-set (lacksFlag _ _) (clausesOf (words (at t))) _ _ _ (clause q) (more t) (in-flags t) yes),
+      rw (a .number) (i .2 ∙ flag-set (lacksFlag _ _) (clausesOf (words (at t))) _ _ _ (clause q) (has-clause (row t)) (in-flags t) yes),
     )
 
 same-length : tie.Need-same-length Inv-loop μ-loop
@@ -130,8 +122,8 @@ returns c =
     let h = c .before .before in
     let l = h .loop in
     let w = words h in
-    let done = no-row (l .inv .0) (c .before .is-in .ensures) (c .if1 .left) in
-    sym (l .inv .2 ∙ flag-end (lacksFlag _ _) (clausesOf w) (l .fails) (l .place .number) (omega (arith, done, clauses-length w)))
+    let done = no-clause (l .inv .0) (c .before .is-in .ensures) (c .if1 .left) in
+    sym (l .inv .2 ∙ flag-end (lacksFlag _ _) (clausesOf w) (l .fails) (l .place .number) done)
 
 pub flag-lacking-spec : {M : Type 1} → statement M
 flag-lacking-spec =

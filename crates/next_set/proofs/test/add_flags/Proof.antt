@@ -9,8 +9,8 @@ use Rattle.definitions.specs.Closure.{bit}
 use Rattle.definitions.specs.Clauses.{width, clauseOf, rowAt}
 use Rattle.clause.specs.Rows.{rowCount, clausesOf}
 use Rattle.clause.specs.Place.{Placed, AtRow}
-use Rattle.clause.proofs.RowLaws.{row-length, clauses-at, clauses-length}
-use Rattle.clause.proofs.PlaceLaws.{placed-first, is-row, no-row, follows, placed-next}
+use Rattle.clause.proofs.RowLaws.{row-length}
+use Rattle.clause.proofs.RowPlaces.{placed-first, is-row, no-clause, row-clause, follows, placed-next, fewer-left}
 use Rattle.definitions.proofs.RowsRead.{clause-short}
 use Rattle.next_set.proofs.Noting.{Adding, adding-start, adding-pass, adding-put, adding-end}
 use borrow.Author.Needs.{needs}
@@ -62,9 +62,6 @@ in-flags t = omega (arith, row t .inside, start (head-of t) .pre .0)
 abbrev next-row : Type 0
 next-row = tie.After-next Inv-loop μ-loop
 
-fewer-left : (n : next-row) → let w = words (head-of (n .before)) in rowCount w - n .next .result .number < rowCount w - number (n .before)
-fewer-left n = omega (arith, row (n .before) .inside, n .next .ensures .number)
-
 -- the literals of the row are those of its clause
 abbrev read : Type 0
 read = tie.After-put-arg Inv-loop μ-loop
@@ -79,9 +76,7 @@ abbrev turn-of : read → turn
 turn-of d = next-of d .before
 
 size : (d : read) → d .before .literals .result .now ≡ getD (clausesOf (words (head-of (turn-of d)))) (number (turn-of d)) []
-size d =
-    let t = turn-of d in
-    d .before .literals .ensures ∙ ap clauseOf (d .before .before .row .ensures) ∙ sym (clauses-at (words (head-of t)) (number t) (row t .inside))
+size d = row-clause (row (turn-of d)) (d .before .before .row .ensures) (d .before .literals .ensures)
 
 short : (d : read) → length (d .before .literals .result .now) ≤ width
 short d =
@@ -112,7 +107,7 @@ shared-slice-read-if2 : tie.Need-shared-slice-read-if2 Inv-loop μ-loop
 shared-slice-read-if2 c = in-flags (c .before .before)
 
 loop-less : tie.Need-loop-less Inv-loop μ-loop
-loop-less c = fewer-left (c .before .before)
+loop-less c = let n = c .before .before in fewer-left (row (n .before)) (n .next .ensures)
 
 loop-again : tie.Need-loop-again Inv-loop μ-loop
 loop-again c =
@@ -153,7 +148,7 @@ abbrev noted : tie.After-slice-known3 Inv-loop μ-loop → tie.After-put Inv-loo
 noted c = c .before .before
 
 loop-less-2 : tie.Need-loop-less-2 Inv-loop μ-loop
-loop-less-2 c = fewer-left (next-of (noted c .before))
+loop-less-2 c = let n = next-of (noted c .before) in fewer-left (row (n .before)) (n .next .ensures)
 
 loop-again-2 : tie.Need-loop-again-2 Inv-loop μ-loop
 loop-again-2 c =
@@ -187,10 +182,9 @@ returns c =
     let h = c .before .before in
     let l = h .loop in
     let a = start h .args in
-    let done = no-row (l .inv .0) (c .before .is-in .ensures) (c .if1 .left) in
+    let done = no-clause (l .inv .0) (c .before .is-in .ensures) (c .if1 .left) in
     λ p e.
-    adding-end p (clausesOf (words h)) (a .at) (a .to .now) (l .to) (a .due .now) (l .due) (l .place .number) (l .inv .3 p e)
-    (omega (arith, done, clauses-length (words h)))
+    adding-end p (clausesOf (words h)) (a .at) (a .to .now) (l .to) (a .due .now) (l .due) (l .place .number) (l .inv .3 p e) done
 
 pub add-flags-spec : {M : Type 1} → statement M
 add-flags-spec =

@@ -8,7 +8,7 @@ use lib.ListN.{length}
 use Rattle.definitions.specs.Lists.{each, range}
 use Rattle.clause.specs.Rows.{rowCount, clausesOf}
 use Rattle.clause.specs.Place.{Placed, AtRow}
-use Rattle.clause.proofs.PlaceLaws.{placed-first, is-row, no-row, follows, placed-next}
+use Rattle.clause.proofs.RowPlaces.{placed-first, is-row, no-row, follows, placed-next, fewer-left}
 use Rattle.clause_set.specs.Put.{putAll}
 use Rattle.clause_set.specs.Held.{held}
 use Rattle.clause_set.proofs.Extended.{range-left, range-done}
@@ -121,7 +121,7 @@ next-requires : tie.Need-next-requires Inv-loop μ-loop
 next-requires c κs = let t = turn-of (put-of c) in follows (row t) (start (at t) .good .0 .0)
 
 loop-less : tie.Need-loop-less Inv-loop μ-loop
-loop-less c = omega (arith, row (turn-of (put-of (c .before))) .inside, c .next .ensures .number)
+loop-less c = fewer-left (row (turn-of (put-of (c .before)))) (c .next .ensures)
 
 loop-again : tie.Need-loop-again Inv-loop μ-loop
 loop-again c =

@@ -10,7 +10,7 @@ use Rattle.definitions.specs.Clauses.{width, clauseWords}
 use Rattle.clause.specs.Rows.{rowCount}
 use Rattle.clause.specs.Place.{Placed, AtRow}
 use Rattle.clause.proofs.RowLaws.{rows-of}
-use Rattle.clause.proofs.PlaceLaws.{placed-first, at-row, row-ends, follows, placed-next, placed-in}
+use Rattle.clause.proofs.RowPlaces.{placed-first, at-row, row-ends, follows, placed-next, placed-in}
 use Rattle.synthesis.specs.Rounds.{unitsFrom}
 use Rattle.synthesis.proofs.Units.{unit-word, units-start, units-row, units-end}
 use borrow.Author.Needs.{needs}

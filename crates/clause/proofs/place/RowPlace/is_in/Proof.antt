@@ -1,5 +1,5 @@
 use Rattle.definitions.specs.Clauses.{width}
-use Rattle.clause.proofs.PlaceLaws.{place-inside, row-left}
+use Rattle.clause.proofs.RowPlaces.{place-inside, row-left}
 use Rattle.clause.proofs.place.RowPlace.is_in.Statement.{statement}
 use Rattle.clause.proofs.place.RowPlace.is_in.Tie as tie
 

@@ -2,7 +2,7 @@ use native.Mathlib.Omega.{arith}
 use mathlib.Core.Path.{refl}
 use Rattle.definitions.specs.Clauses.{width}
 use Rattle.clause.proofs.RowLaws.{row-cut}
-use Rattle.clause.proofs.PlaceLaws.{row-ends}
+use Rattle.clause.proofs.RowPlaces.{row-ends}
 use borrow.Author.Needs.{needs}
 use Rattle.clause.proofs.place.RowPlace.row.Statement.{statement}
 use Rattle.clause.proofs.place.RowPlace.row.Tie as tie

@@ -1,18 +1,18 @@
 -- Laws of places of rows, for the walks over rows. Assumes nothing.
 use mathlib.Core.Path.{_≡_, refl, sym, _∙_, ap}
 use mathlib.Core.Bool.{Bool, true, false}
-use mathlib.Core.List.{List}
+use mathlib.Core.List.{List, []}
 use Prim.Native.Nat.{ℕ, _+_, _-_, _*_, _^_, _≤_, _<_}
 use native.Mathlib.Nat.{mul-suc, mul-zero}
 use native.Mathlib.Omega.{arith}
 use lib.Dec.{ltb, leb}
-use lib.ListN.{length, take, drop}
+use lib.ListN.{length, getD, take, drop}
 use borrow.Author.Tests.{ltb-true, ltb-false, lt-ltb, le-ltb, leb-true, leb-false}
-use Rattle.definitions.specs.Clauses.{width, rowAt}
-use Rattle.clause.specs.Rows.{rowCount}
+use Rattle.definitions.specs.Clauses.{width, clauseOf, rowAt}
+use Rattle.clause.specs.Rows.{rowCount, clausesOf}
 use Rattle.clause.specs.Place.{At, Placed, AtRow, Follows, Precedes}
 use Rattle.clause.specs.declared.place.RowPlace.{RowPlace}
-use Rattle.clause.proofs.RowLaws.{row-inside}
+use Rattle.clause.proofs.RowLaws.{row-inside, clauses-length, clauses-at}
 
 at-position : {p : RowPlace} (n : ℕ) → At n p → p .at ≡ width * p .number
 at-position n a = a .position ∙ ap (λ (k : ℕ). width * k) (sym (a .number))
@@ -43,6 +43,9 @@ module _ {w : List ℕ} {p : RowPlace} (placed : Placed w p) where
   pub no-row : {r : Bool} → r ≡ ltb (p .number) (rowCount w) → r ≡ false → rowCount w ≤ p .number
   no-row e h = ltb-false (p .number) (rowCount w) (sym e ∙ h)
 
+  pub no-clause : {r : Bool} → r ≡ ltb (p .number) (rowCount w) → r ≡ false → length (clausesOf w) ≤ p .number
+  no-clause e h = omega (arith, no-row e h, clauses-length w)
+
   -- the code's test
   pub row-left : leb width (length w - p .at) ≡ ltb (p .number) (rowCount w)
   unfolding width rowCount
@@ -61,10 +64,16 @@ module _ {w : List ℕ} {p : RowPlace} (row : AtRow w p) where
   pub row-ends : p .at + width ≤ length w
   row-ends = omega (arith, row .position, row-inside w (p .number) (row .inside))
 
-  -- the words of the row
+  -- the words of the row, and its clause
   pub row-words : take width (drop (p .at) w) ≡ rowAt w (p .number)
   unfolding rowAt
   row-words = rw (row .position)
+
+  pub row-clause : {words f : List ℕ} → words ≡ rowAt w (p .number) → f ≡ clauseOf words → f ≡ getD (clausesOf w) (p .number) []
+  row-clause e q = q ∙ ap clauseOf e ∙ sym (clauses-at w (p .number) (row .inside))
+
+  pub has-clause : p .number < length (clausesOf w)
+  has-clause = omega (arith, row .inside, clauses-length w)
 
   -- the next row
   pub follows : length w < 2 ^ 64 → Follows p
@@ -75,6 +84,9 @@ module _ {w : List ℕ} {p : RowPlace} (row : AtRow w p) where
 
   pub next-position : {q : RowPlace} → At (p .number + 1) q → q .at ≡ p .at + width
   next-position a = omega (arith, a .position, row .position, mul-suc width (p .number))
+
+  pub fewer-left : {q : RowPlace} → At (p .number + 1) q → rowCount w - q .number < rowCount w - p .number
+  fewer-left a = omega (arith, row .inside, a .number)
 
   -- the row before
   pub precedes : (p .number ≡ 0 → ⊥) → Precedes p
