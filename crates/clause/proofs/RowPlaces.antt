@@ -2,7 +2,7 @@
 use mathlib.Core.Path.{_≡_, refl, sym, _∙_, ap}
 use mathlib.Core.Bool.{Bool, true, false}
 use mathlib.Core.List.{List, []}
-use Prim.Native.Nat.{ℕ, _+_, _-_, _*_, _^_, _≤_, _<_}
+use Prim.Native.Nat.{ℕ, _+_, _-_, _*_, _%_, _^_, _≤_, _<_}
 use native.Mathlib.Nat.{mul-suc, mul-zero}
 use native.Mathlib.Omega.{arith}
 use lib.Dec.{ltb, leb}
@@ -32,9 +32,10 @@ module _ {w : List ℕ} {p : RowPlace} (placed : Placed w p) where
   pub at-row : p .number < rowCount w → AtRow w p
   at-row h = record { position = placed .position; inside = h }
 
-  pub rows-end : rowCount w ≤ p .number → length w < p .at + width
+  -- of whole rows, one begins wherever words are left
+  pub row-begins : length w % width ≡ 0 → p .at < length w → AtRow w p
   unfolding width rowCount
-  rows-end h = omega (arith, placed .position)
+  row-begins whole h = at-row (omega (arith, placed .position))
 
   -- by the walk's test there is a row, or none is left
   pub is-row : {r : Bool} → r ≡ ltb (p .number) (rowCount w) → r ≡ true → AtRow w p

@@ -108,14 +108,15 @@ fn scan_word(marks: &[u8], word: u16, first: u16) -> Scan
 }
 
 // Walks over the clauses and the literals of each, and marks each literal that follows. It stops at the first complement met:
-// a clause with two open literals forces nothing, one with one forces it, one with none is contradictory.
+// a clause with two open literals forces nothing, one with one forces it, one with none is contradictory. Of whole rows one begins
+// wherever words are left.
 fn walk(clauses: &[u16], marks: &mut [u8]) -> Pass
     requires { ⌜ Ready (now clauses) (now marks) ⌝ }
     ensures { λ r. ⌜ Passed (now (clauses .entry)) (now (marks .entry)) (now (marks .exit)) r ⌝ }
 {
     let mut pass = Pass::Same;
     let mut place = RowPlace::first();
-    'walk: while place.is_in(clauses) {
+    'walk: while place.at < clauses.len() {
         let at = place.at;
         place = place.next();
         let mut first = Literal::FILL;

@@ -12,7 +12,7 @@ use Rattle.definitions.specs.Literal.{fill}
 use Rattle.definitions.specs.Clauses.{width, clauseRight}
 use Rattle.clause.specs.Rows.{rowCount, clauseAt, RightRows}
 use Rattle.clause.specs.Place.{Placed, AtRow}
-use Rattle.clause.proofs.RowPlaces.{placed-first, first-position, is-row, no-row, rows-end, row-ends, row-words}
+use Rattle.clause.proofs.RowPlaces.{placed-first, first-position, row-begins, row-ends, row-words}
 use Rattle.clause.proofs.RowPlaces.{follows, placed-next, next-position, fewer-left}
 use Rattle.clause.proofs.ReadLaws.{read-right}
 use Rattle.definitions.proofs.RowsRead.{right-row}
@@ -53,9 +53,12 @@ start-of h = lent h .before .before
 abbrev words-of : head → List ℕ
 words-of h = now (start-of h .args .clauses)
 
+rows-of : (h : head) → RightRows (start-of h .pre .atoms) (words-of h)
+rows-of h = read-right (start-of h .pre .atoms) (words-of h) (start-of h .pre .rows)
+
 -- where there is a row
 row-of-test : (t : tie.Then1 Inv-loop μ-loop Inv-walk μ-walk) → let h = t .before .before in AtRow (words-of h) (h .walk .place)
-row-of-test t = is-row (t .before .before .walk .inv .0) (t .before .is-in .ensures) (t .if1 .taken)
+row-of-test t = let h = t .before .before in row-begins (h .walk .inv .0) (rows-of h .ascending .whole) (t .if1 .taken)
 
 -- in the outer loop: the clause words, the set at the start and now, the row's place and position, and the answer so far
 abbrev outer : Type 0
@@ -98,8 +101,8 @@ length-now : (w : outer) → length (set-now w) ≡ length (set-first w)
 length-now w = state w .reached .same-length
 
 rows : (w : outer) → RightRows (atoms w) (words w)
-unfolding atoms
-rows w = read-right (atoms w) (words w) (ready w .rows)
+unfolding atoms ready
+rows w = rows-of (at-head w)
 
 inside : (w : outer) → place w + width ≤ length (words w)
 inside w = row-ends (at-row-of w)
@@ -203,9 +206,6 @@ start-of-first c = c .before .before .before
 
 walk-holds : tie.Need-walk-holds Inv-loop μ-loop Inv-walk μ-walk
 walk-holds c = (placed-first (c .first .ensures), rw (first-position (c .first .ensures)) (walk-start _ _ (start-of-first c .pre .sound)))
-
-is-in-requires : tie.Need-is-in-requires Inv-loop μ-loop Inv-walk μ-walk
-is-in-requires c κs = c .walk .inv .0
 
 next-requires : tie.Need-next-requires Inv-loop μ-loop Inv-walk μ-walk
 next-requires c κs = follows (row-of-test c) (start-of (c .before .before) .good .0 .0)
@@ -327,10 +327,8 @@ same-length : tie.Need-same-length Inv-loop μ-loop Inv-walk μ-walk
 same-length c = c .before .before .walk .inv .1 .reached .same-length
 
 returns : tie.Need-returns Inv-loop μ-loop Inv-walk μ-walk
-returns c =
-    let h = c .before .before in
-    let done = no-row (h .walk .inv .0) (c .before .is-in .ensures) (c .if1 .left) in
-    walk-end _ _ _ _ _ (rows-end (h .walk .inv .0) done) (h .walk .inv .1)
+unfolding width
+returns c = walk-end _ _ _ _ _ (omega (arith, c .if1 .left)) (c .before .before .walk .inv .1)
 
 same-length-2 : tie.Need-same-length-2 Inv-loop μ-loop Inv-walk μ-walk
 same-length-2 c = length-now (row (c .before))
@@ -354,7 +352,6 @@ walk-spec =
     μ-walk
     first-requires
     walk-holds
-    is-in-requires
     next-requires
     loop-holds
     add-word
