@@ -42,18 +42,18 @@ fn check_initial(image: &[u16], clauses: &[u16], atoms: usize) -> Verdict
     check_true(clauses, &state[..atoms])
 }
 
-// The place of the first flag, or the number of flags where there is none.
+// The number of the first clause that has its flag, or the number of flags where there is none.
 fn first_flag(flags: &[u8]) -> usize
     ensures { λ r. ⌜ FirstFlag (now (flags .entry)) r ⌝ }
 {
-    let mut place: usize = 0;
-    while place < flags.len() {
-        if flags[place] == 1 {
-            return place;
+    let mut i: usize = 0;
+    while i < flags.len() {
+        if flags[i] == 1 {
+            return i;
         }
-        place += 1;
+        i += 1;
     }
-    place
+    i
 }
 
 // The lowest of the first clauses, one for each flag, that is not kept under an operator, or their number where all are.

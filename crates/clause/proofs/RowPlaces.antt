@@ -10,7 +10,7 @@ use lib.ListN.{length, getD, take, drop}
 use borrow.Author.Tests.{ltb-true, ltb-false, lt-ltb, le-ltb, leb-true, leb-false}
 use Rattle.definitions.specs.Clauses.{width, clauseOf, rowAt}
 use Rattle.clause.specs.Rows.{rowCount, clausesOf}
-use Rattle.clause.specs.Place.{At, Placed, AtRow, Follows, Precedes}
+use Rattle.clause.specs.Place.{At, Placed, AtRow, HasNext, HasPrevious}
 use Rattle.clause.specs.declared.place.RowPlace.{RowPlace}
 use Rattle.clause.proofs.RowLaws.{row-inside, clauses-length, clauses-at}
 
@@ -77,8 +77,8 @@ module _ {w : List ℕ} {p : RowPlace} (row : AtRow w p) where
   has-clause = omega (arith, row .inside, clauses-length w)
 
   -- the next row
-  pub follows : length w < 2 ^ 64 → Follows p
-  follows h = record { position = row .position; fits = omega (arith, row-ends) }
+  pub has-next : length w < 2 ^ 64 → HasNext p
+  has-next h = record { position = row .position; fits = omega (arith, row-ends) }
 
   pub placed-next : {q : RowPlace} → At (p .number + 1) q → Placed w q
   placed-next a = record { position = at-position (p .number + 1) a; inside = omega (arith, row .inside, a .number) }
@@ -90,8 +90,8 @@ module _ {w : List ℕ} {p : RowPlace} (row : AtRow w p) where
   fewer-left a = omega (arith, row .inside, a .number)
 
   -- the row before
-  pub precedes : (p .number ≡ 0 → ⊥) → Precedes p
-  precedes h = record { position = row .position; some-row = omega arith }
+  pub has-previous : (p .number ≡ 0 → ⊥) → HasPrevious p
+  has-previous h = record { position = row .position; some-row = omega arith }
 
   pub row-before : {q : RowPlace} → At (p .number - 1) q → AtRow w q
   row-before a = record { position = at-position (p .number - 1) a; inside = omega (arith, row .inside, a .number) }

@@ -21,12 +21,12 @@ pub record AtRow (w : List ℕ) (p : RowPlace) : Type 0 where
   pub position : p .at ≡ width * p .number
   pub inside : p .number < rowCount w
 
--- a place before another, whose position is a number of the machine
-pub record Follows (p : RowPlace) : Type 0 where
+-- a place whose next one has a position below 2 ^ 64
+pub record HasNext (p : RowPlace) : Type 0 where
   pub position : p .at ≡ width * p .number
   pub fits : p .at + width < 2 ^ 64
 
--- a place after another
-pub record Precedes (p : RowPlace) : Type 0 where
+-- a place that is not the first
+pub record HasPrevious (p : RowPlace) : Type 0 where
   pub position : p .at ≡ width * p .number
   pub some-row : 0 < p .number

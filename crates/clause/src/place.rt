@@ -6,7 +6,7 @@ ghost use Prim.Native.Nat.{_+_, _-_};
 ghost use lib.Dec.{ltb};
 ghost use Rattle.definitions.specs.Clauses.{rowAt};
 ghost use Rattle.clause.specs.Rows.{rowCount};
-ghost use Rattle.clause.specs.Place.{At, Placed, AtRow, Follows, Precedes};
+ghost use Rattle.clause.specs.Place.{At, Placed, AtRow, HasNext, HasPrevious};
 
 pub struct RowPlace {
     pub number: usize,
@@ -23,7 +23,7 @@ impl RowPlace {
 
     // The place of the next row.
     pub fn next(self) -> RowPlace
-        requires { ⌜ Follows self ⌝ }
+        requires { ⌜ HasNext self ⌝ }
         ensures { λ r. ⌜ At (self .number + 1) r ⌝ }
     {
         RowPlace {
@@ -34,7 +34,7 @@ impl RowPlace {
 
     // The place of the row before.
     pub fn previous(self) -> RowPlace
-        requires { ⌜ Precedes self ⌝ }
+        requires { ⌜ HasPrevious self ⌝ }
         ensures { λ r. ⌜ At (self .number - 1) r ⌝ }
     {
         RowPlace {

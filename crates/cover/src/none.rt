@@ -55,10 +55,10 @@ pub fn omit_all(clauses: &[u16], places: &[u16], none: &mut [u16])
     requires { ⌜ (Within (now clauses) (now places)) × ((i : ℕ) → getD (now places) i 0 < length (now none)) ⌝ }
     ensures { λ _. ⌜ ((v : ℕ) → getD (now (none .exit)) v 0 ≡ cond (any (liesIn (now (places .entry)) v) (clausesOf (now (clauses .entry)))) 0 (getD (now (none .entry)) v 0)) ⌝ }
 {
-    let mut place = RowPlace::first();
-    while place.is_in(clauses) {
-        let row = place.row(clauses);
+    let mut at_row = RowPlace::first();
+    while at_row.is_in(clauses) {
+        let row = at_row.row(clauses);
         omit(clause::literals(row), places, none);
-        place = place.next();
+        at_row = at_row.next();
     }
 }

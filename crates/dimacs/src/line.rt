@@ -1,4 +1,4 @@
-// The lines of a text, written into a lent buffer from a place on. Each function that writes gives the place after the bytes that it wrote.
+// The lines of a text, written into a lent buffer from a position on. Each function that writes gives the position after the bytes that it wrote.
 use clause::place::RowPlace;
 use literal::Literal;
 ghost use mathlib.Core.Path.{_≡_};

@@ -2,7 +2,7 @@
 use mathlib.Core.Path.{_≡_, refl, sym, _∙_, ap}
 use mathlib.Core.List.{List, [], _++_, append-assoc, append-nil}
 use Prim.Native.Nat.{ℕ, _+_, _-_, _*_, _≤_}
-use native.Mathlib.Nat.{mul-suc, mul-zero, mul-le-mul-left}
+use native.Mathlib.Nat.{mul-suc, mul-zero}
 use native.Mathlib.Numerals.{add-one}
 use native.Mathlib.Omega.{arith}
 use lib.ListN.{length, getD, take, drop, length-append}
@@ -13,15 +13,11 @@ use Rattle.clause.specs.Rows.{rowCount}
 use Rattle.clause.specs.Place.{At, Placed, AtRow}
 use Rattle.clause.specs.declared.place.RowPlace.{RowPlace}
 use Rattle.clause.proofs.RowLaws.{row-length}
-use Rattle.clause.proofs.RowPlaces.{placed-first, at-row, row-ends, placed-next, placed-in}
+use Rattle.clause.proofs.RowPlaces.{placed-first, place-inside, at-row, row-ends, placed-next, placed-in}
 use Rattle.clause_set.proofs.Extended.{range-left, range-done}
 use Rattle.next_set.specs.Build.{rowsWithout, wordsWithout}
 use Rattle.next_set.specs.Post.{Copied}
 use Rattle.next_set.proofs.Flags.{has-one, has-not}
-
-rows-words : (w : List ℕ) → width * rowCount w ≤ length w
-unfolding rowCount width
-rows-words w = omega arith
 
 more-rows : (v w : List ℕ) → length v ≤ length w → rowCount v ≤ rowCount w
 unfolding rowCount width
@@ -111,15 +107,12 @@ module _ (c flags : List ℕ) where
                   words = rw (a .number, b .number) words;
                 }
 
-    pub copying-end : rowCount c ≤ from .number → length c ≤ length w₀ → Copied c flags w (to .number)
-    copying-end done fits =
-        let few : to .number ≤ rowCount c = omega (arith, inv .few, inv .read .inside) in
-        let a = mul-le-mul-left width few in
-        let b = rows-words c in
+    pub copying-end : rowCount c ≤ from .number → Copied c flags w (to .number)
+    copying-end done =
         let none = range-done (rowsWithout c flags) (from .number) (rowCount c - from .number) (omega arith) in
         let e : take (width * to .number) w ≡ wordsWithout c flags = sym (inv .words ∙ rw none (append-nil (take (width * to .number) w))) in
         record {
-          few = few;
+          few = omega (arith, inv .few, inv .read .inside);
           words = e;
-          size = ap length (sym e) ∙ length-take-le (width * to .number) w (omega (arith, inv .same-length));
+          size = ap length (sym e) ∙ length-take-le (width * to .number) w (omega (arith, place-inside (inv .written), inv .written .position));
         }

@@ -19,13 +19,13 @@ ghost use Rattle.next_set.specs.Post.{ReadWithRoom, FlagsAdded, Failures
 use clause::WIDTH;
 use clause::place::RowPlace;
 
-// Adds flags of clauses to those of `to`. In `due`, from place `at` on, it flags the numbers of literals of the flagged clauses.
+// Adds flags of clauses to those of `to`. In `due`, from position `at` on, it flags the numbers of literals of the flagged clauses.
 fn add_flags(clauses: &[u16], flags: &[u8], to: &mut [u8], due: &mut [u8], at: usize)
     requires { ⌜ (length (now flags) ≡ rowCount (now clauses)) × (length (now flags) ≡ length (now to)) × (at ≤ width * mostOperators) ⌝ }
     ensures { λ _. ⌜ ((p : List ℕ → Bool) → now (flags .entry) ≡ map (λ f. bit (p f)) (clausesOf (now (clauses .entry))) → FlagsAdded p (clausesOf (now (clauses .entry))) at (now (to .entry)) (now (to .exit)) (now (due .entry)) (now (due .exit))) ⌝ }
 {
     let mut place = RowPlace::first();
-    while place.is_in(clauses) {
+    while place.number < flags.len() {
         let here = place;
         place = place.next();
         let number = here.number;

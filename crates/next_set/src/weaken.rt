@@ -121,7 +121,7 @@ fn weaken_rows(
 {
     let mut taken = count;
     let mut place = RowPlace::first();
-    while place.is_in(clauses) {
+    while place.number < flags.len() {
         let built = weaken_row(clauses, flags, list, k, place, work, taken, rows);
         match built {
             Built::Full => {

@@ -17,7 +17,7 @@ use Rattle.propagation.specs.declared.Pass.the-variants.{Same, Grown, Co
 use Rattle.propagation.specs.Walk.{In, ClosedAt, Clash, zeros, Sound, Reached, Passed}
 use Rattle.propagation.proofs.Sets.{set-in, set-least, set-bits, set-consistent, zeros-set, no-bit, forces-more, forces-by}
 
--- the set s₀ at the walk's start, the set s now, the place of the next row, and the answer so far
+-- the set s₀ at the walk's start, the set s now, the position of the next row, and the answer so far
 abbrev pub Progress : List ℕ → List ℕ → List ℕ → ℕ → Pass → Type 0
 Progress w s₀ s at Same = (s ≡ s₀) × ((f : List ℕ) → List·Memᴰ f (clausesOf w) → List·Memᴰ f (clausesFrom w at) ⊎ ClosedAt s₀ f)
 Progress w s₀ s at Grown = zeros s < zeros s₀

@@ -9,7 +9,7 @@ use Rattle.definitions.specs.Literal.{holdsIn}
 use Rattle.definitions.specs.Clauses.{clauseOf}
 use Rattle.clause.specs.Rows.{rowCount, clausesOf}
 use Rattle.clause.specs.Place.{Placed, AtRow}
-use Rattle.clause.proofs.RowPlaces.{placed-first, is-row, no-clause, row-clause, has-clause, follows, placed-next, fewer-left}
+use Rattle.clause.proofs.RowPlaces.{placed-first, is-row, no-clause, row-clause, has-clause, has-next, placed-next, fewer-left}
 use Rattle.checker.proofs.Checking.{first-left, first-on, first-end, false-at, false-none}
 use borrow.Author.Needs.{needs}
 use Rattle.checker.proofs.check_true.Statement.{statement}
@@ -83,7 +83,7 @@ returns c =
     ∙ false-at _ _ (at t .loop .inv .1 ∙ first-left (holdsIn _) (clausesOf (words (at t))) _ [] _ (clause q) (has-clause (row t)) no)
 
 next-requires : tie.Need-next-requires Inv-loop μ-loop
-next-requires c κs = let t = turn-of (c .before) in follows (row t) (start (at t) .good .0 .0)
+next-requires c κs = let t = turn-of (c .before) in has-next (row t) (start (at t) .good .0 .0)
 
 -- after the row
 abbrev passed : tie.After-next Inv-loop μ-loop → asked

@@ -1,4 +1,4 @@
--- `checker::first_flag`: no place before `place` has its flag.
+-- `checker::first_flag`: no clause before `i` has its flag.
 use Prim.Native.Nat.{ℕ, _≤_, _<_, _-_}
 use mathlib.Core.Path.{_≡_}
 use native.Mathlib.Omega.{arith}
@@ -9,10 +9,10 @@ use Rattle.checker.proofs.first_flag.Statement.{statement}
 use Rattle.checker.proofs.first_flag.Tie as tie
 
 abbrev Inv-loop : tie.InvT-loop
-Inv-loop flags place₀ place = (place ≤ length flags) × ((k : ℕ) → k < place → getD flags k 0 ≡ 1 → ⊥)
+Inv-loop flags i₀ i = (i ≤ length flags) × ((k : ℕ) → k < i → getD flags k 0 ≡ 1 → ⊥)
 
 abbrev μ-loop : tie.MeasureT-loop
-μ-loop flags place₀ place = length flags - place
+μ-loop flags i₀ i = length flags - i
 
 loop-holds : tie.Need-loop-holds Inv-loop μ-loop
 loop-holds c = (omega arith, λ k h. absurd (omega arith))
@@ -23,8 +23,8 @@ shared-slice-read-if1 c = search needs
 returns : tie.Need-returns Inv-loop μ-loop
 returns c = record { inside = omega arith; before = c .before .before .before .loop .inv .1; flagged = λ _. c .if1 .taken }
 
-add-place : tie.Need-add-place Inv-loop μ-loop
-add-place c = search needs
+add-i : tie.Need-add-i Inv-loop μ-loop
+add-i c = search needs
 
 loop-less : tie.Need-loop-less Inv-loop μ-loop
 loop-less c = search needs
@@ -44,7 +44,7 @@ first-flag-spec =
     loop-holds
     shared-slice-read-if1
     returns
-    add-place
+    add-i
     loop-less
     loop-again
     returns-2)

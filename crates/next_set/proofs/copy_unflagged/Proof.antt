@@ -7,7 +7,7 @@ use lib.ListN.{length}
 use Rattle.clause.specs.Rows.{rowCount}
 use Rattle.clause.specs.Place.{AtRow}
 use Rattle.clause.proofs.RowLaws.{row-length}
-use Rattle.clause.proofs.RowPlaces.{is-row, no-row, row-ends, follows, fewer-left}
+use Rattle.clause.proofs.RowPlaces.{is-row, no-row, row-ends, has-next, fewer-left}
 use Rattle.writing.proofs.Writes.{wrote-between}
 use Rattle.next_set.proofs.Copying.{Copying, copying-start, copying-skip, copying-room, copying-row, copying-end}
 use borrow.Author.Needs.{needs}
@@ -85,7 +85,7 @@ is-in-requires : tie.Need-is-in-requires Inv-loop μ-loop
 is-in-requires c κs = c .loop .inv .read
 
 next-requires : tie.Need-next-requires Inv-loop μ-loop
-next-requires c κs = follows (row c) (start (at c) .good .0 .0)
+next-requires c κs = has-next (row c) (start (at c) .good .0 .0)
 
 shared-slice-read-if2 : tie.Need-shared-slice-read-if2 Inv-loop μ-loop
 shared-slice-read-if2 c = let t = c .before .before in omega (arith, row t .inside, start (at t) .pre .0)
@@ -109,7 +109,7 @@ next-requires-2 : tie.Need-next-requires-2 Inv-loop μ-loop
 next-requires-2 c κs =
     let u = unflagged (written c .before) in
     let h = at (turn-of u) in
-    follows (room u) (omega (arith, start h .good .1 .1 .0 .0, h .loop .inv .same-length))
+    has-next (room u) (omega (arith, start h .good .1 .1 .0 .0, h .loop .inv .same-length))
 
 loop-less-2 : tie.Need-loop-less-2 Inv-loop μ-loop
 loop-less-2 c = let n = next-of (unflagged (written (c .before) .before)) in fewer-left (row (n .before)) (n .next .ensures)
@@ -130,7 +130,7 @@ returns : tie.Need-returns Inv-loop μ-loop
 returns c =
     let h = c .before .before in
     let i = h .loop .inv in
-    copying-end _ _ i (no-row (i .read) (c .before .is-in .ensures) (c .if1 .left)) (start h .pre .1)
+    copying-end _ _ i (no-row (i .read) (c .before .is-in .ensures) (c .if1 .left))
 
 pub copy-unflagged-spec : {M : Type 1} → statement M
 copy-unflagged-spec =

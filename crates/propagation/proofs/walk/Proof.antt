@@ -13,7 +13,7 @@ use Rattle.definitions.specs.Clauses.{width, clauseRight}
 use Rattle.clause.specs.Rows.{rowCount, clauseAt, RightRows}
 use Rattle.clause.specs.Place.{Placed, AtRow}
 use Rattle.clause.proofs.RowPlaces.{placed-first, first-position, row-begins, row-ends, row-words}
-use Rattle.clause.proofs.RowPlaces.{follows, placed-next, next-position, fewer-left}
+use Rattle.clause.proofs.RowPlaces.{has-next, placed-next, next-position, fewer-left}
 use Rattle.clause.proofs.ReadLaws.{read-right}
 use Rattle.definitions.proofs.RowsRead.{right-row}
 use Rattle.clause.proofs.ClauseLaws.{clause-below}
@@ -53,12 +53,12 @@ start-of h = lent h .before .before
 abbrev words-of : head → List ℕ
 words-of h = now (start-of h .args .clauses)
 
-rows-of : (h : head) → RightRows (start-of h .pre .atoms) (words-of h)
-rows-of h = read-right (start-of h .pre .atoms) (words-of h) (start-of h .pre .rows)
+rows-at : (h : head) → RightRows (start-of h .pre .atoms) (words-of h)
+rows-at h = read-right (start-of h .pre .atoms) (words-of h) (start-of h .pre .rows)
 
 -- where there is a row
 row-of-test : (t : tie.Then1 Inv-loop μ-loop Inv-walk μ-walk) → let h = t .before .before in AtRow (words-of h) (h .walk .place)
-row-of-test t = let h = t .before .before in row-begins (h .walk .inv .0) (rows-of h .ascending .whole) (t .if1 .taken)
+row-of-test t = let h = t .before .before in row-begins (h .walk .inv .0) (rows-at h .ascending .whole) (t .if1 .taken)
 
 -- in the outer loop: the clause words, the set at the start and now, the row's place and position, and the answer so far
 abbrev outer : Type 0
@@ -79,8 +79,8 @@ set-first w = now (start w .args .marks)
 abbrev set-now : outer → List ℕ
 set-now w = at-head w .walk .marks
 
-abbrev place : outer → ℕ
-place w = at-head w .walk .place .at
+abbrev position : outer → ℕ
+position w = at-head w .walk .place .at
 
 abbrev so-far : outer → Pass
 so-far w = at-head w .walk .pass
@@ -94,7 +94,7 @@ ready w = start w .pre
 atoms : outer → ℕ
 atoms w = ready w .atoms
 
-state : (w : outer) → Walk (words w) (set-first w) (set-now w) (place w) (so-far w)
+state : (w : outer) → Walk (words w) (set-first w) (set-now w) (position w) (so-far w)
 state w = at-head w .walk .inv .1
 
 length-now : (w : outer) → length (set-now w) ≡ length (set-first w)
@@ -102,12 +102,12 @@ length-now w = state w .reached .same-length
 
 rows : (w : outer) → RightRows (atoms w) (words w)
 unfolding atoms ready
-rows w = rows-of (at-head w)
+rows w = rows-at (at-head w)
 
-inside : (w : outer) → place w + width ≤ length (words w)
+inside : (w : outer) → position w + width ≤ length (words w)
 inside w = row-ends (at-row-of w)
 
-row-right : (w : outer) → clauseRight (atoms w) (take width (drop (place w) (words w))) ≡ true
+row-right : (w : outer) → clauseRight (atoms w) (take width (drop (position w) (words w))) ≡ true
 row-right w = rw (row-words (at-row-of w)) (rows w .right (at-head w .walk .place .number) (at-row-of w .inside))
 
 -- the walk goes on at the next row
@@ -117,7 +117,7 @@ less-left w = fewer-left (at-row-of w) (w .next .ensures)
 abbrev On : outer → List ℕ → Pass → Type 0
 On w s a = Placed (words w) (w .next .result) × Walk (words w) (set-first w) s (w .next .result .at) a
 
-on : (w : outer) (s : List ℕ) (a : Pass) → Walk (words w) (set-first w) s (place w + width) a → On w s a
+on : (w : outer) (s : List ℕ) (a : Pass) → Walk (words w) (set-first w) s (position w + width) a → On w s a
 on w s a k = (
   placed-next (at-row-of w) (w .next .ensures),
   subst (λ (x : ℕ). Walk (words w) (set-first w) s x a) (sym (next-position (at-row-of w) (w .next .ensures))) k,
@@ -131,13 +131,13 @@ abbrev row-of : inner → outer
 row-of c = c .before .before
 
 abbrev word : inner → ℕ
-word c = getD (words (row-of c)) (place (row-of c) + c .before .loop .k) 0
+word c = getD (words (row-of c)) (position (row-of c) + c .before .loop .k) 0
 
 in-width : (c : inner) → c .before .loop .k < width
 unfolding width
 in-width c = c .loop-test .taken
 
-in-range : (c : inner) → place (row-of c) + c .before .loop .k < length (words (row-of c))
+in-range : (c : inner) → position (row-of c) + c .before .loop .k < length (words (row-of c))
 in-range c = omega (arith, inside (row-of c), in-width c)
 
 word-below : (c : inner) → (word c ≡ fill → ⊥) → word c < length (set-now (row-of c))
@@ -145,9 +145,9 @@ unfolding atoms
 word-below c ne =
     let w = row-of c in
     let l = c .before .loop in
-    let m = word-in (words w) (set-now w) (place w) (l .k) (l .first) (l .inv .1) (in-width c) ne in
-    let clause = this (words w) (set-first w) (set-now w) (place w) (inside w) (so-far w) (state w) in
-    omega (arith, clause-below (atoms w) (words w) (rows w) (clauseAt (words w) (place w)) clause (word c) m, ready w .exact, length-now w)
+    let m = word-in (words w) (set-now w) (position w) (l .k) (l .first) (l .inv .1) (in-width c) ne in
+    let clause = this (words w) (set-first w) (set-now w) (position w) (inside w) (so-far w) (state w) in
+    omega (arith, clause-below (atoms w) (words w) (rows w) (clauseAt (words w) (position w)) clause (word c) m, ready w .exact, length-now w)
 
 -- after the inner loop: the scan of the whole row
 abbrev after-row : Type 0
@@ -156,7 +156,7 @@ after-row = tie.After-loop Inv-loop μ-loop Inv-walk μ-walk
 abbrev row : after-row → outer
 row c = c .before .before
 
-scanned : (c : after-row) → let l = c .before .loop in Scanning (words (row c)) (set-now (row c)) (place (row c)) (l .k) (l .first)
+scanned : (c : after-row) → let l = c .before .loop in Scanning (words (row c)) (set-now (row c)) (position (row c)) (l .k) (l .first)
 scanned c = c .before .loop .inv .1
 
 all-words : (c : after-row) → width ≤ c .before .loop .k
@@ -208,11 +208,11 @@ walk-holds : tie.Need-walk-holds Inv-loop μ-loop Inv-walk μ-walk
 walk-holds c = (placed-first (c .first .ensures), rw (first-position (c .first .ensures)) (walk-start _ _ (start-of-first c .pre .sound)))
 
 next-requires : tie.Need-next-requires Inv-loop μ-loop Inv-walk μ-walk
-next-requires c κs = follows (row-of-test c) (start-of (c .before .before) .good .0 .0)
+next-requires c κs = has-next (row-of-test c) (start-of (c .before .before) .good .0 .0)
 
 loop-holds : tie.Need-loop-holds Inv-loop μ-loop Inv-walk μ-walk
 unfolding fill
-loop-holds c = (omega arith, scan-start (words c) (set-now c) (place c) (inside c) (right-row (atoms c) _ (row-right c)))
+loop-holds c = (omega arith, scan-start (words c) (set-now c) (position c) (inside c) (right-row (atoms c) _ (row-right c)))
 
 add-word : tie.Need-add-word Inv-loop μ-loop Inv-walk μ-walk
 add-word c = omega (arith, in-range c)
@@ -239,18 +239,16 @@ enum-told-3 : tie.Need-enum-told-3 Inv-loop μ-loop Inv-walk μ-walk
 enum-told-3 c = c .match .keys3
 
 walk-less : tie.Need-walk-less Inv-loop μ-loop Inv-walk μ-walk
-unfolding width
 walk-less c = less-left (row-of (at (looked-by c)))
 
 walk-again : tie.Need-walk-again Inv-loop μ-loop Inv-walk μ-walk
-unfolding width
 walk-again c =
     let o = looked-by c in
     let i = at o in
     let w = row-of i in
     let l = i .before .loop in
-    let two = scan-second (words w) (set-now w) (place w) (l .k) (l .first) (l .inv .1) (in-width i) (added o scan.Second (c .enum-told3 .given .1)) in
-    on w (set-now w) (so-far w) (pass-row (words w) (set-first w) (set-now w) (place w) (inside w) (so-far w) (state w) two)
+    let two = scan-second (words w) (set-now w) (position w) (l .k) (l .first) (l .inv .1) (in-width i) (added o scan.Second (c .enum-told3 .given .1)) in
+    on w (set-now w) (so-far w) (pass-row (words w) (set-first w) (set-now w) (position w) (inside w) (so-far w) (state w) two)
 
 add-k : tie.Need-add-k Inv-loop μ-loop Inv-walk μ-walk
 unfolding width
@@ -267,16 +265,16 @@ loop-again c =
     let i = at o in
     let w = row-of i in
     let l = i .before .loop in
-    let Scans : ℕ → Type 0 = λ x. Scanning (words w) (set-now w) (place w) (l .k + 1) x in (
+    let Scans : ℕ → Type 0 = λ x. Scanning (words w) (set-now w) (position w) (l .k + 1) x in (
       omega (arith, in-width i),
       ⊎-elim
           (λ a.
           let same = added o scan.Same (a .1 .given .1) in
-          subst Scans (sym (a .2)) (scan-same (words w) (set-now w) (place w) (l .k) (l .first) (l .inv .1) (in-width i) same))
+          subst Scans (sym (a .2)) (scan-same (words w) (set-now w) (position w) (l .k) (l .first) (l .inv .1) (in-width i) same))
           (λ a.
           let first = added o scan.First (a .1 .given .1) in
           let below = word-below i (first .0) in
-          subst Scans (sym (a .2)) (scan-first (words w) (set-now w) (place w) (l .k) (l .first) (l .inv .1) (in-width i) below first))
+          subst Scans (sym (a .2)) (scan-first (words w) (set-now w) (position w) (l .k) (l .first) (l .inv .1) (in-width i) below first))
           (c .match .came),
     )
 
@@ -290,11 +288,9 @@ slice-write-marks : tie.Need-slice-write-marks Inv-loop μ-loop Inv-walk μ-walk
 slice-write-marks c = mark-inside (open-of (c .before))
 
 walk-less-2 : tie.Need-walk-less-2 Inv-loop μ-loop Inv-walk μ-walk
-unfolding width
 walk-less-2 c = less-left (row (scan-of (open-of (c .before))))
 
 walk-again-2 : tie.Need-walk-again-2 Inv-loop μ-loop Inv-walk μ-walk
-unfolding width
 walk-again-2 c =
     let o = open-of (c .before) in
     let a = scan-of o in
@@ -303,25 +299,23 @@ walk-again-2 c =
     let e = o .wide .ensures .0 in
     let some = some-found o in
     let f = scanned a .found some in
-    let one = scan-one (words w) (set-now w) (place w) (l .k) (l .first) (scanned a) (all-words a) some in
+    let one = scan-one (words w) (set-now w) (position w) (l .k) (l .first) (scanned a) (all-words a) some in
     let out = out-byte (set-now w) (l .first) (λ q. c .if3 .taken (ap (λ (x : ℕ). getD (set-now w) x 0) e ∙ q)) in
-    let next = set-row (words w) (set-first w) (set-now w) (place w) (inside w) (so-far w) (state w) (l .first) (f .2) one out (f .1) in
+    let next = set-row (words w) (set-first w) (set-now w) (position w) (inside w) (so-far w) (state w) (l .first) (f .2) one out (f .1) in
     subst (λ (x : ℕ). On w (set (set-now w) x 1) Grown) (sym e) (on w (set (set-now w) (l .first) 1) Grown next)
 
 walk-less-3 : tie.Need-walk-less-3 Inv-loop μ-loop Inv-walk μ-walk
-unfolding width
 walk-less-3 c = less-left (row (scan-of (open-of (c .before))))
 
 walk-again-3 : tie.Need-walk-again-3 Inv-loop μ-loop Inv-walk μ-walk
-unfolding width
 walk-again-3 c =
     let o = open-of (c .before) in
     let a = scan-of o in
     let w = row a in
     let l = a .before .loop in
     let there = in-byte (set-now w) (l .first) (ap (λ (x : ℕ). getD (set-now w) x 0) (sym (o .wide .ensures .0)) ∙ c .if3 .left) in
-    let only = scan-only (words w) (set-now w) (place w) (l .k) (l .first) (scanned a) (all-words a) (some-found o) there in
-    on w (set-now w) (so-far w) (pass-row (words w) (set-first w) (set-now w) (place w) (inside w) (so-far w) (state w) only)
+    let only = scan-only (words w) (set-now w) (position w) (l .k) (l .first) (scanned a) (all-words a) (some-found o) there in
+    on w (set-now w) (so-far w) (pass-row (words w) (set-first w) (set-now w) (position w) (inside w) (so-far w) (state w) only)
 
 same-length : tie.Need-same-length Inv-loop μ-loop Inv-walk μ-walk
 same-length c = c .before .before .walk .inv .1 .reached .same-length
@@ -339,8 +333,8 @@ returns-2 c =
     let a = c .before in
     let w = row a in
     let l = a .before .loop in
-    clash-row (words w) (set-first w) (set-now w) (place w) (inside w) (so-far w) (state w) (atoms w) (row-right w)
-    (scan-none (words w) (set-now w) (place w) (l .k) (l .first) (scanned a) (all-words a) (c .if2 .taken))
+    clash-row (words w) (set-first w) (set-now w) (position w) (inside w) (so-far w) (state w) (atoms w) (row-right w)
+    (scan-none (words w) (set-now w) (position w) (l .k) (l .first) (scanned a) (all-words a) (c .if2 .taken))
 
 pub walk-spec : {M : Type 1} → statement M
 walk-spec =

@@ -1,15 +1,14 @@
 -- `dimacs::size::rows_length`: the bytes of the lines from the place on, and those counted so far, are those of all rows.
 use Prim.Native.Nat.{ℕ, _+_, _-_, _<_}
 use native.Mathlib.Omega.{arith}
-use mathlib.Core.Path.{_≡_, sym, _∙_, ap}
+use mathlib.Core.Path.{_≡_, _∙_, ap}
 use mathlib.Core.List.{List, []}
 use lib.ListN.{length, getD, drop}
 use Rattle.definitions.specs.Lists.{each}
 use Rattle.definitions.specs.Clauses.{width, mostRows, clauseOf, rowAt}
 use Rattle.clause.specs.Rows.{clausesOf, rowCount}
 use Rattle.clause.specs.Place.{Placed, AtRow}
-use Rattle.clause.proofs.RowLaws.{clauses-at}
-use Rattle.clause.proofs.RowPlaces.{placed-first, is-row, no-clause, has-clause, follows, placed-next, fewer-left}
+use Rattle.clause.proofs.RowPlaces.{placed-first, is-row, no-clause, row-clause, has-clause, has-next, placed-next, fewer-left}
 use Rattle.text.proofs.Lines.{sum-next, sum-end}
 use Rattle.dimacs.specs.Write.{rowLine}
 use Rattle.dimacs.proofs.Parts.{clause-width, rows-size}
@@ -55,9 +54,7 @@ read : (c : listed) → let h = at (in-loop c) in c .literals .result .now ≡ c
 read c = c .literals .ensures ∙ ap clauseOf (c .before .row .ensures)
 
 clause : (c : listed) → let h = at (in-loop c) in c .literals .result .now ≡ getD (clausesOf (words h)) (h .loop .place .number) []
-clause c =
-    let t = in-loop c in
-    read c ∙ sym (clauses-at (words (at t)) (at t .loop .place .number) (row t .inside))
+clause c = row-clause (row (in-loop c)) (c .before .row .ensures) (c .literals .ensures)
 
 -- after the bytes of its line
 abbrev counted : Type 0
@@ -104,7 +101,7 @@ add-sum c = omega (arith, next c, low (at (of-turn c)))
 next-requires : tie.Need-next-requires Inv-loop μ-loop
 next-requires c κs =
     let t = of-turn c in
-    follows (row t) (start (at t) .good .0 .0)
+    has-next (row t) (start (at t) .good .0 .0)
 
 loop-less : tie.Need-loop-less Inv-loop μ-loop
 loop-less c = fewer-left (row (of-turn (c .before))) (c .next .ensures)

@@ -9,7 +9,7 @@ use Rattle.definitions.specs.Clauses.{clauseOf}
 use Rattle.clause.specs.Rows.{rowCount, clausesOf}
 use Rattle.clause.specs.Place.{Placed, AtRow}
 use Rattle.judge.specs.Judging.{lacksFlag, flagMore}
-use Rattle.clause.proofs.RowPlaces.{placed-first, is-row, no-clause, row-clause, has-clause, follows, placed-next, fewer-left}
+use Rattle.clause.proofs.RowPlaces.{placed-first, is-row, no-clause, row-clause, has-clause, has-next, placed-next, fewer-left}
 use Rattle.judge.proofs.Flagged.{flag-set, flag-stay, flag-end}
 use borrow.Author.Needs.{needs}
 use Rattle.judge.proofs.bulk.flag_lacking.Statement.{statement}
@@ -73,7 +73,7 @@ is-in-requires : tie.Need-is-in-requires Inv-loop μ-loop
 is-in-requires c κs = c .loop .inv .0
 
 next-requires : tie.Need-next-requires Inv-loop μ-loop
-next-requires c κs = follows (row c) (start (at c) .good .0 .0)
+next-requires c κs = has-next (row c) (start (at c) .good .0 .0)
 
 row-requires : tie.Need-row-requires Inv-loop μ-loop
 row-requires c κs = row (c .before)

@@ -8,7 +8,7 @@ use Rattle.definitions.specs.Clauses.{clauseOf}
 use Rattle.definitions.proofs.Walks.{any-found, any-on, any-end}
 use Rattle.clause.specs.Rows.{rowCount, clausesOf}
 use Rattle.clause.specs.Place.{Placed, AtRow}
-use Rattle.clause.proofs.RowPlaces.{placed-first, is-row, no-clause, row-clause, has-clause, follows, placed-next, fewer-left}
+use Rattle.clause.proofs.RowPlaces.{placed-first, is-row, no-clause, row-clause, has-clause, has-next, placed-next, fewer-left}
 use borrow.Author.Needs.{needs}
 use Rattle.judge.proofs.bulk.some_holds.Statement.{statement}
 use Rattle.judge.proofs.bulk.some_holds.Tie as tie
@@ -74,7 +74,7 @@ returns c =
     ∙ any-found (clausesOf (words (at t))) _ [] _ (clause q) (has-clause (row t)) (member _) (sym (q .has-literal .ensures) ∙ c .if2 .taken))
 
 next-requires : tie.Need-next-requires Inv-loop μ-loop
-next-requires c κs = let t = turn-of (c .before) in follows (row t) (start (at t) .good .0 .0)
+next-requires c κs = let t = turn-of (c .before) in has-next (row t) (start (at t) .good .0 .0)
 
 -- after the row
 abbrev passed : tie.After-next Inv-loop μ-loop → asked

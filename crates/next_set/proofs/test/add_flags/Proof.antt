@@ -9,8 +9,8 @@ use Rattle.definitions.specs.Closure.{bit}
 use Rattle.definitions.specs.Clauses.{width, clauseOf, rowAt}
 use Rattle.clause.specs.Rows.{rowCount, clausesOf}
 use Rattle.clause.specs.Place.{Placed, AtRow}
-use Rattle.clause.proofs.RowLaws.{row-length}
-use Rattle.clause.proofs.RowPlaces.{placed-first, is-row, no-clause, row-clause, follows, placed-next, fewer-left}
+use Rattle.clause.proofs.RowLaws.{row-length, clauses-length}
+use Rattle.clause.proofs.RowPlaces.{placed-first, at-row, row-clause, has-next, placed-next, fewer-left}
 use Rattle.definitions.proofs.RowsRead.{clause-short}
 use Rattle.next_set.proofs.Noting.{Adding, adding-start, adding-pass, adding-put, adding-end}
 use borrow.Author.Needs.{needs}
@@ -53,10 +53,10 @@ abbrev number : turn → ℕ
 number t = head-of t .loop .place .number
 
 row : (t : turn) → AtRow (words (head-of t)) (head-of t .loop .place)
-row t = is-row (head-of t .loop .inv .0) (t .before .is-in .ensures) (t .if1 .taken)
+row t = at-row (head-of t .loop .inv .0) (omega (arith, t .if1 .taken, start (head-of t) .pre .0))
 
 in-flags : (t : turn) → number t < length (start (head-of t) .args .flags .now)
-in-flags t = omega (arith, row t .inside, start (head-of t) .pre .0)
+in-flags t = t .if1 .taken
 
 -- and the next place
 abbrev next-row : Type 0
@@ -97,11 +97,8 @@ loop-holds c =
       λ p e. rw (c .first .ensures .number) (adding-start p (clausesOf (a .clauses .now)) (a .at) (a .to .now) (a .due .now)),
     )
 
-is-in-requires : tie.Need-is-in-requires Inv-loop μ-loop
-is-in-requires c κs = c .loop .inv .0
-
 next-requires : tie.Need-next-requires Inv-loop μ-loop
-next-requires c κs = follows (row c) (start (head-of c) .good .0 .0)
+next-requires c κs = has-next (row c) (start (head-of c) .good .0 .0)
 
 shared-slice-read-if2 : tie.Need-shared-slice-read-if2 Inv-loop μ-loop
 shared-slice-read-if2 c = in-flags (c .before .before)
@@ -182,7 +179,7 @@ returns c =
     let h = c .before .before in
     let l = h .loop in
     let a = start h .args in
-    let done = no-clause (l .inv .0) (c .before .is-in .ensures) (c .if1 .left) in
+    let done : length (clausesOf (words h)) ≤ l .place .number = omega (arith, c .if1 .left, start h .pre .0, clauses-length (words h)) in
     λ p e.
     adding-end p (clausesOf (words h)) (a .at) (a .to .now) (l .to) (a .due .now) (l .due) (l .place .number) (l .inv .3 p e) done
 
@@ -194,7 +191,6 @@ add-flags-spec =
     μ-loop
     first-requires
     loop-holds
-    is-in-requires
     next-requires
     shared-slice-read-if2
     loop-less

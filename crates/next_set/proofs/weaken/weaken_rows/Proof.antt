@@ -8,7 +8,7 @@ use lib.ListN.{length}
 use Rattle.definitions.specs.Lists.{each, range}
 use Rattle.clause.specs.Rows.{rowCount, clausesOf}
 use Rattle.clause.specs.Place.{Placed, AtRow}
-use Rattle.clause.proofs.RowPlaces.{placed-first, is-row, no-row, follows, placed-next, fewer-left}
+use Rattle.clause.proofs.RowPlaces.{placed-first, at-row, has-next, placed-next, fewer-left}
 use Rattle.clause_set.specs.Put.{putAll}
 use Rattle.clause_set.specs.Held.{held}
 use Rattle.clause_set.proofs.Extended.{range-left, range-done}
@@ -52,7 +52,7 @@ abbrev at : turn → head
 at t = t .before .before
 
 row : (t : turn) → AtRow (words (at t)) (at t .loop .place)
-row t = is-row (at t .loop .inv .0) (t .before .is-in .ensures) (t .if1 .taken)
+row t = at-row (at t .loop .inv .0) (omega (arith, t .if1 .taken, start (at t) .pre .0 .flagged))
 
 left :
     (t : turn) → let h = at t in let i = h .loop .place .number in let n = rowCount (words h) in
@@ -92,9 +92,6 @@ loop-holds c =
       pending-same (a .rows) _ _ (a .count) (a .work .now) (s .pre .1) (rw (c .first .ensures .number, all) refl),
     )
 
-is-in-requires : tie.Need-is-in-requires Inv-loop μ-loop
-is-in-requires c κs = c .loop .inv .0
-
 weaken-row-requires : tie.Need-weaken-row-requires Inv-loop μ-loop
 weaken-row-requires c κs =
     let t = c .before in
@@ -118,7 +115,7 @@ enum-known-built : tie.Need-enum-known-built Inv-loop μ-loop
 enum-known-built c = c .match .keys2
 
 next-requires : tie.Need-next-requires Inv-loop μ-loop
-next-requires c κs = let t = turn-of (put-of c) in follows (row t) (start (at t) .good .0 .0)
+next-requires c κs = let t = turn-of (put-of c) in has-next (row t) (start (at t) .good .0 .0)
 
 loop-less : tie.Need-loop-less Inv-loop μ-loop
 loop-less c = fewer-left (row (turn-of (put-of (c .before)))) (c .next .ensures)
@@ -145,8 +142,7 @@ returns-2 c =
     let h = c .before .before in
     let l = h .loop in
     let i = l .place .number in
-    let done = no-row (l .inv .0) (c .before .is-in .ensures) (c .if1 .left) in
-    let none = range-done (added h) i (rowCount (words h) - i) (omega (arith, done)) in
+    let none = range-done (added h) i (rowCount (words h) - i) (omega (arith, c .if1 .left, start h .pre .0 .flagged)) in
     (l .inv .2 .room, pending-end (start h .args .rows) _ _ (l .taken) (l .work) (l .inv .2) none)
 
 pub weaken-rows-spec : {M : Type 1} → statement M
@@ -157,7 +153,6 @@ weaken-rows-spec =
     μ-loop
     first-requires
     loop-holds
-    is-in-requires
     weaken-row-requires
     enum-told
     same-length

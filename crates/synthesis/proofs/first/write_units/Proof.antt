@@ -10,7 +10,7 @@ use Rattle.definitions.specs.Clauses.{width, clauseWords}
 use Rattle.clause.specs.Rows.{rowCount}
 use Rattle.clause.specs.Place.{Placed, AtRow}
 use Rattle.clause.proofs.RowLaws.{rows-of}
-use Rattle.clause.proofs.RowPlaces.{placed-first, at-row, row-ends, follows, placed-next, placed-in}
+use Rattle.clause.proofs.RowPlaces.{placed-first, at-row, row-ends, has-next, placed-next, placed-in}
 use Rattle.synthesis.specs.Rounds.{unitsFrom}
 use Rattle.synthesis.proofs.Units.{unit-word, units-start, units-row, units-end}
 use borrow.Author.Needs.{needs}
@@ -97,7 +97,7 @@ slice-write-words c = omega (arith, row-ends (row (turn-of c)))
 next-requires : tie.Need-next-requires Inv-loop μ-loop
 next-requires c κs =
     let t = turn-of c in
-    follows (row t) (omega (arith, start (at t) .good .1 .0 .0, at t .loop .inv .1))
+    has-next (row t) (omega (arith, start (at t) .good .1 .0 .0, at t .loop .inv .1))
 
 loop-less : tie.Need-loop-less Inv-loop μ-loop
 loop-less c = omega (arith, atom (turn-of (c .before)), c .next .ensures .number)
