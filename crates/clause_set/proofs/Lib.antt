@@ -1,4 +1,3 @@
-pub mod Counting
 pub mod Parts
 pub mod Buffers
 pub mod PartRows

@@ -17,7 +17,7 @@ use Rattle.definitions.proofs.SetLaws.{range-of}
 use Rattle.definitions.proofs.OrderLaws.{same-self}
 use Rattle.definitions.proofs.Walks.{range-in}
 use Rattle.clause_set.specs.Put.{partOf, masks, partThere, blocked}
-use Rattle.clause_set.proofs.Counting.{Part}
+use Rattle.definitions.proofs.Counting.{Part}
 
 pub part-odd : (m l : ℕ) (f : List ℕ) → m % 2 ≡ 1 → partOf m (l ∷ f) ≡ l ∷ partOf (m / 2) f
 unfolding partOf
@@ -84,21 +84,6 @@ part-shorter m (l ∷ f) h = go (decide (eqb (m % 2) 1)) (λ j. part-shorter (m 
     go (inr e) rec most = rw (e, partOf) (omega arith)
 
 -- ---- every ascending list of literals of an ascending clause is a part of it
-above-low : (x : ℕ) (f : List ℕ) → above x f ≡ true → (y : ℕ) → List·Memᴰ y f → x < y
-unfolding above
-above-low x [] h y m = absurd (List·Memᴰ·not-nil m)
-above-low x (z ∷ f) h y m = go (List·Memᴰ·cases-cons m) (λ k. above-low z f (and-right (ltb x z) (above z f) h) y k)
-  where
-    first : x < z
-    first = ltb-true x z (and-left (ltb x z) (above z f) h)
-
-    go : (y ≡ z) ⊎ List·Memᴰ y f → (List·Memᴰ y f → z < y) → x < y
-    go (inl e) rec = let a = first in omega arith
-    go (inr k) rec =
-        let a = first in
-        let r = rec k in
-        omega arith
-
 -- the mask of a part
 pub record Mask (d f : List ℕ) : Type 0 where
   pub mask : ℕ

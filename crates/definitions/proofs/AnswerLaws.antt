@@ -2,7 +2,8 @@
 use mathlib.Core.Bool.{Bool, true, false}
 use mathlib.Core.Path.{_≡_, refl, sym, ap, subst}
 use mathlib.Core.List.{List}
-use Prim.Native.Nat.{ℕ, _≤_}
+use Prim.Native.Nat.{ℕ, _≤_, _<_}
+use native.Mathlib.Omega.{arith}
 use Rattle.definitions.specs.Answer.{Refusal, Answer, finding, refused, askAt, _>>=_, verdict, Outcome, outcome, stateAfter, becomes}
 
 -- no refusal is a finding
@@ -62,6 +63,24 @@ pub up-bind : {A B : Type 0} (q : ℕ) (m : Answer A) (k : A → Answer B) → U
 unfolding _>>=_
 up-bind q (finding a) k first next r e = next a r e
 up-bind q (refused p) k first next r e = first r (ap refused (same-refusal p r e))
+
+-- ---- answers that refuse with a number above q only
+abbrev pub Past : {A : Type 0} → ℕ → Answer A → Type 0
+Past q m = (r : Refusal) → m ≡ refused r → q < r .number
+
+pub past-finding : {A : Type 0} (q : ℕ) (a : A) → Past q (finding a)
+past-finding q a r e = absurd (not-finding (sym e))
+
+-- such an answer after a question that refuses with a number up to q is that of what is asked next
+pub bind-past :
+    {A B : Type 0} (q : ℕ) (m : Answer A) (k : A → Answer B) (b : Answer B) → UpTo q m → Past q b → (m >>= k) ≡ b
+    → (a : A) × (m ≡ finding a) × (k a ≡ b)
+unfolding _>>=_
+bind-past q (finding a) k b low high e = (a, refl, e)
+bind-past q (refused r) k b low high e =
+    let h = low r refl in
+    let l = high r (sym e) in
+    absurd (omega arith)
 
 -- ---- the parts of an outcome: its answer, and what the lent buffer becomes
 module _ {A : Type 0} (a : Answer A) (s : List ℕ) (x : Outcome A) (e : outcome a s ≡ x) where

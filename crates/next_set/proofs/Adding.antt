@@ -51,18 +51,6 @@ each-places g d (x ∷ xs) = ap (λ l. g x ++ l) (shift (λ i. g (getD (x ∷ xs
     shift h i zero = refl
     shift h i (suc k) = ap (λ l. h (suc i) ++ l) (shift h (suc i) k)
 
-keep-agree : (p q : ℕ → Bool) (xs : List ℕ) → ((x : ℕ) → List·Memᴰ x xs → p x ≡ q x) → keep p xs ≡ keep q xs
-unfolding keep
-keep-agree p q [] e = refl
-keep-agree p q (x ∷ xs) e = go (q x) refl (keep-agree p q xs (λ y m. e y (List·Memᴰ·tail m)))
-  where
-    here : p x ≡ q x
-    here = e x (List·Memᴰ·head refl)
-
-    go : (b : Bool) → q x ≡ b → keep p xs ≡ keep q xs → keep p (x ∷ xs) ≡ keep q (x ∷ xs)
-    go true h rec = keep-yes p x xs (here ∙ h) ∙ ap (λ (l : List ℕ). x ∷ l) rec ∙ sym (keep-yes q x xs h)
-    go false h rec = keep-no p x xs (here ∙ h) ∙ rec ∙ sym (keep-no q x xs h)
-
 -- ---- what an operator adds for a clause
 extended-all : (f xs : List ℕ) → map (λ l. insertLiteral l f) (keep (λ l. not (member (atom l) (map atom f))) xs) ≡ each (extended f) xs
 unfolding each extended keep

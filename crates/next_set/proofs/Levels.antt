@@ -19,15 +19,11 @@ use Rattle.definitions.proofs.OrderLaws.{up, insert-up}
 use Rattle.definitions.proofs.SetLaws.{insertClause-of}
 use Rattle.definitions.specs.Clauses.{GoodClause}
 use Rattle.clause_set.specs.Put.{blocked, put, putAll}
-use Rattle.clause_set.proofs.Counting.{Part, another, part-length}
+use Rattle.definitions.proofs.Counting.{Part, part-length}
 use Rattle.clause_set.proofs.Parts.{Blocking, blocked-of, blocked-not}
 use Rattle.clause_set.proofs.Insertion.{puts-none}
 use Rattle.definitions.proofs.Inserted.{Goods, put-self, put-keeps, put-length}
-use Rattle.next_set.proofs.Undominated.{least-of, least-in, Below, below-least, up-distinct}
-
-good-ascending : (N n : ℕ) (f : List ℕ) → GoodClause N n f → ascending f ≡ true
-unfolding literalList
-good-ascending N n f g = and-left (ascending f) (allBelow (2 * N) f) (and-left (ascending f && allBelow (2 * N) f) (ascending (map atom f)) (g .list))
+use Rattle.definitions.proofs.Undominated.{least-of, least-in, Below, below-least}
 
 -- the clauses of U, of which those of a set are taken
 module _ (N rows : ℕ) (few : N ≤ mostAtoms) (U : List (List ℕ)) (good : Goods N U) where

@@ -1,4 +1,3 @@
-pub mod Undominated
 pub mod Levels
 pub mod NextSet
 pub mod Flags

@@ -18,19 +18,19 @@ use Rattle.definitions.specs.Closure.{closure}
 use Rattle.definitions.specs.Kept.{kept, guaranteed}
 use Rattle.definitions.specs.Synthesis.{insertLiteral, insertClause, insertAll, contains, undominated, Tested, tested, passes, guarantees}
 use Rattle.definitions.specs.Synthesis.{weakenedBy, weakened, nextOf, next, fits}
-use Rattle.definitions.proofs.ListLaws.{decide, never, and-left, and-right, and-both, map-in, map-of, keep-in, keep-of}
+use Rattle.definitions.proofs.ListLaws.{and-left, and-right, and-both, map-in, map-of, keep-in, keep-of, keep-agree}
 use Rattle.definitions.proofs.OrderLaws.{up, insertAll-up, keep-up}
-use Rattle.definitions.proofs.SetLaws.{each-of, below-of, insertClause-of, insertAll-of, insertLiteral-keeps}
+use Rattle.definitions.proofs.SetLaws.{each-of, below-of, insertAll-of, insertLiteral-keeps, testOf, passes-all}
 use Rattle.definitions.specs.Clauses.{GoodClause}
-use Rattle.definitions.proofs.SetRight.{insert-length, good-insert}
+use Rattle.definitions.proofs.SetRight.{insert-length, good-insert, surviving}
 use Rattle.clause.proofs.ClauseLaws.{same-set}
 use Rattle.clause_set.specs.Put.{putAll}
 use Rattle.next_set.specs.Build.{fitted, survivors, addedFor, addedBy, addedAt, addedFrom}
-use Rattle.clause_set.proofs.Counting.{Part, part-length}
+use Rattle.definitions.proofs.Counting.{Part, part-length}
 use Rattle.clause_set.proofs.Insertion.{puts-none, puts-append}
-use Rattle.definitions.proofs.Inserted.{Goods, put-self, all-keeps}
-use Rattle.next_set.proofs.Undominated.{least-of, least-in, Antichain, up-distinct}
-use Rattle.next_set.proofs.Levels.{Stage, Grown, puts, next-stage}
+use Rattle.definitions.proofs.Inserted.{Goods, all-keeps, all-in}
+use Rattle.definitions.proofs.Undominated.{least-of, least-in, Antichain}
+use Rattle.next_set.proofs.Levels.{up-distinct, Stage, Grown, puts, next-stage}
 
 pub each-in : {A B : Type 0} (f : A → List B) {x : A} {y : B} (xs : List A) → List·Memᴰ x xs → List·Memᴰ y (f x) → List·Memᴰ y (each f xs)
 unfolding each
@@ -41,79 +41,22 @@ each-in f {x} {y} (z ∷ xs) m k = go (List·Memᴰ·cases-cons m) (λ j. each-i
     go (inl e) rec = Memᴰ·append-left (each f xs) (rw e at k)
     go (inr j) rec = Memᴰ·append-right (f z) (rec j)
 
-all-in : (N : ℕ) → N ≤ mostAtoms → (D C : List (List ℕ)) → Goods N D → Goods N C → (h : List ℕ) → List·Memᴰ h D → List·Memᴰ h (insertAll D C)
-unfolding insertAll
-all-in N few [] C a b h m = absurd (List·Memᴰ·not-nil m)
-all-in N few (f ∷ D) C a b h m =
-    go (List·Memᴰ·cases-cons m) (λ k. all-in N few D (insertClause f C) (λ g j. a g (List·Memᴰ·tail j)) (λ g j. both g (insertClause-of f C j)) h k)
-  where
-    both : (g : List ℕ) → (g ≡ f) ⊎ List·Memᴰ g C → GoodClause N width g
-    both g (inl e) = rw e (a f (List·Memᴰ·head refl))
-    both g (inr j) = b g j
-
-    go : (h ≡ f) ⊎ List·Memᴰ h D → (List·Memᴰ h D → List·Memᴰ h (insertAll D (insertClause f C))) → List·Memᴰ h (insertAll D (insertClause f C))
-    go (inl e) rec = all-keeps D (insertClause f C) h (rw e (put-self N f C few (a f (List·Memᴰ·head refl)) b))
-    go (inr k) rec = rec k
-
-module _ {A : Type 0} (p : A → Bool) (x : A) (xs : List A) where
-  pub keep-yes : p x ≡ true → keep p (x ∷ xs) ≡ x ∷ keep p xs
-  unfolding keep
-  keep-yes h = rw (h, keep)
-
-  pub keep-no : p x ≡ false → keep p (x ∷ xs) ≡ keep p xs
-  unfolding keep
-  keep-no h = rw (h, keep)
-
 module _ (t : Task) (C : List (List ℕ)) where
   abbrev fine : Operator → List ℕ → Bool
   fine o f = kept (t .atoms) C o f
 
-  abbrev mark : List ℕ → Tested
-  mark f = record { clause = f; failing = keep (λ o. not (fine o f)) (t .operators) }
-
-  none-fails : (f : List ℕ) (os : List Operator) → empty (keep (λ o. not (fine o f)) os) ≡ all (λ o. fine o f) os
-  unfolding empty keep all
-  none-fails f [] = refl
-  none-fails f (o ∷ os) = go (fine o f) refl (none-fails f os)
-    where
-      go :
-          (b : Bool) → fine o f ≡ b → empty (keep (λ o. not (fine o f)) os) ≡ all (λ o. fine o f) os
-          → empty (keep (λ o. not (fine o f)) (o ∷ os)) ≡ all (λ o. fine o f) (o ∷ os)
-      go true e rec = rw (e, keep) rec
-      go false e rec = rw (e, keep)
-
-  passes-all : (f : List ℕ) → passes (mark f) ≡ all (λ o. fine o f) (t .operators)
-  unfolding passes
-  passes-all f = none-fails f (t .operators)
-
-  survive : (D : List (List ℕ)) → map (λ x. x .clause) (keep passes (map mark D)) ≡ keep (λ f. all (λ o. fine o f) (t .operators)) D
-  unfolding keep
-  survive [] = refl
-  survive (f ∷ D) = go (all (λ o. fine o f) (t .operators)) refl (survive D)
-    where
-      go :
-          (b : Bool) → all (λ o. fine o f) (t .operators) ≡ b
-          → map (λ x. x .clause) (keep passes (map mark D)) ≡ keep (λ f. all (λ o. fine o f) (t .operators)) D
-          → map (λ x. x .clause) (keep passes (mark f ∷ map mark D)) ≡ keep (λ f. all (λ o. fine o f) (t .operators)) (f ∷ D)
-      go true e rec =
-          ap (map (λ x. x .clause)) (keep-yes passes (mark f) (map mark D) (passes-all f ∙ e))
-          ∙ ap (λ (l : List (List ℕ)). f ∷ l) rec
-          ∙ sym (keep-yes (λ f. all (λ o. fine o f) (t .operators)) f D e)
-      go false e rec =
-          ap (map (λ x. x .clause)) (keep-no passes (mark f) (map mark D) (passes-all f ∙ e))
-          ∙ rec
-          ∙ sym (keep-no (λ f. all (λ o. fine o f) (t .operators)) f D e)
-
   -- the clauses of C that pass the test
   pub survivors-are : map (λ x. x .clause) (keep passes (tested t C)) ≡ survivors t C
-  unfolding survivors tested
-  survivors-are = survive C
+  unfolding survivors
+  survivors-are =
+      surviving t C
+      ∙ keep-agree (λ f. passes (testOf t C f)) (λ f. all (λ o. fine o f) (t .operators)) C (λ f m. passes-all t C f)
 
   -- no clause fails exactly if all survive
-  pub all-pass : (D : List (List ℕ)) → all passes (map mark D) ≡ all (λ f. all (λ o. fine o f) (t .operators)) D
+  pub all-pass : (D : List (List ℕ)) → all passes (map (testOf t C) D) ≡ all (λ f. all (λ o. fine o f) (t .operators)) D
   unfolding all
   all-pass [] = refl
-  all-pass (f ∷ D) = rw (passes-all f, all-pass D)
+  all-pass (f ∷ D) = rw (passes-all t C f, all-pass D)
 
   -- a clause that an operator under which one of C fails weakens it to
   pub record Weak (g : List ℕ) : Type 0 where
@@ -148,13 +91,13 @@ module _ (t : Task) (C : List (List ℕ)) where
     weakened-of : (n : ℕ) → List·Memᴰ g (each (weakened t n C) (tested t C)) → (w : Weak g) × (length (w .clause) < n)
     unfolding tested weakened
     weakened-of n m =
-        let a = each-of (weakened t n C) (map mark C) m in
-        let b = map-of mark C (a .mem) in
+        let a = each-of (weakened t n C) (map (testOf t C) C) m in
+        let b = map-of (testOf t C) C (a .mem) in
         go (b .it) (b .mem) (ltb (length (b .it)) n) refl (subst (λ (x : Tested). List·Memᴰ g (weakened t n C x)) (b .same) (a .there))
       where
-        go : (f : List ℕ) → List·Memᴰ f C → (b : Bool) → ltb (length f) n ≡ b → List·Memᴰ g (weakened t n C (mark f)) → (w : Weak g) × (length (w .clause) < n)
+        go : (f : List ℕ) → List·Memᴰ f C → (b : Bool) → ltb (length f) n ≡ b → List·Memᴰ g (weakened t n C (testOf t C f)) → (w : Weak g) × (length (w .clause) < n)
         go f mf true e k =
-            let a = each-of (weakenedBy t C f) (mark f .failing) (rw (e, weakened) at k) in
+            let a = each-of (weakenedBy t C f) (testOf t C f .failing) (rw (e, weakened) at k) in
             let b = keep-of (λ o. not (fine o f)) (t .operators) (a .mem) in (
               record {
                 clause = f;
@@ -171,9 +114,9 @@ module _ (t : Task) (C : List (List ℕ)) where
     weakened-in : (n : ℕ) (w : Weak g) → length (w .clause) < n → List·Memᴰ g (each (weakened t n C) (tested t C))
     unfolding tested weakened
     weakened-in n w h =
-        each-in (weakened t n C) (map mark C) (map-in mark (w .mem))
+        each-in (weakened t n C) (map (testOf t C) C) (map-in (testOf t C) (w .mem))
         (rw (lt-ltb (length (w .clause)) n h, weakened)
-        (each-in (weakenedBy t C (w .clause)) (mark (w .clause) .failing)
+        (each-in (weakenedBy t C (w .clause)) (testOf t C (w .clause) .failing)
         (keep-in (λ o. not (fine o (w .clause))) (w .one) (ap not (w .fails))) (w .there)))
 
     added-of : (k : ℕ) → List·Memᴰ g (addedAt t C k) → (w : Weak g) × (length (w .clause) ≡ k)
@@ -263,10 +206,10 @@ module _
 
   weak-in : {g : List ℕ} (w : Weak t C g) → length (w .clause) < n → List·Memᴰ g U
   weak-in {g} w h =
-      all-in (t .atoms) few (each (weakened t n C) (tested t C)) (map (λ x. x .clause) (keep passes (tested t C)))
+      all-in (t .atoms) (each (weakened t n C) (tested t C)) (map (λ x. x .clause) (keep passes (tested t C))) g few
       (λ f m. let v = weakened-of t C n m in wider f (weak-good (v .0) (v .1)))
       (λ f m. wider f (good f (survivor-of (subst (λ (D : List (List ℕ)). List·Memᴰ f D) (survivors-are t C) m))))
-      g (weakened-in t C n w h)
+      (weakened-in t C n w h)
 
   survivor-in : {g : List ℕ} → List·Memᴰ g (survivors t C) → List·Memᴰ g U
   survivor-in {g} m = all-keeps (each (weakened t n C) (tested t C)) (map (λ x. x .clause) (keep passes (tested t C))) g (rw (survivors-are t C) m)

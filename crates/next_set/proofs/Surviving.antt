@@ -34,7 +34,7 @@ use Rattle.next_set.specs.Post.{Copied, Round}
 use Rattle.next_set.proofs.Flags.{flags-length, flag-has}
 use Rattle.next_set.proofs.Testing.{fails-all}
 use Rattle.next_set.proofs.Adding.{each-agree, each-places, list-more}
-use Rattle.next_set.proofs.Undominated.{Antichain, sets-antichain}
+use Rattle.definitions.proofs.Undominated.{Antichain, sets-antichain}
 use Rattle.next_set.proofs.NextSet.{keep-yes, keep-no, survivors-up, next-built}
 
 each-keep : {A B : Type 0} (g : A → List B) (p : A → Bool) (xs : List A) → each g (keep p xs) ≡ each (λ x. cond (p x) (g x) []) xs
