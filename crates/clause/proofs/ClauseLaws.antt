@@ -9,7 +9,7 @@ use native.Mathlib.Decide.{decLt}
 use lib.Dec.{ltb}
 use lib.ListN.{length, getD}
 use borrow.Author.Tests.{ltb-true}
-use Rattle.definitions.specs.Lists.{any, ascending, compareWords, isSame}
+use Rattle.definitions.specs.Lists.{any, ascending, compareWords, isSame, Distinct, nothing, another}
 use Rattle.definitions.specs.Literal.{mostAtoms, allBelow}
 use Rattle.definitions.specs.Clauses.{width, rowOf, clauseOf, clauseRight, rowLess, rowAt}
 use Rattle.definitions.specs.Groups.{hasClause}
@@ -17,6 +17,7 @@ use Rattle.definitions.proofs.LiteralLaws.{list-low}
 use Rattle.definitions.proofs.ListLaws.{decide, and-left, and-right, and-both, all-at, any-in, any-of}
 use Rattle.definitions.proofs.PlaceLaws.{same-words}
 use Rattle.definitions.proofs.ListLaws.{getD-mem}
+use Rattle.definitions.proofs.Counting.{Part}
 use Rattle.definitions.proofs.OrderLaws.{up, upFrom, same-self}
 use Rattle.definitions.specs.Clauses.{GoodClause}
 use Rattle.definitions.proofs.Accepts as accepts
@@ -103,7 +104,7 @@ module _ (N : ℕ) (w : List ℕ) (rows : RightRows N w) where
           absurd (apart p (decLt (p .row) i))
       go (inr h) = h
 
--- ---- sets in row order with the same members are equal
+-- ---- sets in row order, and that those with the same members are equal
 module _ where
   pub above-all : (g : List ℕ) (D : List (List ℕ)) → upFrom g D ≡ true → (x : List ℕ) → List·Memᴰ x D → rowLess (rowOf g) (rowOf x) ≡ true
   unfolding upFrom
@@ -122,8 +123,11 @@ module _ where
   later-up g [] h = refl
   later-up g (y ∷ D) h = and-right (rowLess (rowOf g) (rowOf y)) (upFrom y D) h
 
-  abbrev Part : List (List ℕ) → List (List ℕ) → Type 0
-  Part C D = (f : List ℕ) → List·Memᴰ f C → List·Memᴰ f D
+  -- no clause of one stands twice
+  pub up-distinct : (D : List (List ℕ)) → up D ≡ true → Distinct D
+  unfolding up
+  up-distinct [] h = nothing
+  up-distinct (g ∷ D) h = another (λ m. row-irrefl (rowOf g) (above-all g D h g m)) (up-distinct D (later-up g D h))
 
   pub same-set : (C D : List (List ℕ)) → up C ≡ true → up D ≡ true → Part C D → Part D C → C ≡ D
   unfolding up

@@ -1,17 +1,17 @@
 -- The parts of a clause, by their masks. Assumes nothing.
-use mathlib.Core.Bool.{Bool, true, false, not, _&&_, _||_, false≢true}
+use mathlib.Core.Bool.{true, false}
 use mathlib.Core.Logic.{_⊎_, inl, inr}
 use mathlib.Core.Path.{_≡_, refl, sym, _∙_, ap, subst}
 use mathlib.Core.List.{List, [], _∷_, List·Memᴰ, List·Memᴰ·head, List·Memᴰ·tail, List·Memᴰ·not-nil, List·Memᴰ·cases-cons}
 use Prim.Native.Nat.{ℕ, zero, suc, _+_, _-_, _*_, _/_, _%_, _≤_, _<_}
-use native.Mathlib.Decide.{ℕ-discrete, decLt}
+use native.Mathlib.Decide.{ℕ-discrete}
 use native.Mathlib.Omega.{arith}
-use lib.Dec.{eqb, ltb}
+use lib.Dec.{eqb}
 use lib.ListN.{length}
-use borrow.Author.Tests.{eqb-true, eqb-false, eq-eqb, ne-eqb, ltb-true, ltb-false}
-use Rattle.definitions.specs.Lists.{any, range, above, ascending, compareWords, isSame}
+use borrow.Author.Tests.{eqb-true, eq-eqb, ne-eqb}
+use Rattle.definitions.specs.Lists.{range, ascending, compareWords, isSame}
 use Rattle.definitions.specs.Groups.{hasClause}
-use Rattle.definitions.proofs.ListLaws.{decide, never, and-left, and-right, or-cases, or-left, or-right, any-in, any-of, later-ascends}
+use Rattle.definitions.proofs.ListLaws.{decide, never, or-cases, or-left, or-right, any-in, any-of, later-ascends, above-low}
 use Rattle.definitions.proofs.PlaceLaws.{same-words}
 use Rattle.definitions.proofs.SetLaws.{range-of}
 use Rattle.definitions.proofs.OrderLaws.{same-self}

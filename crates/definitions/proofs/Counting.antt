@@ -6,7 +6,7 @@ use mathlib.Core.List.{List, [], _∷_, List·Memᴰ, List·Memᴰ·head, List·
 use Prim.Native.Nat.{ℕ, suc, _≤_, _<_}
 use native.Mathlib.Omega.{arith}
 use lib.ListN.{length}
-use Rattle.definitions.specs.Lists.{keep, above, ascending, Distinct, nothing, another}
+use Rattle.definitions.specs.Lists.{keep, ascending, Distinct, nothing, another}
 use Rattle.definitions.proofs.ListLaws.{keep-of, keep-yes, keep-no, later-ascends, above-low}
 
 module _ {A : Type 0} where

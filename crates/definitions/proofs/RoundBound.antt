@@ -176,7 +176,8 @@ module _ (w : List ℕ) (n : ℕ) (old : List ℕ) (work marks : ℕ) where
       let f = first-made limit l p in
       let g = first-made other m q in
       let t = same-finding (g .task) (f .task) (sym (g .read) ∙ f .read) in
-      let once = first-once (f .task) n (f .first .before) (g .first .before) (f .first .first) (subst (λ (t : Task). First t n (g .first .before)) t (g .first .first)) in
+      let first = subst (λ (t : Task). First t n (g .first .before)) t (g .first .first) in
+      let once = first-once (f .task) n (f .first .before) (g .first .before) (f .first .first) first in
       let set =
       f .first .same
       ∙ ap (λ r. record { clauses = setAt (f .task) n r; rounds = suc r }) once

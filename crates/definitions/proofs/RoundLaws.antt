@@ -1,10 +1,11 @@
 -- The questions of a synthesis, and its rounds one after the other. Assumes nothing.
 use mathlib.Core.Bool.{Bool, true, false, _&&_}
 use mathlib.Core.Logic.{_⊎_, inl, inr}
-use mathlib.Core.Path.{_≡_, refl, sym, _∙_, ap, subst}
+use mathlib.Core.Path.{_≡_, refl, sym, subst}
 use mathlib.Core.List.{List}
 use Prim.Native.Nat.{ℕ, zero, suc, _+_, _-_, _*_, _≤_, _<_}
 use native.Mathlib.Nat.{zero-add}
+use native.Mathlib.Numerals.{add-one}
 use native.Mathlib.Omega.{arith}
 use lib.Dec.{ltb, leb}
 use borrow.Author.Tests.{ltb-true, ltb-false, leb-true}
@@ -14,7 +15,7 @@ use Rattle.definitions.specs.Image.{Task, readTask}
 use Rattle.definitions.specs.Clauses.{width}
 use Rattle.definitions.specs.Synthesis.{firstSet, tested, passes, next, setAt, Found, fits, rounds, rowsIn, synthesis}
 use Rattle.definitions.proofs.ListLaws.{decide, and-left, and-right}
-use Rattle.definitions.proofs.AnswerLaws.{not-finding, same-finding, ask-of, UpTo, up-ask, Past, bind-past}
+use Rattle.definitions.proofs.AnswerLaws.{not-finding, same-finding, ask-of, up-ask, Past, bind-past}
 use Rattle.definitions.proofs.QuestionNumbers.{task-numbers}
 
 -- ---- one round on C
@@ -25,17 +26,17 @@ module _ (t : Task) (n rows r : ℕ) (C : List (List ℕ)) where
   rounds-finished (suc k) h = rw (h, rounds)
 
   module _ (fails : all passes (tested t C) ≡ false) where
-    pub rounds-over : rounds t n rows r 0 C ≡ refuse 15 0 0
+    pub rounds-over : (k : ℕ) → k ≡ 0 → rounds t n rows r k C ≡ refuse 15 0 0
     unfolding rounds
-    rounds-over = rw (fails, rounds)
+    rounds-over k e = rw (e, fails, rounds)
 
-    pub rounds-full : (k : ℕ) → fits rows (next t n C) ≡ false → rounds t n rows r (suc k) C ≡ refuse 14 0 0
+    pub rounds-full : (k k′ : ℕ) → k ≡ suc k′ → fits rows (next t n C) ≡ false → rounds t n rows r k C ≡ refuse 14 0 0
     unfolding rounds next
-    rounds-full k h = rw (fails, rounds, h)
+    rounds-full k k′ e h = rw (e, fails, rounds, h)
 
-    pub rounds-next : (k : ℕ) → fits rows (next t n C) ≡ true → rounds t n rows r (suc k) C ≡ rounds t n rows (suc r) k (next t n C)
+    pub rounds-next : (k k′ : ℕ) → k ≡ suc k′ → fits rows (next t n C) ≡ true → rounds t n rows r k C ≡ rounds t n rows (r + 1) k′ (next t n C)
     unfolding rounds next
-    rounds-next k h = rw (fails, rounds, h)
+    rounds-next k k′ e h = rw (e, add-one, fails, rounds, h)
 
 -- ---- the rounds from C0 on
 module _ (t : Task) (n : ℕ) where
@@ -83,7 +84,7 @@ module _ (t : Task) (n : ℕ) where
         go (inl h) = finished (r + 0) 0 r past small h
         go (inr h) =
             let same : r + 0 ≡ r = omega arith in
-            rw (rounds-over t n rows (suc r) (setAt t n r) h) (out-of-rounds (rw same h))
+            rw (rounds-over t n rows (suc r) (setAt t n r) h 0 refl) (out-of-rounds (rw same h))
     rounds-ended (suc k) r past small = go (decide (noneFails r)) (decide (fits rows (next t n C))) (λ p f. rounds-ended k (suc r) p f)
       where
         C : List (List ℕ)
@@ -100,8 +101,8 @@ module _ (t : Task) (n : ℕ) where
         go (inl h) f rec = finished (r + suc k) (suc k) r past small h
         go (inr h) (inl f) rec =
             let same : suc r + k ≡ r + suc k = omega arith in
-            rw (rounds-next t n rows (suc r) C h k f, ← same) (rec (one-more r past h) f)
-        go (inr h) (inr f) rec = rw (rounds-full t n rows (suc r) C h k f) out-of-rows
+            rw (rounds-next t n rows (suc r) C h (suc k) k refl f, add-one, ← same) (rec (one-more r past h) f)
+        go (inr h) (inr f) rec = rw (rounds-full t n rows (suc r) C h (suc k) k refl f) out-of-rows
 
     pub first-rounds : (k : ℕ) → fits rows (firstSet t) ≡ true → Ended rows k (rounds t n rows 1 k (firstSet t))
     unfolding setAt

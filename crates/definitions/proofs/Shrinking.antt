@@ -1,7 +1,7 @@
 -- The possible clauses that contain a clause of the set get fewer in each round in which a clause fails. Assumes nothing.
 use mathlib.Core.Bool.{Bool, true, false, not, false≢true}
 use mathlib.Core.Logic.{_⊎_, inl, inr}
-use mathlib.Core.Path.{_≡_, refl, sym, _∙_, ap, subst}
+use mathlib.Core.Path.{_≡_, refl, _∙_, ap, subst}
 use mathlib.Core.List.{List, [], _∷_, _++_, map, List·Memᴰ, List·Memᴰ·cases-cons}
 use Prim.Native.Nat.{ℕ, suc, _≤_, _<_}
 use native.Mathlib.Omega.{arith}
@@ -10,7 +10,6 @@ use lib.ListN.{length}
 use borrow.Author.Tests.{ltb-true, ltb-false}
 use Rattle.definitions.specs.Lists.{any, all, keep, each, empty, ascending, member, another}
 use Rattle.definitions.specs.Image.{Task}
-use Rattle.definitions.specs.Clauses.{GoodClause}
 use Rattle.definitions.specs.Synthesis.{insertAll, contains, undominated, Tested, tested, passes, weakenedBy, weakened, nextOf, next, setAt}
 use Rattle.definitions.specs.PossibleClauses.{possibleClauses}
 use Rattle.definitions.proofs.ListLaws.{decide, never, refuted, and-left, and-right, any-in, any-of, all-at, all-of, all-false, keep-all}
@@ -60,7 +59,9 @@ module _ (t : Task) (n : ℕ) (C : List (List ℕ)) where
     failing-leaves : (f : List ℕ) → List·Memᴰ f C → passes (testOf t C f) ≡ false → covered (next t n C) f ≡ false
     failing-leaves f m fails = refuted (λ h. let c = covered-of (next t n C) f h in none c (next-of t n C (c .mem)))
       where
-        survivor : (g : List ℕ) → List·Memᴰ g C → passes (testOf t C g) ≡ true → Part g f → (ltb (length g) (length f) ≡ true) ⊎ (ltb (length g) (length f) ≡ false) → ⊥
+        survivor :
+            (g : List ℕ) → List·Memᴰ g C → passes (testOf t C g) ≡ true → Part g f
+            → (ltb (length g) (length f) ≡ true) ⊎ (ltb (length g) (length f) ≡ false) → ⊥
         survivor g k passed p (inl h) = chain f g m k (ltb-true (length g) (length f) h) p
         survivor g k passed p (inr h) =
             let e : g ≡ f = part-same g f (up g k) (up f m) p (ltb-false (length g) (length f) h) in
@@ -112,7 +113,9 @@ module _ (t : Task) (n : ℕ) where
       D = next t n C
 
       fewer : (f : List ℕ) → List·Memᴰ f C → passes (testOf t C f) ≡ false → coverings (suc r) < coverings r
-      fewer f m fails = part-length (another gone (keep-distinct (covered D) (counted (t .atoms) n .once))) (covering r) (λ g k. there g (List·Memᴰ·cases-cons k))
+      fewer f m fails =
+          part-length (another gone (keep-distinct (covered D) (counted (t .atoms) n .once))) (covering r)
+          (λ g k. there g (List·Memᴰ·cases-cons k))
         where
           gone : List·Memᴰ f (keep (covered D) possible) → ⊥
           gone k =

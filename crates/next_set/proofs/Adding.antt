@@ -1,7 +1,7 @@
 -- What an operator adds, by rows, flags and a list of literals. Assumes nothing.
 use mathlib.Core.Bool.{Bool, true, false, not, _&&_, cond}
 use mathlib.Core.Logic.{_⊎_, inl, inr}
-use mathlib.Core.Option.{Option, none, some}
+use mathlib.Core.Option.{Option}
 use mathlib.Core.Path.{_≡_, refl, sym, _∙_, ap, subst}
 use mathlib.Core.List.{List, [], _∷_, _++_, map, List·Memᴰ, List·Memᴰ·head, List·Memᴰ·tail}
 use Prim.Native.Nat.{ℕ, zero, suc, _+_, _-_, _*_, _≤_, _<_}
@@ -17,8 +17,7 @@ use Rattle.definitions.specs.Kept.{kept, guaranteed}
 use Rattle.definitions.specs.Synthesis.{insertLiteral, guarantees, weakenedBy}
 use Rattle.definitions.proofs.ListLaws.{decide, never, or-false-left, and-left, and-right, and-both, all-at, all-of, keep-of, table-length, any-in}
 use Rattle.definitions.proofs.SetLaws.{below-of, range-of}
-use Rattle.definitions.proofs.Walks.{below-in}
-use Rattle.clause.specs.Rows.{rowCount, clausesOf, ClausesRead, RightRows, Ascending}
+use Rattle.clause.specs.Rows.{rowCount, clausesOf, ClausesRead, RightRows}
 use Rattle.clause.proofs.RowLaws.{clauses-length}
 use Rattle.clause.proofs.ReadLaws.{read-right}
 use Rattle.judge.specs.Judging.{failFlags, guaranteedFlags}
@@ -28,7 +27,7 @@ use Rattle.definitions.specs.Literal.{mostAtoms, mostLiterals, atom, allBelow, 
 use Rattle.next_set.specs.Build.{isDue, someFails, addedRow, addedFor, addedBy}
 use Rattle.next_set.specs.Post.{Listed, Weakening}
 use Rattle.next_set.proofs.Flags.{flag-has, flags-length}
-use Rattle.next_set.proofs.NextSet.{keep-yes, keep-no}
+use Rattle.definitions.proofs.ListLaws.{keep-agree}
 
 -- ---- lists of lists
 pub each-agree : {A B : Type 0} (g h : A → List B) (xs : List A) → ((x : A) → List·Memᴰ x xs → g x ≡ h x) → each g xs ≡ each h xs

@@ -1,21 +1,19 @@
 -- Flags of clauses and of literals. Assumes nothing.
-use mathlib.Core.Bool.{Bool, true, false, not, _&&_, _||_, cond, false≢true}
-use mathlib.Core.Path.{_≡_, refl, sym, _∙_, ap, subst}
+use mathlib.Core.Bool.{Bool, true, false, _||_, cond}
+use mathlib.Core.Path.{_≡_, refl, sym, _∙_, ap}
 use mathlib.Core.List.{List, [], _∷_, _++_, map, append-nil}
 use Prim.Native.Nat.{ℕ, zero, suc, _+_, _-_, _≤_, _<_}
 use native.Mathlib.Numerals.{add-one}
 use native.Mathlib.Omega.{arith}
-use lib.Dec.{eqb}
-use lib.ListN.{length, getD, set, take, drop}
+use lib.ListN.{length, getD, set, take}
 use lib.Seq.{take-suc-set, append-snoc}
 use borrow.Author.Tests.{eq-eqb, ne-eqb}
 use Rattle.definitions.specs.Lists.{keep, range, below}
 use Rattle.definitions.specs.Closure.{has, bit}
-use Rattle.definitions.proofs.Walks.{below-left}
 use Rattle.judge.specs.Judging.{flagMore}
 use Rattle.propagation.proofs.Marks.{bit-back}
 use Rattle.next_set.specs.Post.{Listed}
-use Rattle.next_set.proofs.NextSet.{keep-yes, keep-no}
+use Rattle.definitions.proofs.ListLaws.{keep-yes, keep-no}
 
 bit-one : (b : Bool) → bit b ≡ 1 → b ≡ true
 unfolding bit

@@ -1,23 +1,22 @@
 -- Putting in clauses by rising length gives the undominated ones. Assumes nothing.
-use mathlib.Core.Bool.{Bool, true, false, not, _&&_, _||_, cond}
+use mathlib.Core.Bool.{Bool, true, false}
 use mathlib.Core.Logic.{_⊎_, inl, inr}
 use mathlib.Core.Option.{Option, none, some}
-use mathlib.Core.Path.{_≡_, refl, sym, _∙_, ap, subst}
-use mathlib.Core.List.{List, [], _∷_, _++_, map, List·Memᴰ, List·Memᴰ·head, List·Memᴰ·tail, List·Memᴰ·not-nil, List·Memᴰ·cases-cons}
-use Prim.Native.Nat.{ℕ, zero, suc, _+_, _*_, _≤_, _<_}
+use mathlib.Core.Path.{_≡_, refl, subst}
+use mathlib.Core.List.{List, [], _∷_, List·Memᴰ, List·Memᴰ·head, List·Memᴰ·tail, List·Memᴰ·not-nil, List·Memᴰ·cases-cons}
+use Prim.Native.Nat.{ℕ, suc, _≤_, _<_}
 use native.Mathlib.Decide.{decLt}
 use native.Mathlib.Omega.{arith}
-use lib.Dec.{eqb, ltb}
+use lib.Dec.{ltb}
 use lib.ListN.{length}
 use borrow.Author.Tests.{ltb-true, ltb-false}
-use Rattle.definitions.specs.Lists.{ascending}
-use Rattle.definitions.specs.Literal.{mostAtoms, atom, allBelow, literalList}
-use Rattle.definitions.specs.Clauses.{width}
+use Rattle.definitions.specs.Lists.{another}
+use Rattle.definitions.specs.Literal.{mostAtoms}
 use Rattle.definitions.specs.Synthesis.{undominated, insertClause}
-use Rattle.definitions.proofs.ListLaws.{decide, and-left}
+use Rattle.definitions.proofs.LiteralLaws.{list-ascends}
 use Rattle.definitions.proofs.OrderLaws.{up, insert-up}
 use Rattle.definitions.proofs.SetLaws.{insertClause-of}
-use Rattle.definitions.specs.Clauses.{GoodClause}
+use Rattle.clause.proofs.ClauseLaws.{up-distinct}
 use Rattle.clause_set.specs.Put.{blocked, put, putAll}
 use Rattle.definitions.proofs.Counting.{Part, part-length}
 use Rattle.clause_set.proofs.Parts.{Blocking, blocked-of, blocked-not}
@@ -58,7 +57,7 @@ module _ (N rows : ℕ) (few : N ≤ mostAtoms) (U : List (List ℕ)) (good : Go
       no-part : (g : List ℕ) → List·Memᴰ g D → Part g f → ⊥
       no-part g m p =
           let gg = good g (least-of U g (s .least g m) .0) in
-          blocked-not D f g (good-ascending N width f (good f mem)) (good-ascending N width g gg) (gg .some-literal) free m p
+          blocked-not D f g (list-ascends N f (good f mem .list)) (list-ascends N g (gg .list)) (gg .some-literal) free m p
 
       -- one that is not blocked is undominated
       is-least : List·Memᴰ f (undominated U)

@@ -1,36 +1,35 @@
 -- The set that is built is the next set, and does not fit exactly if the next set does not. Assumes nothing.
-use mathlib.Core.Bool.{Bool, true, false, not, _&&_, _||_, cond, false≢true}
+use mathlib.Core.Bool.{Bool, true, false, not, _&&_}
 use mathlib.Core.Logic.{_⊎_, inl, inr}
 use mathlib.Core.Option.{Option, none, some}
-use mathlib.Core.Path.{_≡_, refl, sym, _∙_, ap, subst}
-use mathlib.Core.List.{List, [], _∷_, _++_, map, List·Memᴰ, List·Memᴰ·head, List·Memᴰ·tail, List·Memᴰ·not-nil, List·Memᴰ·cases-cons}
+use mathlib.Core.Path.{_≡_, refl, _∙_, ap, subst}
+use mathlib.Core.List.{List, [], _∷_, _++_, map, List·Memᴰ, List·Memᴰ·not-nil, List·Memᴰ·cases-cons}
 use mathlib.Core.List.{Memᴰ·append-left, Memᴰ·append-right}
 use Prim.Native.Nat.{ℕ, zero, suc, _+_, _-_, _*_, _≤_, _<_}
 use native.Mathlib.Omega.{arith}
-use lib.Dec.{eqb, ltb, leb}
+use lib.Dec.{eqb, ltb}
 use lib.ListN.{length}
 use borrow.Author.Tests.{eqb-true, eq-eqb, ltb-true, lt-ltb, le-leb, lt-leb, not-true}
-use Rattle.definitions.specs.Lists.{any, all, keep, each, empty, below, range, member}
+use Rattle.definitions.specs.Lists.{any, all, keep, each, below, range, member}
 use Rattle.definitions.specs.Literal.{mostAtoms, atom}
 use Rattle.definitions.specs.Image.{Operator, Task}
 use Rattle.definitions.specs.Clauses.{width}
-use Rattle.definitions.specs.Closure.{closure}
 use Rattle.definitions.specs.Kept.{kept, guaranteed}
-use Rattle.definitions.specs.Synthesis.{insertLiteral, insertClause, insertAll, contains, undominated, Tested, tested, passes, guarantees}
+use Rattle.definitions.specs.Synthesis.{insertLiteral, insertAll, contains, undominated, Tested, tested, passes, guarantees}
 use Rattle.definitions.specs.Synthesis.{weakenedBy, weakened, nextOf, next, fits}
 use Rattle.definitions.proofs.ListLaws.{and-left, and-right, and-both, map-in, map-of, keep-in, keep-of, keep-agree}
 use Rattle.definitions.proofs.OrderLaws.{up, insertAll-up, keep-up}
 use Rattle.definitions.proofs.SetLaws.{each-of, below-of, insertAll-of, insertLiteral-keeps, testOf, passes-all}
 use Rattle.definitions.specs.Clauses.{GoodClause}
 use Rattle.definitions.proofs.SetRight.{insert-length, good-insert, surviving}
-use Rattle.clause.proofs.ClauseLaws.{same-set}
+use Rattle.clause.proofs.ClauseLaws.{up-distinct, same-set}
 use Rattle.clause_set.specs.Put.{putAll}
 use Rattle.next_set.specs.Build.{fitted, survivors, addedFor, addedBy, addedAt, addedFrom}
 use Rattle.definitions.proofs.Counting.{Part, part-length}
 use Rattle.clause_set.proofs.Insertion.{puts-none, puts-append}
 use Rattle.definitions.proofs.Inserted.{Goods, all-keeps, all-in}
 use Rattle.definitions.proofs.Undominated.{least-of, least-in, Antichain}
-use Rattle.next_set.proofs.Levels.{up-distinct, Stage, Grown, puts, next-stage}
+use Rattle.next_set.proofs.Levels.{Stage, Grown, puts, next-stage}
 
 pub each-in : {A B : Type 0} (f : A → List B) {x : A} {y : B} (xs : List A) → List·Memᴰ x xs → List·Memᴰ y (f x) → List·Memᴰ y (each f xs)
 unfolding each
@@ -95,7 +94,9 @@ module _ (t : Task) (C : List (List ℕ)) where
         let b = map-of (testOf t C) C (a .mem) in
         go (b .it) (b .mem) (ltb (length (b .it)) n) refl (subst (λ (x : Tested). List·Memᴰ g (weakened t n C x)) (b .same) (a .there))
       where
-        go : (f : List ℕ) → List·Memᴰ f C → (b : Bool) → ltb (length f) n ≡ b → List·Memᴰ g (weakened t n C (testOf t C f)) → (w : Weak g) × (length (w .clause) < n)
+        go :
+            (f : List ℕ) → List·Memᴰ f C → (b : Bool) → ltb (length f) n ≡ b → List·Memᴰ g (weakened t n C (testOf t C f))
+            → (w : Weak g) × (length (w .clause) < n)
         go f mf true e k =
             let a = each-of (weakenedBy t C f) (testOf t C f .failing) (rw (e, weakened) at k) in
             let b = keep-of (λ o. not (fine o f)) (t .operators) (a .mem) in (

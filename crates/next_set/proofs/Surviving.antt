@@ -1,25 +1,25 @@
 -- The rows without a flag are the survivors, and the set built from them is the next set. Assumes nothing.
 use mathlib.Core.Bool.{Bool, true, false, not, cond}
-use mathlib.Core.Option.{Option, some}
+use mathlib.Core.Option.{some}
 use mathlib.Core.Path.{_≡_, refl, sym, _∙_, ap, subst}
 use mathlib.Core.List.{List, [], _∷_, _++_, map, List·Memᴰ}
 use Prim.Native.Nat.{ℕ, _+_, _-_, _*_, _%_, _≤_, _<_}
 use native.Mathlib.Nat.{mul-le-mul-left}
 use native.Mathlib.Omega.{arith}
-use lib.ListN.{length, getD, take}
+use lib.ListN.{length, getD}
 use Rattle.definitions.specs.Lists.{all, keep, each, range}
 use Rattle.definitions.specs.Image.{Task}
-use Rattle.definitions.specs.Closure.{has, bit}
+use Rattle.definitions.specs.Closure.{bit}
 use Rattle.definitions.specs.Kept.{kept}
-use Rattle.definitions.specs.Clauses.{width, mostRows, rowOf, rowAt, clauseWords}
-use Rattle.definitions.specs.Synthesis.{next, setAt}
-use Rattle.definitions.proofs.ListLaws.{keep-of}
+use Rattle.definitions.specs.Clauses.{width, rowOf, clauseWords}
+use Rattle.definitions.specs.Synthesis.{next}
+use Rattle.definitions.proofs.ListLaws.{keep-of, keep-yes, keep-no}
 use Rattle.definitions.proofs.SetLaws.{range-of}
 use Rattle.definitions.proofs.OrderLaws.{up}
 use Rattle.definitions.specs.Clauses.{GoodClause}
 use Rattle.definitions.proofs.SetRight.{good-sets, up-sets}
 use Rattle.definitions.proofs.Accepts.{words-length}
-use Rattle.clause.specs.Rows.{rowCount, clausesOf, ClausesRead, RightRows}
+use Rattle.clause.specs.Rows.{rowCount, clausesOf, ClausesRead}
 use Rattle.clause.proofs.RowLaws.{clauses-length}
 use Rattle.clause.proofs.ReadLaws.{read-right, read-whole}
 use Rattle.clause.proofs.WordLaws.{row-at}
@@ -35,7 +35,7 @@ use Rattle.next_set.proofs.Flags.{flags-length, flag-has}
 use Rattle.next_set.proofs.Testing.{fails-all}
 use Rattle.next_set.proofs.Adding.{each-agree, each-places, list-more}
 use Rattle.definitions.proofs.Undominated.{Antichain, sets-antichain}
-use Rattle.next_set.proofs.NextSet.{keep-yes, keep-no, survivors-up, next-built}
+use Rattle.next_set.proofs.NextSet.{survivors-up, next-built}
 
 each-keep : {A B : Type 0} (g : A → List B) (p : A → Bool) (xs : List A) → each g (keep p xs) ≡ each (λ x. cond (p x) (g x) []) xs
 unfolding each keep

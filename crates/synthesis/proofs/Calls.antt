@@ -1,23 +1,23 @@
 -- The questions of a synthesis one after the other. Assumes nothing.
-use mathlib.Core.Bool.{Bool, true, false, _&&_}
-use mathlib.Core.Path.{_≡_, refl, sym, _∙_, ap}
+use mathlib.Core.Bool.{true, false, _&&_}
+use mathlib.Core.Path.{_≡_, sym, _∙_, ap}
 use mathlib.Core.List.{List, _++_}
-use Prim.Native.Nat.{ℕ, zero, suc, _-_, _*_, _≤_, _<_}
+use Prim.Native.Nat.{ℕ, _-_, _*_, _≤_, _<_}
 use native.Mathlib.Omega.{arith}
 use native.Mathlib.Nat.{mul-le-mul-left}
 use lib.Dec.{leb}
 use lib.ListN.{length, take, drop, replicate}
 use lib.Seq.{take-at}
 use borrow.Author.Tests.{leb-true, le-leb, lt-leb}
-use Rattle.definitions.specs.Lists.{all}
 use Rattle.definitions.specs.Answer.{Refusal, Answer, Outcome, refused, refuse, verdict, outcome, ask, askAt, _>>=_}
 use Rattle.definitions.specs.Literal.{mostAtoms}
 use Rattle.definitions.specs.Image.{Task, readTask}
 use Rattle.definitions.specs.Clauses.{width, mostRows, clauseWords}
-use Rattle.definitions.specs.Synthesis.{firstSet, tested, passes, nextOf, Made, fits, rounds, rowsIn, synthesis, bufferAfter, madeOf, synthesisCall}
+use Rattle.definitions.specs.Synthesis.{firstSet, Found, Made, fits, rounds, rowsIn, synthesis, bufferAfter, madeOf, synthesisCall}
 use Rattle.definitions.proofs.ListLaws.{and-left, and-right}
 use Rattle.definitions.proofs.AnswerLaws.{not-finding, same-refusal}
 use Rattle.definitions.proofs.QuestionNumbers.{task-numbers}
+use Rattle.definitions.proofs.RoundLaws.{Ended, found, out-of-rounds, out-of-rows, first-rounds}
 use Rattle.answer.specs.Answer.{refusalAt, placed, verdictAnswer}
 use Rattle.answer.specs.declared.Refusal as declared
 use Rattle.answer.specs.declared.Verdict.{Verdict}
@@ -30,26 +30,13 @@ use Rattle.synthesis.proofs.Rounds.{first-size}
 use Rattle.synthesis.proofs.Units.{first-length}
 
 -- ---- the clause buffer after the rounds is the same for buffers of one length
-rounds-buffer :
-    (t : Task) (n rows : ℕ) (c c′ : List ℕ) → length c ≡ length c′ → (k r : ℕ) (C : List (List ℕ))
-    → bufferAfter c (rounds t n rows r k C) ≡ bufferAfter c′ (rounds t n rows r k C)
-unfolding rounds refuse bufferAfter
-rounds-buffer t n rows c c′ e zero r C = go (all passes (tested t C)) refl
-  where
-    go : (b : Bool) → all passes (tested t C) ≡ b → bufferAfter c (rounds t n rows r 0 C) ≡ bufferAfter c′ (rounds t n rows r 0 C)
-    go true h = rw (h, rounds, e)
-    go false h = rw (h, rounds, e)
-rounds-buffer t n rows c c′ e (suc k) r C =
-    go (all passes (tested t C)) refl (fits rows (nextOf t n C (tested t C))) refl
-    (rounds-buffer t n rows c c′ e k (suc r) (nextOf t n C (tested t C)))
-  where
-    go :
-        (b : Bool) → all passes (tested t C) ≡ b → (d : Bool) → fits rows (nextOf t n C (tested t C)) ≡ d
-        → bufferAfter c (rounds t n rows (suc r) k (nextOf t n C (tested t C))) ≡ bufferAfter c′ (rounds t n rows (suc r) k (nextOf t n C (tested t C)))
-        → bufferAfter c (rounds t n rows r (suc k) C) ≡ bufferAfter c′ (rounds t n rows r (suc k) C)
-    go true h d q rec = rw (h, rounds, e)
-    go false h true q rec = rw (h, rounds, q) rec
-    go false h false q rec = rw (h, rounds, q, e)
+ended-buffer :
+    {t : Task} {n rows last : ℕ} {a : Answer Found} (c c′ : List ℕ) → length c ≡ length c′ → Ended t n rows last a
+    → bufferAfter c a ≡ bufferAfter c′ a
+unfolding refuse bufferAfter
+ended-buffer c c′ e (found r f small) = rw e
+ended-buffer c c′ e (out-of-rounds h) = rw e
+ended-buffer c c′ e out-of-rows = rw e
 
 -- ---- the questions before the first set
 module _ (w : List ℕ) (n limit : ℕ) (old : List ℕ) (work marks : ℕ) where
@@ -125,8 +112,9 @@ module _ (w : List ℕ) (n limit : ℕ) (old : List ℕ) (work marks : ℕ) (ask
       unfolding synthesisCall synthesis fits _>>=_ ask askAt
       call-run c q =
           let size = first-size t in
-          ap (outcome (madeOf (rounds t n rows 1 (limit - 1) (firstSet t)))) (rounds-buffer t n rows c old q (limit - 1) 1 (firstSet t))
-          ∙ rw (asked .task .found, asked .limits, asked .buffers, ← same, le-leb (length (firstSet t)) rows (omega arith))
+          let small = le-leb (length (firstSet t)) rows (omega arith) in
+          ap (outcome (madeOf (rounds t n rows 1 (limit - 1) (firstSet t)))) (ended-buffer c old q (first-rounds t n rows (limit - 1) small))
+          ∙ rw (asked .task .found, asked .limits, asked .buffers, ← same, small)
 
       few : rows ≤ mostRows
       unfolding rowsIn

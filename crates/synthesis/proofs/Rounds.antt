@@ -3,8 +3,7 @@ use mathlib.Core.Bool.{Bool, true, false, cond}
 use mathlib.Core.Option.{none, some}
 use mathlib.Core.Path.{_≡_, refl, sym, _∙_, ap}
 use mathlib.Core.List.{List, _++_, map, List·Memᴰ}
-use Prim.Native.Nat.{ℕ, zero, suc, _+_, _-_, _*_, _≤_, _<_}
-use native.Mathlib.Numerals.{add-one}
+use Prim.Native.Nat.{ℕ, suc, _+_, _-_, _*_, _≤_, _<_}
 use native.Mathlib.Omega.{arith}
 use native.Mathlib.Nat.{mul-le-mul-left}
 use lib.Dec.{eqb}
@@ -12,7 +11,7 @@ use lib.Seq.{take-at, length-take-le}
 use borrow.Author.Tests.{eqb-true, eqb-false, not-true, not-false}
 use lib.ListN.{length, take, drop, replicate}
 use Rattle.definitions.specs.Lists.{any, all}
-use Rattle.definitions.specs.Answer.{Answer, finding, refused, refuse, outcome}
+use Rattle.definitions.specs.Answer.{Answer, finding, refuse, outcome}
 use Rattle.definitions.specs.Literal.{mostAtoms}
 use Rattle.definitions.specs.Image.{Task, initialState}
 use Rattle.definitions.specs.Closure.{bit}
@@ -21,7 +20,7 @@ use Rattle.definitions.specs.Synthesis.{firstSet, tested, passes, next, setAt, 
 use Rattle.definitions.specs.Clauses.{GoodClause}
 use Rattle.definitions.proofs.ListLaws.{some-none, none-some}
 use Rattle.definitions.proofs.SetRight.{good-sets, up-sets}
-use Rattle.answer.specs.Answer.{refusalAt}
+use Rattle.definitions.proofs.RoundLaws.{rounds-finished, rounds-over, rounds-full, rounds-next}
 use Rattle.clause.specs.Rows.{rowCount, clausesOf, ClausesRead}
 use Rattle.clause.proofs.RowLaws.{clauses-length, rows-of}
 use Rattle.clause.proofs.ReadLaws.{read-right}
@@ -75,27 +74,6 @@ step-built t n rows last C w Full h fails more = (fails, more, fits-none rows (n
 step-built t n rows last C w (Rows k) h fails more =
     let q = fits-some rows (next t n C) (held k w) (h .1) in
     record { fails = fails; more = more; few = q .0; room = h .0; set = q .1 }
-
--- ---- the rounds
-module _ (t : Task) (n rows r : ℕ) (C : List (List ℕ)) where
-  pub rounds-finished : (k : ℕ) → all passes (tested t C) ≡ true → rounds t n rows r k C ≡ finding (record { clauses = C; rounds = r })
-  unfolding rounds
-  rounds-finished zero h = rw (h, rounds)
-  rounds-finished (suc k) h = rw (h, rounds)
-
-  module _ (fails : all passes (tested t C) ≡ false) where
-    pub rounds-over : (k : ℕ) → k ≡ 0 → rounds t n rows r k C ≡ refused (refusalAt 15 0 0)
-    unfolding rounds refuse
-    rounds-over k e = rw (e, fails, rounds)
-
-    pub rounds-full : (k k′ : ℕ) → k ≡ suc k′ → fits rows (next t n C) ≡ false → rounds t n rows r k C ≡ refused (refusalAt 14 0 0)
-    unfolding rounds refuse next
-    rounds-full k k′ e h = rw (e, fails, rounds, h)
-
-    pub rounds-next :
-        (k k′ : ℕ) → k ≡ suc k′ → fits rows (next t n C) ≡ true → rounds t n rows r k C ≡ rounds t n rows (r + 1) k′ (next t n C)
-    unfolding rounds next
-    rounds-next k k′ e h = rw (e, add-one, fails, rounds, h)
 
 -- ---- room for the flags
 pub few-flags :
@@ -288,7 +266,7 @@ module _ (w : List ℕ) (atoms n limit rows : ℕ) (c : List ℕ) (count made : 
   pub standing-end :
       (c₀ : List ℕ) → length c ≡ length c₀ → (v : List ℕ) (e : End) → Stepped t n rows (eqb made limit) C v (Ended e)
       → ended c count made e ≡ outcome (madeOf a) (bufferAfter c₀ a)
-  unfolding madeOf bufferAfter outcome
+  unfolding madeOf bufferAfter outcome refuse
   standing-end c₀ same v Finished h = standing-found c₀ same h
   standing-end c₀ same v OutOfRounds h =
       let m = eqb-true made limit (h .1) in
