@@ -16,10 +16,10 @@ use Rattle.definitions.specs.RoundBound.{roundBound, failsIn, EndsIn, Ro
 use Rattle.definitions.proofs.ListLaws.{decide, never}
 use Rattle.definitions.proofs.AnswerLaws.{not-finding, same-finding, same-refusal, past-finding}
 use Rattle.definitions.proofs.ReadLaws.{read-right}
-use Rattle.definitions.proofs.RoundLaws.{noneFails, First, one-more, Ended, found, out-of-rounds, out-of-rows, FirstFound, found-of, Reached, reached}
+use Rattle.definitions.proofs.RoundLaws.{noneFails, FirstPassing, one-more, Ended, found, out-of-rounds, out-of-rows, FirstFound, found-of, Reached, reached}
 use Rattle.definitions.proofs.ClosedForms.{closed-forms}
 use Rattle.definitions.proofs.PossibleClauses.{counted}
-use Rattle.definitions.proofs.Shrinking.{coverings, coverings-most, shrinks, none-on}
+use Rattle.definitions.proofs.Shrinking.{subsumedCount, subsumed-most, shrinks, none-on}
 
 -- ---- the rounds of the definition
 module _ (t : Task) (n : ℕ) where
@@ -28,7 +28,7 @@ module _ (t : Task) (n : ℕ) where
   fails-in r = let same : suc r - 1 ≡ r = omega arith in rw same
 
   -- there is only one first set of which none fails
-  first-once : (a b : ℕ) → First t n a → First t n b → a ≡ b
+  first-once : (a b : ℕ) → FirstPassing t n a → FirstPassing t n b → a ≡ b
   first-once a b f g = go (decide (ltb a b)) (decide (ltb b a))
     where
       go : (ltb a b ≡ true) ⊎ (ltb a b ≡ false) → (ltb b a ≡ true) ⊎ (ltb b a ≡ false) → a ≡ b
@@ -39,7 +39,7 @@ module _ (t : Task) (n : ℕ) where
           let q = ltb-false b a k in
           omega arith
 
-  ends-in : (r : ℕ) → First t n r → EndsIn t n (suc r)
+  ends-in : (r : ℕ) → FirstPassing t n r → EndsIn t n (suc r)
   ends-in r f = record { some-round = omega arith; before = before; here = fails-in r ∙ ap not (f .here) }
     where
       before : (q : ℕ) → 1 ≤ q → q < suc r → failsIn t n q ≡ true
@@ -55,11 +55,11 @@ module _ (t : Task) (n : ℕ) where
         go (inl e) = never (none-on t n r e) h
         go (inr e) = e
 
-    -- each of them has made the covered clauses fewer
-    left-over : (r : ℕ) → noneFails t n r ≡ false → coverings t n (suc r) + suc r ≤ possibleClauses (t .atoms) n
+    -- each of them has made the subsumed clauses fewer
+    left-over : (r : ℕ) → noneFails t n r ≡ false → subsumedCount t n (suc r) + suc r ≤ possibleClauses (t .atoms) n
     left-over zero h =
         let a = shrinks t n 0 some h in
-        let b = coverings-most t n 0 in
+        let b = subsumed-most t n 0 in
         omega arith
     left-over (suc r) h =
         let a = left-over r (failing-before r h) in
@@ -69,21 +69,21 @@ module _ (t : Task) (n : ℕ) where
     failing-bound : (r : ℕ) → noneFails t n r ≡ false → suc r ≤ possibleClauses (t .atoms) n
     failing-bound r h = let k = left-over r h in omega arith
 
-    first-bound : (r : ℕ) → First t n r → suc r ≤ roundBound (t .atoms) n
+    first-bound : (r : ℕ) → FirstPassing t n r → suc r ≤ roundBound (t .atoms) n
     unfolding roundBound
     first-bound zero f = omega arith
     first-bound (suc r) f = let k = failing-bound r (f .past r (omega arith)) in omega arith
 
     -- the search for the first, with k sets left
-    search : (k r : ℕ) → r + k ≡ possibleClauses (t .atoms) n → ((i : ℕ) → i < r → noneFails t n i ≡ false) → (last : ℕ) × First t n last
+    search : (k r : ℕ) → r + k ≡ possibleClauses (t .atoms) n → ((i : ℕ) → i < r → noneFails t n i ≡ false) → (last : ℕ) × FirstPassing t n last
     search zero r e past = go (decide (noneFails t n r))
       where
-        go : (noneFails t n r ≡ true) ⊎ (noneFails t n r ≡ false) → (last : ℕ) × First t n last
+        go : (noneFails t n r ≡ true) ⊎ (noneFails t n r ≡ false) → (last : ℕ) × FirstPassing t n last
         go (inl h) = (r, record { here = h; past = past })
         go (inr h) = let k = failing-bound r h in absurd (omega arith)
     search (suc k) r e past = go (decide (noneFails t n r)) (λ h. search k (suc r) (omega arith) (one-more t n r past h))
       where
-        go : (noneFails t n r ≡ true) ⊎ (noneFails t n r ≡ false) → (noneFails t n r ≡ false → (last : ℕ) × First t n last) → (last : ℕ) × First t n last
+        go : (noneFails t n r ≡ true) ⊎ (noneFails t n r ≡ false) → (noneFails t n r ≡ false → (last : ℕ) × FirstPassing t n last) → (last : ℕ) × FirstPassing t n last
         go (inl h) rec = (r, record { here = h; past = past })
         go (inr h) rec = rec h
 
@@ -176,7 +176,7 @@ module _ (w : List ℕ) (n : ℕ) (old : List ℕ) (work marks : ℕ) where
       let f = first-made limit l p in
       let g = first-made other m q in
       let t = same-finding (g .task) (f .task) (sym (g .read) ∙ f .read) in
-      let first = subst (λ (t : Task). First t n (g .first .before)) t (g .first .first) in
+      let first = subst (λ (t : Task). FirstPassing t n (g .first .before)) t (g .first .first) in
       let once = first-once (f .task) n (f .first .before) (g .first .before) (f .first .first) first in
       let set =
       f .first .same

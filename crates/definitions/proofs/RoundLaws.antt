@@ -45,7 +45,7 @@ module _ (t : Task) (n : ℕ) where
   noneFails r = all passes (tested t (setAt t n r))
 
   -- Cr is the first set of which none fails
-  pub record First (r : ℕ) : Type 0 where
+  pub record FirstPassing (r : ℕ) : Type 0 where
     pub here : noneFails r ≡ true
     pub past : (i : ℕ) → i < r → noneFails i ≡ false
 
@@ -62,7 +62,7 @@ module _ (t : Task) (n : ℕ) where
 
   -- what the rounds come to where C0 to C(last) may be tested, in a buffer of so many rows
   pub data Ended (rows last : ℕ) : Answer Found → Type 0 where
-    found : (r : ℕ) → First r → fits rows (setAt t n r) ≡ true → Ended rows last (finding (record { clauses = setAt t n r; rounds = suc r }))
+    found : (r : ℕ) → FirstPassing r → fits rows (setAt t n r) ≡ true → Ended rows last (finding (record { clauses = setAt t n r; rounds = suc r }))
     out-of-rounds : noneFails last ≡ false → Ended rows last (refuse 15 0 0)
     out-of-rows : Ended rows last (refuse 14 0 0)
 
@@ -113,7 +113,7 @@ module _ (t : Task) (n : ℕ) where
   -- a finding is the first set of which none fails
   pub record FirstFound (rows : ℕ) (x : Found) : Type 0 where
     pub before : ℕ
-    pub first : First before
+    pub first : FirstPassing before
     pub small : fits rows (setAt t n before) ≡ true
     pub same : x ≡ record { clauses = setAt t n before; rounds = suc before }
 

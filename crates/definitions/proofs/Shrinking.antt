@@ -23,23 +23,23 @@ use Rattle.definitions.proofs.Undominated.{contains-of, Antichain, sets
 use Rattle.definitions.proofs.PossibleClauses.{counted}
 
 -- ---- a clause of C is contained in g, or is g
-unfoldable covered : List (List ℕ) → List ℕ → Bool
-covered C g = any (λ f. all (λ l. member l g) f) C
+unfoldable subsumed : List (List ℕ) → List ℕ → Bool
+subsumed C g = any (λ f. all (λ l. member l g) f) C
 
-record Cover (C : List (List ℕ)) (g : List ℕ) : Type 0 where
+record Subsumer (C : List (List ℕ)) (g : List ℕ) : Type 0 where
   it : List ℕ
   mem : List·Memᴰ it C
   part : Part it g
 
-covered-of : (C : List (List ℕ)) (g : List ℕ) → covered C g ≡ true → Cover C g
-unfolding covered
-covered-of C g h =
+subsumed-of : (C : List (List ℕ)) (g : List ℕ) → subsumed C g ≡ true → Subsumer C g
+unfolding subsumed
+subsumed-of C g h =
     let w = any-of (λ f. all (λ l. member l g) f) C h in
     record { it = w .it; mem = w .mem; part = λ l m. member-of l g (all-at (λ l. member l g) (w .passes) m) }
 
-covered-in : (C : List (List ℕ)) (f g : List ℕ) → List·Memᴰ f C → Part f g → covered C g ≡ true
-unfolding covered
-covered-in C f g m p = any-in (λ f. all (λ l. member l g) f) m (all-of (λ l. member l g) f (λ l k. member-in (p l k)))
+subsumed-in : (C : List (List ℕ)) (f g : List ℕ) → List·Memᴰ f C → Part f g → subsumed C g ≡ true
+unfolding subsumed
+subsumed-in C f g m p = any-in (λ f. all (λ l. member l g) f) m (all-of (λ l. member l g) f (λ l k. member-in (p l k)))
 
 -- ---- the next set
 abbrev Ascending : List (List ℕ) → Type 0
@@ -47,17 +47,17 @@ Ascending C = (f : List ℕ) → List·Memᴰ f C → ascending f ≡ true
 
 module _ (t : Task) (n : ℕ) (C : List (List ℕ)) where
   -- what contains a clause of the next set contains one of C: it, or the one that was weakened to it
-  next-covered : (g : List ℕ) → covered (next t n C) g ≡ true → covered C g ≡ true
-  next-covered g h = let c = covered-of (next t n C) g h in go c (next-of t n C (c .mem))
+  next-subsumed : (g : List ℕ) → subsumed (next t n C) g ≡ true → subsumed C g ≡ true
+  next-subsumed g h = let c = subsumed-of (next t n C) g h in go c (next-of t n C (c .mem))
     where
-      go : (c : Cover (next t n C) g) → FromNext t n C (c .it) → covered C g ≡ true
-      go c (survived k passed) = covered-in C (c .it) g k (c .part)
-      go c (weaker f l k small low new e) = covered-in C f g k (λ x m. c .part x (rw e (insertLiteral-keeps l f m)))
+      go : (c : Subsumer (next t n C) g) → FromNext t n C (c .it) → subsumed C g ≡ true
+      go c (survived k passed) = subsumed-in C (c .it) g k (c .part)
+      go c (weaker f l k small low new e) = subsumed-in C f g k (λ x m. c .part x (rw e (insertLiteral-keeps l f m)))
 
   module _ (up : Ascending C) (up-next : Ascending (next t n C)) (chain : Antichain C) where
     -- a failing clause contains no clause of the next set
-    failing-leaves : (f : List ℕ) → List·Memᴰ f C → passes (testOf t C f) ≡ false → covered (next t n C) f ≡ false
-    failing-leaves f m fails = refuted (λ h. let c = covered-of (next t n C) f h in none c (next-of t n C (c .mem)))
+    failing-leaves : (f : List ℕ) → List·Memᴰ f C → passes (testOf t C f) ≡ false → subsumed (next t n C) f ≡ false
+    failing-leaves f m fails = refuted (λ h. let c = subsumed-of (next t n C) f h in none c (next-of t n C (c .mem)))
       where
         survivor :
             (g : List ℕ) → List·Memᴰ g C → passes (testOf t C g) ≡ true → Part g f
@@ -67,7 +67,7 @@ module _ (t : Task) (n : ℕ) (C : List (List ℕ)) where
             let e : g ≡ f = part-same g f (up g k) (up f m) p (ltb-false (length g) (length f) h) in
             never (subst (λ (z : List ℕ). passes (testOf t C z) ≡ true) e passed) fails
 
-        none : (c : Cover (next t n C) f) → FromNext t n C (c .it) → ⊥
+        none : (c : Subsumer (next t n C) f) → FromNext t n C (c .it) → ⊥
         none c (survived k passed) = survivor (c .it) k passed (c .part) (decide (ltb (length (c .it)) (length f)))
         none c (weaker g l k small low new e) =
             let a = part-length (ascending-distinct (c .it) (up-next (c .it) (c .mem))) f (c .part) in
@@ -83,24 +83,24 @@ module _ (t : Task) (n : ℕ) where
   possible = counted (t .atoms) n .list
 
   -- U(Cr): the possible clauses that contain a clause of Cr, or are one
-  covering : ℕ → List (List ℕ)
-  covering r = keep (covered (setAt t n r)) possible
+  subsumedAt : ℕ → List (List ℕ)
+  subsumedAt r = keep (subsumed (setAt t n r)) possible
 
   -- how many they are
-  pub coverings : ℕ → ℕ
-  coverings r = length (covering r)
+  pub subsumedCount : ℕ → ℕ
+  subsumedCount r = length (subsumedAt r)
 
-  pub coverings-most : (r : ℕ) → coverings r ≤ possibleClauses (t .atoms) n
-  unfolding coverings covering possible
-  coverings-most r =
+  pub subsumed-most : (r : ℕ) → subsumedCount r ≤ possibleClauses (t .atoms) n
+  unfolding subsumedCount subsumedAt possible
+  subsumed-most r =
       let c = counted (t .atoms) n in
-      let h = part-length (keep-distinct (covered (setAt t n r)) (c .once)) (c .list) (λ f m. keep-of (covered (setAt t n r)) (c .list) m .0) in
+      let h = part-length (keep-distinct (subsumed (setAt t n r)) (c .once)) (c .list) (λ f m. keep-of (subsumed (setAt t n r)) (c .list) m .0) in
       let k = c .count in
       omega arith
 
   -- a clause of Cr that fails leaves them, and none enters
-  pub shrinks : (r : ℕ) → 1 ≤ n → noneFails t n r ≡ false → coverings (suc r) < coverings r
-  unfolding coverings covering possible noneFails setAt
+  pub shrinks : (r : ℕ) → 1 ≤ n → noneFails t n r ≡ false → subsumedCount (suc r) < subsumedCount r
+  unfolding subsumedCount subsumedAt possible noneFails setAt
   shrinks r some h =
       let w = all-false passes (tested t C) h in
       let o = tested-of t n C (w .mem) in
@@ -112,20 +112,20 @@ module _ (t : Task) (n : ℕ) where
       D : List (List ℕ)
       D = next t n C
 
-      fewer : (f : List ℕ) → List·Memᴰ f C → passes (testOf t C f) ≡ false → coverings (suc r) < coverings r
+      fewer : (f : List ℕ) → List·Memᴰ f C → passes (testOf t C f) ≡ false → subsumedCount (suc r) < subsumedCount r
       fewer f m fails =
-          part-length (another gone (keep-distinct (covered D) (counted (t .atoms) n .once))) (covering r)
+          part-length (another gone (keep-distinct (subsumed D) (counted (t .atoms) n .once))) (subsumedAt r)
           (λ g k. there g (List·Memᴰ·cases-cons k))
         where
-          gone : List·Memᴰ f (keep (covered D) possible) → ⊥
+          gone : List·Memᴰ f (keep (subsumed D) possible) → ⊥
           gone k =
-              never {A = ⊥} (keep-of (covered D) possible k .1)
+              never {A = ⊥} (keep-of (subsumed D) possible k .1)
               (failing-leaves t n C (sets-ascending t n r some) (sets-ascending t n (suc r) some) (sets-antichain t n r) f m fails)
 
-          there : (g : List ℕ) → (g ≡ f) ⊎ List·Memᴰ g (keep (covered D) possible) → List·Memᴰ g (covering r)
+          there : (g : List ℕ) → (g ≡ f) ⊎ List·Memᴰ g (keep (subsumed D) possible) → List·Memᴰ g (subsumedAt r)
           there g (inl e) =
-              rw e (keep-in (covered C) (counted (t .atoms) n .every f (good-sets t n r some f m)) (covered-in C f f m (λ l k. k)))
-          there g (inr k) = let j = keep-of (covered D) possible k in keep-in (covered C) (j .0) (next-covered t n C g (j .1))
+              rw e (keep-in (subsumed C) (counted (t .atoms) n .every f (good-sets t n r some f m)) (subsumed-in C f f m (λ l k. k)))
+          there g (inr k) = let j = keep-of (subsumed D) possible k in keep-in (subsumed C) (j .0) (next-subsumed t n C g (j .1))
 
 -- ---- a set of which none fails stays
 undominated-same : (C : List (List ℕ)) → Antichain C → undominated C ≡ C
