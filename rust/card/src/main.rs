@@ -3,6 +3,7 @@
 //! variable CARD_PROGRAM names the card program.
 
 mod arguments;
+mod limit;
 mod program;
 mod progress;
 mod reencoding;
@@ -56,6 +57,9 @@ fn make(arguments: &Arguments) -> Result<Output, Failure> {
     let program = program::start(arguments)?;
     let image = arguments.image.then(|| reencoding::reencode(arguments));
     let card = program::finish(program)?;
+    if let Some(advice) = limit::advice(&card, arguments) {
+        eprintln!("card: {advice}");
+    }
     if card.starts_with("refused ") {
         return Ok(Output {
             text: card,
