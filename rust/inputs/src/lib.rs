@@ -10,6 +10,8 @@ pub mod fdr;
 pub mod fixed;
 pub mod random;
 pub mod rng;
+pub mod rounds;
+pub mod small;
 pub mod state;
 pub mod structured;
 pub mod task;

@@ -20,6 +20,7 @@ pub mod kept;
 pub mod literal;
 pub mod naive;
 pub mod reencoding;
+pub mod round_bound;
 pub mod state;
 pub mod synthesis;
 pub mod task;
