@@ -65,19 +65,19 @@ up-bind q (finding a) k first next r e = next a r e
 up-bind q (refused p) k first next r e = first r (ap refused (same-refusal p r e))
 
 -- ---- answers that refuse with a number above q only
-abbrev pub Past : {A : Type 0} → ℕ → Answer A → Type 0
-Past q m = (r : Refusal) → m ≡ refused r → q < r .number
+abbrev pub OnlyAbove : {A : Type 0} → ℕ → Answer A → Type 0
+OnlyAbove q m = (r : Refusal) → m ≡ refused r → q < r .number
 
-pub past-finding : {A : Type 0} (q : ℕ) (a : A) → Past q (finding a)
-past-finding q a r e = absurd (not-finding (sym e))
+pub above-finding : {A : Type 0} (q : ℕ) (a : A) → OnlyAbove q (finding a)
+above-finding q a r e = absurd (not-finding (sym e))
 
 -- such an answer after a question that refuses with a number up to q is that of what is asked next
-pub bind-past :
-    {A B : Type 0} (q : ℕ) (m : Answer A) (k : A → Answer B) (b : Answer B) → UpTo q m → Past q b → (m >>= k) ≡ b
+pub bind-above :
+    {A B : Type 0} (q : ℕ) (m : Answer A) (k : A → Answer B) (b : Answer B) → UpTo q m → OnlyAbove q b → (m >>= k) ≡ b
     → (a : A) × (m ≡ finding a) × (k a ≡ b)
 unfolding _>>=_
-bind-past q (finding a) k b low high e = (a, refl, e)
-bind-past q (refused r) k b low high e =
+bind-above q (finding a) k b low high e = (a, refl, e)
+bind-above q (refused r) k b low high e =
     let h = low r refl in
     let l = high r (sym e) in
     absurd (omega arith)

@@ -19,11 +19,11 @@ use Rattle.definitions.specs.Dimacs.{headBytes, literalWord, rowFields, 
 use Rattle.definitions.specs.Dimacs.{headed, Number, isNumber, numberIn, wordsIn, numbersIn, isZero, isThe, literalOf, saysClauses, isDimacs}
 use Rattle.definitions.specs.Dimacs.{clausesIn, fitsRow, readDimacs}
 use Rattle.definitions.proofs.ListLaws.{and-left, and-right, and-both, all-of}
-use Rattle.definitions.proofs.LiteralLaws.{Shape, is, isnt, shape}
+use Rattle.definitions.proofs.LiteralLaws.{Shape, is, isnt, shape, list-ascends}
 use Rattle.definitions.specs.Clauses.{GoodClause}
 use Rattle.definitions.proofs.AnswerLaws.{same-finding, bind-of}
 use Rattle.definitions.proofs.LiteralLaws.{list-low}
-use Rattle.definitions.proofs.ReadLaws.{read-right, ReadRight}
+use Rattle.definitions.proofs.ReadLaws.{read-right}
 use Rattle.definitions.proofs.RowsRead.{RightSet, rows-right}
 use Rattle.definitions.proofs.Accepts.{words-length}
 use Rattle.definitions.proofs.DimacsNumbers.{Reads, decimal-reads, minus-reads, number-word, all-append}
@@ -201,10 +201,6 @@ module _ (N : ℕ) (few : N ≤ 1024) where
     text-clauses = ap (λ ns. map (map literalOf) (ended (split isZero (drop 2 ns)))) text-numbers ∙ ap (map (map literalOf)) parts ∙ set-clauses C
 
 -- ---- a right clause set
-good-ascends : (N : ℕ) (f : List ℕ) → GoodClause N width f → ascending f ≡ true
-unfolding literalList
-good-ascends N f g = and-left (ascending f) (allBelow (2 * N) f) (and-left (ascending f && allBelow (2 * N) f) (ascending (map atom f)) (g .list))
-
 good-fits : (N : ℕ) (f : List ℕ) → GoodClause N width f → fitsRow f ≡ true
 unfolding fitsRow literalList
 good-fits N f g =
@@ -226,7 +222,7 @@ written-read w t C target read right room =
       text-form (t .atoms) few C low (right .rows),
       text-clauses (t .atoms) few C low (right .rows),
       all-of fitsRow C (λ f m. good-fits (t .atoms) f (right .clauses f m)),
-      distinct-in-order C (right .order) (λ f m. good-ascends (t .atoms) f (right .clauses f m)),
+      distinct-in-order C (right .order) (λ f m. list-ascends (t .atoms) f (right .clauses f m .list)),
       le-leb (length C) mostRows (right .rows),
       le-leb (width * length C) target room,
     )

@@ -1,5 +1,5 @@
--- The possible clauses that contain a clause of the set get fewer in each round in which a clause fails. Assumes nothing.
-use mathlib.Core.Bool.{Bool, true, false, not, false≢true}
+-- The possible clauses that contain a clause of the set get fewer in each round in which a clause fails; a set of which none fails stays. Assumes nothing.
+use mathlib.Core.Bool.{Bool, true, false, false≢true}
 use mathlib.Core.Logic.{_⊎_, inl, inr}
 use mathlib.Core.Path.{_≡_, refl, _∙_, ap, subst}
 use mathlib.Core.List.{List, [], _∷_, _++_, map, List·Memᴰ, List·Memᴰ·cases-cons}
@@ -10,7 +10,7 @@ use lib.ListN.{length}
 use borrow.Author.Tests.{ltb-true, ltb-false}
 use Rattle.definitions.specs.Lists.{any, all, keep, each, empty, ascending, member, another}
 use Rattle.definitions.specs.Image.{Task}
-use Rattle.definitions.specs.Synthesis.{insertAll, contains, undominated, Tested, tested, passes, weakenedBy, weakened, nextOf, next, setAt}
+use Rattle.definitions.specs.Synthesis.{insertAll, undominated, Tested, tested, passes, weakenedBy, weakened, nextOf, next, setAt}
 use Rattle.definitions.specs.PossibleClauses.{possibleClauses}
 use Rattle.definitions.proofs.ListLaws.{decide, never, refuted, and-left, and-right, any-in, any-of, all-at, all-of, all-false, keep-all}
 use Rattle.definitions.proofs.ListLaws.{keep-in, keep-of, map-in, member-in, member-of}
@@ -19,7 +19,7 @@ use Rattle.definitions.proofs.SetLaws.{testOf, FromNext, survived, weak
 use Rattle.definitions.proofs.SetRight.{good-sets, insert-length, surviving}
 use Rattle.definitions.proofs.RoundLaws.{noneFails}
 use Rattle.definitions.proofs.Counting.{Part, part-length, keep-distinct, ascending-distinct, part-same}
-use Rattle.definitions.proofs.Undominated.{contains-of, Antichain, sets-antichain}
+use Rattle.definitions.proofs.Undominated.{Antichain, undominated-same, sets-antichain}
 use Rattle.definitions.proofs.PossibleClauses.{counted}
 
 -- ---- a clause of C is contained in g, or is g
@@ -82,7 +82,7 @@ module _ (t : Task) (n : ℕ) where
   possible : List (List ℕ)
   possible = counted (t .atoms) n .list
 
-  -- U(Cr): the possible clauses that contain a clause of Cr, or are one
+  -- the possible clauses that contain a clause of Cr, or are one
   subsumedAt : ℕ → List (List ℕ)
   subsumedAt r = keep (subsumed (setAt t n r)) possible
 
@@ -128,18 +128,6 @@ module _ (t : Task) (n : ℕ) where
           there g (inr k) = let j = keep-of (subsumed D) possible k in keep-in (subsumed C) (j .0) (next-subsumed t n C g (j .1))
 
 -- ---- a set of which none fails stays
-undominated-same : (C : List (List ℕ)) → Antichain C → undominated C ≡ C
-unfolding undominated
-undominated-same C chain =
-    keep-all (λ f. not (any (contains f) C)) C
-    (all-of (λ f. not (any (contains f) C)) C (λ f m. ap not (refuted (λ h. none f m h))))
-  where
-    none : (f : List ℕ) → List·Memᴰ f C → any (contains f) C ≡ true → ⊥
-    none f m h =
-        let w = any-of (contains f) C h in
-        let c = contains-of f (w .it) (w .passes) in
-        chain f (w .it) m (w .mem) (c .0) (c .1)
-
 empty-none : {A : Type 0} (xs : List A) → empty xs ≡ true → xs ≡ []
 unfolding empty
 empty-none [] h = refl

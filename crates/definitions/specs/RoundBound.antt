@@ -14,6 +14,12 @@ use Rattle.definitions.specs.PossibleClauses.{possibleClauses, Counted, 
 unfoldable pub roundBound : ℕ → ℕ → ℕ
 roundBound N n = possibleClauses N n + 1
 
+-- question 12 admits the bound as a limit for tasks of so many atoms
+pub record Admitted (N : ℕ) : Type 0 where
+  pub one : N ≤ 1024 → roundBound N 1 ≤ 65535
+  pub two : N ≤ 181 → roundBound N 2 ≤ 65535
+  pub three : N ≤ 37 → roundBound N 3 ≤ 65535
+
 -- some clause fails in round r, which tests all of C(r-1) against itself
 unfoldable pub failsIn : Task → ℕ → ℕ → Bool
 failsIn t n r = not (all passes (tested t (setAt t n (r - 1))))
@@ -53,5 +59,6 @@ module _ (w : List ℕ) (n : ℕ) (old : List ℕ) (work marks : ℕ) where
 pub record LimitSuffices : Type 0 where
   pub forms : (N : ℕ) → ClosedForms N
   pub counted : (N n : ℕ) → Counted N n
+  pub admitted : (N : ℕ) → Admitted N
   pub rounds : (t : Task) (n : ℕ) → 1 ≤ n → RoundsEnd t n
   pub calls : (w : List ℕ) (n : ℕ) (old : List ℕ) (work marks : ℕ) → CallsEnd w n old work marks

@@ -28,6 +28,7 @@ use Rattle.next_set.specs.Build.{isDue, someFails, addedRow, addedFor, a
 use Rattle.next_set.specs.Post.{Listed, Weakening}
 use Rattle.next_set.proofs.Flags.{flag-has, flags-length}
 use Rattle.definitions.proofs.ListLaws.{keep-agree}
+use Rattle.definitions.proofs.LiteralLaws.{list-low, list-ascends}
 
 -- ---- lists of lists
 pub each-agree : {A B : Type 0} (g h : A → List B) (xs : List A) → ((x : A) → List·Memᴰ x xs → g x ≡ h x) → each g xs ≡ each h xs
@@ -148,10 +149,7 @@ below-more k m xs h e = all-of (λ x. ltb x m) xs (λ x i. let b = ltb-true x k 
 pub list-more : (N M : ℕ) (f : List ℕ) → N ≤ M → literalList N f ≡ true → literalList M f ≡ true
 unfolding literalList
 list-more N M f h e =
-    let a = and-left (ascending f && allBelow (2 * N) f) (ascending (map atom f)) e in
-    and-both
-    (and-both (and-left (ascending f) (allBelow (2 * N) f) a)
-    (below-more (2 * N) (2 * M) f (omega arith) (and-right (ascending f) (allBelow (2 * N) f) a)))
+    and-both (and-both (list-ascends N f e) (below-more (2 * N) (2 * M) f (omega arith) (list-low N f e)))
     (and-right (ascending f && allBelow (2 * N) f) (ascending (map atom f)) e)
 
 pub rows-more : (N M : ℕ) (w : List ℕ) → N ≤ M → RightRows N w → RightRows M w

@@ -17,7 +17,7 @@ use Rattle.definitions.specs.Synthesis.{firstSet, Found, Made, fits, rounds, ro
 use Rattle.definitions.proofs.ListLaws.{and-left, and-right}
 use Rattle.definitions.proofs.AnswerLaws.{not-finding, same-refusal}
 use Rattle.definitions.proofs.QuestionNumbers.{task-numbers}
-use Rattle.definitions.proofs.RoundLaws.{Ended, found, out-of-rounds, out-of-rows, first-rounds}
+use Rattle.definitions.proofs.RoundLaws.{EndOfRounds, found, out-of-rounds, out-of-rows, end-from-first}
 use Rattle.answer.specs.Answer.{refusalAt, placed, verdictAnswer}
 use Rattle.answer.specs.declared.Refusal as declared
 use Rattle.answer.specs.declared.Verdict.{Verdict}
@@ -31,7 +31,7 @@ use Rattle.synthesis.proofs.Units.{first-length}
 
 -- ---- the clause buffer after the rounds is the same for buffers of one length
 ended-buffer :
-    {t : Task} {n rows last : ℕ} {a : Answer Found} (c c′ : List ℕ) → length c ≡ length c′ → Ended t n rows last a
+    {t : Task} {n rows last : ℕ} {a : Answer Found} (c c′ : List ℕ) → length c ≡ length c′ → EndOfRounds t n rows last a
     → bufferAfter c a ≡ bufferAfter c′ a
 unfolding refuse bufferAfter
 ended-buffer c c′ e (found r f small) = rw e
@@ -113,7 +113,7 @@ module _ (w : List ℕ) (n limit : ℕ) (old : List ℕ) (work marks : ℕ) (ask
       call-run c q =
           let size = first-size t in
           let small = le-leb (length (firstSet t)) rows (omega arith) in
-          ap (outcome (madeOf (rounds t n rows 1 (limit - 1) (firstSet t)))) (ended-buffer c old q (first-rounds t n rows (limit - 1) small))
+          ap (outcome (madeOf (rounds t n rows 1 (limit - 1) (firstSet t)))) (ended-buffer c old q (end-from-first t n rows (limit - 1) small))
           ∙ rw (asked .task .found, asked .limits, asked .buffers, ← same, small)
 
       few : rows ≤ mostRows
