@@ -5,11 +5,11 @@ use std::collections::BTreeMap;
 
 use compare::{calls, Guarded, Tally};
 use exports::Reply;
-use inputs::rounds::{chain, levels, odometer, tour};
+use inputs::rounds::{chain, counter, walk, walk_of_pairs};
 use inputs::structured::{blocks, briefcase, changer, gripper, ring, transport};
 use inputs::task::TaskSpec;
 use inputs::{add_delete, random, small, Rng};
-use reference::round_bound::{possible_clauses, round_bound};
+use reference::round_bound::{choose, possible_clauses, round_bound};
 use reference::synthesis::MOST_ROWS;
 
 const LEAST: usize = 50;
@@ -19,18 +19,15 @@ const DRAWN: usize = 500_000;
 
 /// The number of clauses of 1 to n literals that are false in a given state.
 fn false_clauses(atoms: u64, n: u16) -> u64 {
-    let (less_one, less_two) = (atoms.saturating_sub(1), atoms.saturating_sub(2));
-    let by_size = [atoms, atoms * less_one / 2, atoms * less_one * less_two / 6];
-    by_size[..usize::from(n)].iter().sum()
+    (1..=n.into()).map(|k| choose(atoms, k)).sum()
 }
 
 /// The rounds are within the bound, and within a sharper one. Each failing round loses a
 /// possible clause that contained one of its set; the clauses that are false initially
-/// never do. N of these have one literal.
+/// never do.
 fn assert_within(atoms: u64, n: u16, rounds: u64, image: &[u16]) {
     let bound = round_bound(atoms, n.into());
     let sharper = bound - false_clauses(atoms, n);
-    assert!(sharper <= bound - atoms);
     assert!((1..=sharper).contains(&rounds), "{rounds} {n} {image:?}");
 }
 
@@ -189,6 +186,7 @@ fn small_tasks() {
         let k = rng.below(small::count(3, 2) as usize);
         checks.task(3, 2, k as u64);
     }
+    assert_eq!(checks.most.rounds(3), [3, 4, 4]);
     checks.finish();
 }
 
@@ -284,32 +282,35 @@ fn assert_rounds(tasks: &[Long]) {
 #[test]
 fn many_rounds() {
     assert_rounds(&[
+        ("chain 3", chain(3), 1, 4),
         ("chain 10", chain(10), 1, 11),
         ("chain 36", chain(36), 1, 37),
         ("chain 60", chain(60), 1, 61),
         ("chain 181", chain(181), 1, 182),
         ("chain 1024", chain(1024), 1, 1025),
-        ("tour 10 2", tour(10, 2), 2, 1 + 10 + 45),
-        ("levels 36", levels(36), 2, 1 + 36 + 630),
-        ("levels 60", levels(60), 2, 1 + 60 + 1770),
-        ("tour 10 3", tour(10, 3), 3, 1 + 10 + 45 + 120),
-        ("odometer 12 12 12", odometer(&[12; 3]), 3, 12 * 12 * 12),
+        ("walk 3 2", walk(3, 2), 2, 1 + 3 + 3),
+        ("walk 10 2", walk(10, 2), 2, 1 + 10 + 45),
+        ("walk_of_pairs 36", walk_of_pairs(36), 2, 1 + 36 + 630),
+        ("walk_of_pairs 60", walk_of_pairs(60), 2, 1 + 60 + 1770),
+        ("walk 3 3", walk(3, 3), 3, 1 + 3 + 3 + 1),
+        ("walk 10 3", walk(10, 3), 3, 1 + 10 + 45 + 120),
+        ("counter 12 12 12", counter(&[12; 3]), 3, 12 * 12 * 12),
     ]);
 }
 
-/// Odometers with more rounds yet, and with atoms that no operator names besides.
+/// Counters with more rounds yet, and with atoms that no operator names besides.
 #[test]
 #[ignore = "takes minutes"]
 fn most_rounds() {
-    let with_atoms = |atoms, wheels: &[u16]| TaskSpec {
+    let with_atoms = |atoms, digits: &[u16]| TaskSpec {
         atoms,
-        ..odometer(wheels)
+        ..counter(digits)
     };
     assert_rounds(&[
-        ("odometer 90 91", odometer(&[90, 91]), 2, 90 * 91),
-        ("odometer 60 60", with_atoms(1024, &[60, 60]), 2, 60 * 60),
-        ("odometer 20 20 20", odometer(&[20; 3]), 3, 20 * 20 * 20),
-        ("odometer 20 20 20", with_atoms(181, &[20; 3]), 3, 8000),
-        ("odometer 20 20 20", with_atoms(1024, &[20; 3]), 3, 8000),
+        ("counter 90 91", counter(&[90, 91]), 2, 90 * 91),
+        ("counter 60 60", with_atoms(1024, &[60, 60]), 2, 60 * 60),
+        ("counter 20 20 20", counter(&[20; 3]), 3, 20 * 20 * 20),
+        ("counter 20 20 20", with_atoms(181, &[20; 3]), 3, 8000),
+        ("counter 20 20 20", with_atoms(1024, &[20; 3]), 3, 8000),
     ]);
 }

@@ -6,7 +6,7 @@ use crate::task::{no, yes, OperatorSpec, TaskSpec};
 /// Synthesis with n = 1 loses one of the N first clauses in each round: N + 1 rounds.
 pub fn chain(atoms: u16) -> TaskSpec {
     let last = atoms - 1;
-    let mut operators: Vec<OperatorSpec> = (0..last).map(rise).collect();
+    let mut operators: Vec<OperatorSpec> = (0..last).map(make_next_true).collect();
     operators.push(OperatorSpec::strips(&[yes(last)], &[no(0)]));
     TaskSpec {
         atoms,
@@ -17,7 +17,7 @@ pub fn chain(atoms: u16) -> TaskSpec {
 }
 
 /// The atom makes the next one true.
-fn rise(atom: u16) -> OperatorSpec {
+fn make_next_true(atom: u16) -> OperatorSpec {
     OperatorSpec::strips(&[yes(atom)], &[yes(atom + 1)])
 }
 
@@ -25,9 +25,9 @@ fn rise(atom: u16) -> OperatorSpec {
 /// literals false that is true in all before it: synthesis with this n makes a round
 /// for each. There is a state for each set of at most n atoms. The precondition of an
 /// operator is a whole state.
-pub fn tour(atoms: u16, n: usize) -> TaskSpec {
+pub fn walk(atoms: u16, n: usize) -> TaskSpec {
     let sets = sets(atoms, n);
-    let states: Vec<Vec<u16>> = sets.iter().map(|set| tour_state(atoms, set)).collect();
+    let states: Vec<Vec<u16>> = sets.iter().map(|set| walk_state(atoms, set)).collect();
     let operators = states.windows(2).map(|pair| {
         let mut effects = pair[1].clone();
         effects.retain(|literal| !pair[0].contains(literal));
@@ -59,7 +59,7 @@ fn sets(atoms: u16, most: usize) -> Vec<Vec<u16>> {
 
 /// The literals true in a set's state: the atoms up to its last one are true, but for
 /// its other members. In no state of an earlier set are those false and the last true.
-fn tour_state(atoms: u16, set: &[u16]) -> Vec<u16> {
+fn walk_state(atoms: u16, set: &[u16]) -> Vec<u16> {
     let is_true = |atom: &u16| match set.split_last() {
         None => false,
         Some((last, others)) => atom <= last && !others.contains(atom),
@@ -68,19 +68,19 @@ fn tour_state(atoms: u16, set: &[u16]) -> Vec<u16> {
     (0..atoms).map(literal).collect()
 }
 
-/// The states of the tour for n = 2, by fewer operators with shorter preconditions. In
+/// The states of the walk for n = 2, by fewer operators with shorter preconditions. In
 /// any state an atom makes the next one true; where one atom is false and all after it
-/// are true, the tour goes on with the states in which the next atom is false.
-pub fn levels(atoms: u16) -> TaskSpec {
+/// are true, the walk goes on with the states in which the next atom is false.
+pub fn walk_of_pairs(atoms: u16) -> TaskSpec {
     let all: Vec<u16> = (0..atoms).map(yes).collect();
     let none: Vec<u16> = (0..atoms).map(no).collect();
     let mut operators = vec![
         OperatorSpec::strips(&none, &[yes(0)]),
-        OperatorSpec::strips(&all, &fall(atoms, 0)),
+        OperatorSpec::strips(&all, &make_false(atoms, 0)),
     ];
-    operators.extend((0..atoms - 1).map(rise));
+    operators.extend((0..atoms - 1).map(make_next_true));
     operators.extend((1..atoms - 1).map(|atom| {
-        let mut effects = fall(atoms, atom);
+        let mut effects = make_false(atoms, atom);
         effects.push(yes(atom - 1));
         OperatorSpec::strips(&[no(atom - 1), yes(atoms - 1)], &effects)
     }));
@@ -93,48 +93,48 @@ pub fn levels(atoms: u16) -> TaskSpec {
 }
 
 /// The atom and all after it but the next are made false.
-fn fall(atoms: u16, atom: u16) -> Vec<u16> {
+fn make_false(atoms: u16, atom: u16) -> Vec<u16> {
     let mut effects = vec![no(atom)];
     effects.extend((atom + 2..atoms).map(no));
     effects
 }
 
-/// Up to three wheels with so many places each, the first the fastest. A wheel moves
-/// on where those before it are at their last places, which go back to their first
-/// ones. Synthesis with n the number of wheels makes a round for each reading.
-pub fn odometer(wheels: &[u16]) -> TaskSpec {
-    let first = |wheel| wheels[..wheel].iter().sum::<u16>();
-    let last = |wheel| first(wheel) + wheels[wheel] - 1;
+/// Counts up, with up to three digits of so many values each, the lowest first. A digit
+/// goes to its next value where those before it have their last, and these go back to
+/// their first. Synthesis with n the number of digits makes a round for each number.
+pub fn counter(digits: &[u16]) -> TaskSpec {
+    let first = |digit| digits[..digit].iter().sum::<u16>();
+    let last = |digit| first(digit) + digits[digit] - 1;
     let mut operators = Vec::new();
-    for wheel in 0..wheels.len() {
-        for place in first(wheel)..last(wheel) {
-            let mut precondition = vec![yes(place)];
-            let mut effects = vec![no(place), yes(place + 1)];
-            for before in 0..wheel {
+    for digit in 0..digits.len() {
+        for value in first(digit)..last(digit) {
+            let mut precondition = vec![yes(value)];
+            let mut effects = vec![no(value), yes(value + 1)];
+            for before in 0..digit {
                 precondition.push(yes(last(before)));
                 effects.extend([no(last(before)), yes(first(before))]);
             }
-            if wheel == 0 && wheels.len() == 3 {
-                operators.extend(at_each(first(1)..first(2), place, &effects));
+            if digit == 0 && digits.len() == 3 {
+                operators.extend(at_each(first(1)..first(2), value, &effects));
             } else {
                 operators.push(OperatorSpec::strips(&precondition, &effects));
             }
         }
     }
     TaskSpec {
-        atoms: first(wheels.len()),
-        initial: (0..wheels.len()).map(first).collect(),
-        goal: (0..wheels.len()).map(|wheel| yes(last(wheel))).collect(),
+        atoms: first(digits.len()),
+        initial: (0..digits.len()).map(first).collect(),
+        goal: (0..digits.len()).map(|digit| yes(last(digit))).collect(),
         operators,
     }
 }
 
-/// An operator for each place of the second wheel: only a precondition with two
+/// An operator for each value of the second digit: only a precondition with two
 /// literals of a clause of three decides the third.
 fn at_each(
     second: std::ops::Range<u16>,
-    place: u16,
+    value: u16,
     effects: &[u16],
 ) -> impl Iterator<Item = OperatorSpec> + '_ {
-    second.map(move |other| OperatorSpec::strips(&[yes(place), yes(other)], effects))
+    second.map(move |other| OperatorSpec::strips(&[yes(value), yes(other)], effects))
 }

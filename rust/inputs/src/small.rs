@@ -28,8 +28,8 @@ pub fn small(atoms: u16, operators: u16, k: u64) -> TaskSpec {
     }
 }
 
-/// What the digit says of the atom: its third for the precondition, the rest of
-/// that for the row.
+/// What the digit says of the atom: divided by 3 of the precondition, the remainder
+/// of the row.
 fn add_digit(operator: &mut OperatorSpec, atom: u16, digit: u64) {
     let literal = |sign| match sign {
         0 => None,

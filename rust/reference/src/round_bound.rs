@@ -13,7 +13,7 @@ pub fn round_bound(atoms: u64, n: u32) -> u64 {
 
 /// The number of sets of `k` atoms. Before each factor the product is a number of
 /// smaller sets, so every division is exact.
-fn choose(atoms: u64, k: u32) -> u64 {
+pub fn choose(atoms: u64, k: u32) -> u64 {
     let factors = (0..u64::from(k)).map(|taken| (atoms.saturating_sub(taken), taken + 1));
     factors.fold(1, |sets, (remaining, size)| sets * remaining / size)
 }

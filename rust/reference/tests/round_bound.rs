@@ -3,7 +3,7 @@
 
 use std::collections::BTreeSet;
 
-use inputs::rounds::{chain, levels, odometer, tour};
+use inputs::rounds::{chain, counter, walk, walk_of_pairs};
 use inputs::small;
 use reference::clause::Clause;
 use reference::literal::Literal;
@@ -97,11 +97,11 @@ fn each_failing_round_loses_a_clause() {
 fn many_rounds() {
     let tasks = [
         (chain(5), 1, 6),
-        (tour(5, 2), 2, 1 + 5 + 10),
-        (levels(5), 2, 1 + 5 + 10),
-        (tour(5, 3), 3, 1 + 5 + 10 + 10),
-        (odometer(&[3, 4]), 2, 3 * 4),
-        (odometer(&[2, 3, 3]), 3, 2 * 3 * 3),
+        (walk(5, 2), 2, 1 + 5 + 10),
+        (walk_of_pairs(5), 2, 1 + 5 + 10),
+        (walk(5, 3), 3, 1 + 5 + 10 + 10),
+        (counter(&[3, 4]), 2, 3 * 4),
+        (counter(&[2, 3, 3]), 3, 2 * 3 * 3),
     ];
     for (task, n, rounds) in tasks {
         let image = task.image();
