@@ -28,16 +28,16 @@ admitted : (N : ℕ) → Admitted N
 unfolding roundBound
 admitted N = record { one = one; two = two; three = three }
   where
-    one : N ≤ 1024 → possibleClauses N 1 + 1 ≤ 65535
+    one : N ≤ 1024 → roundBound N 1 ≤ 65535
     one h = let e = closed-forms N .one in omega arith
 
-    two : N ≤ 181 → possibleClauses N 2 + 1 ≤ 65535
+    two : N ≤ 181 → roundBound N 2 ≤ 65535
     two h =
         let e = closed-forms N .two in
         let s : N * N ≤ 32761 = mul-le-mul h h in
         omega arith
 
-    three : N ≤ 37 → possibleClauses N 3 + 1 ≤ 65535
+    three : N ≤ 37 → roundBound N 3 ≤ 65535
     three h =
         let e = closed-forms N .three-whole in
         let s : N * N ≤ 1369 = mul-le-mul h h in
