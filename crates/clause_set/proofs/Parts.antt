@@ -70,7 +70,9 @@ part-shorter m (l ∷ f) h = go (decide (eqb (m % 2) 1)) (λ j. part-shorter (m 
     part-most m [] = omega arith
     part-most m (l ∷ f) = pick (decide (eqb (m % 2) 1)) (part-most (m / 2) f)
       where
-        pick : (eqb (m % 2) 1 ≡ true) ⊎ (eqb (m % 2) 1 ≡ false) → length (partOf (m / 2) f) ≤ length f → length (partOf m (l ∷ f)) ≤ suc (length f)
+        pick :
+            (eqb (m % 2) 1 ≡ true) ⊎ (eqb (m % 2) 1 ≡ false) → length (partOf (m / 2) f) ≤ length f
+            → length (partOf m (l ∷ f)) ≤ suc (length f)
         pick (inl h) rec = rw (h, partOf) (omega arith)
         pick (inr h) rec = rw (h, partOf) (omega arith)
 
@@ -172,7 +174,8 @@ blocked-of D f h = go (or-cases (hasClause D f) (partThere D f) h)
 
 -- no non-empty part of the clause is there, if it is not blocked
 pub blocked-not :
-    (D : List (List ℕ)) (f d : List ℕ) → ascending f ≡ true → ascending d ≡ true → 1 ≤ length d → blocked D f ≡ false → List·Memᴰ d D → Part d f → ⊥
+    (D : List (List ℕ)) (f d : List ℕ) → ascending f ≡ true → ascending d ≡ true → 1 ≤ length d → blocked D f ≡ false
+    → List·Memᴰ d D → Part d f → ⊥
 unfolding blocked partThere
 blocked-not D f d fu du some h m p = go (mask-of f d fu du p)
   where

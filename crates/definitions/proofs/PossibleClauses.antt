@@ -159,7 +159,8 @@ over-in (suc N) a (suc k) (l ∷ f) o =
     E = clausesFrom (suc a) N (suc k)
 
     go :
-        ((l ≡ 2 * a) ⊎ (l ≡ 2 * a + 1)) ⊎ (suc a ≤ atom l) → (Over (suc a) N k f → List·Memᴰ f D) → (Over (suc a) N (suc k) (l ∷ f) → List·Memᴰ (l ∷ f) E)
+        ((l ≡ 2 * a) ⊎ (l ≡ 2 * a + 1)) ⊎ (suc a ≤ atom l) → (Over (suc a) N k f → List·Memᴰ f D)
+        → (Over (suc a) N (suc k) (l ∷ f) → List·Memᴰ (l ∷ f) E)
         → List·Memᴰ (l ∷ f) (map (λ g. (2 * a) ∷ g) D ++ (map (λ g. (2 * a + 1) ∷ g) D ++ E))
     go (inl (inl e)) rec later =
         let m = rec (over-rest a N k l f (ap atom e ∙ atom-even a) o) in
@@ -227,7 +228,9 @@ over-of (suc N) a (suc k) f m =
 
 -- ---- none stands twice
 module _ {A : Type 0} where
-  distinct-append : {xs : List A} → Distinct xs → (ys : List A) → Distinct ys → ((x : A) → List·Memᴰ x xs → List·Memᴰ x ys → ⊥) → Distinct (xs ++ ys)
+  distinct-append :
+      {xs : List A} → Distinct xs → (ys : List A) → Distinct ys → ((x : A) → List·Memᴰ x xs → List·Memᴰ x ys → ⊥)
+      → Distinct (xs ++ ys)
   distinct-append nothing ys d apart = d
   distinct-append (another {x} {xs} new c) ys d apart =
       another (λ m. go (List·Memᴰ·append-cases xs m)) (distinct-append c ys d (λ z m k. apart z (List·Memᴰ·tail m) k))
@@ -325,7 +328,9 @@ unfolding clausesTo
 possible-of N zero f m = absurd (List·Memᴰ·not-nil m)
 possible-of N (suc n) f m = go (List·Memᴰ·append-cases (clausesTo N n) m) (λ k. possible-of N n f k)
   where
-    go : List·Memᴰ f (clausesTo N n) ⊎ List·Memᴰ f (clausesFrom 0 N (suc n)) → (List·Memᴰ f (clausesTo N n) → GoodClause N n f) → GoodClause N (suc n) f
+    go :
+        List·Memᴰ f (clausesTo N n) ⊎ List·Memᴰ f (clausesFrom 0 N (suc n)) → (List·Memᴰ f (clausesTo N n) → GoodClause N n f)
+        → GoodClause N (suc n) f
     go (inl k) rec =
         let g = rec k in
         let h = g .most in

@@ -97,12 +97,13 @@ module _ (t : Task) (n : ℕ) where
     first-bound (suc r) f = let k = failing-bound r (f .earlier r (omega arith)) in omega arith
 
     -- the search for the first, with k sets left
-    search : (k r : ℕ) → r + k ≡ possibleClauses (t .atoms) n → ((i : ℕ) → i < r → noneFails t n i ≡ false) → (last : ℕ) × FirstPassing t n last
-    search zero r e earlier = go (decide (noneFails t n r))
-      where
-        go : (noneFails t n r ≡ true) ⊎ (noneFails t n r ≡ false) → (last : ℕ) × FirstPassing t n last
-        go (inl h) = (r, record { here = h; earlier = earlier })
-        go (inr h) = let k = failing-bound r h in absurd (omega arith)
+    search :
+        (k r : ℕ) → r + k ≡ suc (possibleClauses (t .atoms) n) → ((i : ℕ) → i < r → noneFails t n i ≡ false)
+        → (last : ℕ) × FirstPassing t n last
+    search zero r e earlier =
+        let last = possibleClauses (t .atoms) n in
+        let k = failing-bound last (earlier last (omega arith)) in
+        absurd (omega arith)
     search (suc k) r e earlier = go (decide (noneFails t n r)) (λ h. search k (suc r) (omega arith) (one-more t n r earlier h))
       where
         go :
@@ -113,7 +114,7 @@ module _ (t : Task) (n : ℕ) where
 
     rounds-end : RoundsEnd t n
     rounds-end =
-        let f = search (possibleClauses (t .atoms) n) 0 (omega arith) (λ i l. absurd (omega arith)) in
+        let f = search (suc (possibleClauses (t .atoms) n)) 0 (omega arith) (λ i l. absurd (omega arith)) in
         record { failing = failing; last = suc (f .0); ends = ends-in (f .0) (f .1); bounded = first-bound (f .0) (f .1) }
       where
         failing : (r : ℕ) → 1 ≤ r → failsIn t n r ≡ true → r ≤ possibleClauses (t .atoms) n
@@ -155,7 +156,9 @@ module _ (w : List ℕ) (n : ℕ) (old : List ℕ) (work marks : ℕ) where
             counted = ap (λ (m : Made). m .rounds) (sym (same-finding _ m q)) ∙ ap (λ (x : Found). x .rounds) (f .same);
           }
 
-  made-ends : (t : Task) → readTask w ≡ finding t → (limit : ℕ) (m : Made) → under w n old work marks limit .answer ≡ finding m → EndsIn t n (m .rounds)
+  made-ends :
+      (t : Task) → readTask w ≡ finding t → (limit : ℕ) (m : Made) → under w n old work marks limit .answer ≡ finding m
+      → EndsIn t n (m .rounds)
   made-ends t read limit m e =
       let f = first-made limit m e in
       subst (λ (t : Task). EndsIn t n (m .rounds)) (same-finding (f .task) t (sym (f .read) ∙ read))

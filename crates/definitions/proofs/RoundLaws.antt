@@ -34,7 +34,8 @@ module _ (t : Task) (n rows r : ℕ) (C : List (List ℕ)) where
     unfolding rounds next
     rounds-full k k′ e h = rw (e, fails, rounds, h)
 
-    pub rounds-next : (k k′ : ℕ) → k ≡ suc k′ → fits rows (next t n C) ≡ true → rounds t n rows r k C ≡ rounds t n rows (r + 1) k′ (next t n C)
+    pub rounds-next :
+        (k k′ : ℕ) → k ≡ suc k′ → fits rows (next t n C) ≡ true → rounds t n rows r k C ≡ rounds t n rows (r + 1) k′ (next t n C)
     unfolding rounds next
     rounds-next k k′ e h = rw (e, add-one, fails, rounds, h)
 
@@ -62,7 +63,9 @@ module _ (t : Task) (n : ℕ) where
 
   -- what the rounds come to where C0 to C(last) may be tested, in a buffer of so many rows
   pub data EndOfRounds (rows last : ℕ) : Answer Found → Type 0 where
-    found : (r : ℕ) → FirstPassing r → fits rows (setAt t n r) ≡ true → EndOfRounds rows last (finding (record { clauses = setAt t n r; rounds = suc r }))
+    found :
+        (r : ℕ) → FirstPassing r → fits rows (setAt t n r) ≡ true
+        → EndOfRounds rows last (finding (record { clauses = setAt t n r; rounds = suc r }))
     out-of-rounds : noneFails last ≡ false → EndOfRounds rows last (refuse 15 0 0)
     out-of-rows : EndOfRounds rows last (refuse 14 0 0)
 

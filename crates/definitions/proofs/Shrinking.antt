@@ -2,7 +2,7 @@
 use mathlib.Core.Bool.{Bool, true, false, false≢true}
 use mathlib.Core.Logic.{_⊎_, inl, inr}
 use mathlib.Core.Path.{_≡_, refl, _∙_, ap, subst}
-use mathlib.Core.List.{List, [], _∷_, _++_, map, List·Memᴰ, List·Memᴰ·cases-cons}
+use mathlib.Core.List.{List, [], _∷_, map, List·Memᴰ, List·Memᴰ·cases-cons}
 use Prim.Native.Nat.{ℕ, suc, _≤_, _<_}
 use native.Mathlib.Omega.{arith}
 use lib.Dec.{ltb}
@@ -12,10 +12,10 @@ use Rattle.definitions.specs.Lists.{any, all, keep, each, empty, ascendi
 use Rattle.definitions.specs.Image.{Task}
 use Rattle.definitions.specs.Synthesis.{insertAll, undominated, Tested, tested, passes, weakenedBy, weakened, nextOf, next, setAt}
 use Rattle.definitions.specs.PossibleClauses.{possibleClauses}
-use Rattle.definitions.proofs.ListLaws.{decide, never, refuted, and-left, and-right, any-in, any-of, all-at, all-of, all-false, keep-all}
+use Rattle.definitions.proofs.ListLaws.{decide, never, refuted, any-in, any-of, all-at, all-of, all-false, keep-all}
 use Rattle.definitions.proofs.ListLaws.{keep-in, keep-of, map-in, member-in, member-of}
 use Rattle.definitions.proofs.LiteralLaws.{list-ascends}
-use Rattle.definitions.proofs.SetLaws.{testOf, FromNext, survived, weaker, tested-of, next-of, insertLiteral-keeps}
+use Rattle.definitions.proofs.SetLaws.{each-none, testOf, FromNext, survived, weaker, tested-of, next-of, insertLiteral-keeps}
 use Rattle.definitions.proofs.SetRight.{good-sets, insert-length, surviving}
 use Rattle.definitions.proofs.RoundLaws.{noneFails}
 use Rattle.definitions.proofs.Counting.{Part, part-length, keep-distinct, ascending-distinct, part-same}
@@ -103,7 +103,7 @@ module _ (t : Task) (n : ℕ) where
   unfolding subsumedCount subsumedAt possible noneFails setAt
   shrinks r some h =
       let w = all-false passes (tested t C) h in
-      let o = tested-of t n C (w .mem) in
+      let o = tested-of t C (w .mem) in
       fewer (o .it) (o .mem) (subst (λ (x : Tested). passes x ≡ false) (o .same) (w .fails))
     where
       C : List (List ℕ)
@@ -142,20 +142,16 @@ module _ (t : Task) (n : ℕ) (C : List (List ℕ)) where
       go true e = rw (e, weakened) (ap (each (weakenedBy t C (x .clause))) (empty-none (x .failing) h))
       go false e = rw (e, weakened)
 
-  none-weakened : (T : List Tested) → all passes T ≡ true → each (weakened t n C) T ≡ []
-  unfolding all each
-  none-weakened [] h = refl
-  none-weakened (x ∷ T) h =
-      ap (λ l. l ++ each (weakened t n C) T) (passing-weakened x (and-left (passes x) (all passes T) h))
-      ∙ none-weakened T (and-right (passes x) (all passes T) h)
-
   next-same : Antichain C → all passes (tested t C) ≡ true → next t n C ≡ C
   unfolding next nextOf insertAll tested
   next-same chain h =
-      ap (λ E. undominated (insertAll E (map (λ x. x .clause) (keep passes (tested t C))))) (none-weakened (tested t C) h)
+      ap (λ E. undominated (insertAll E (map (λ x. x .clause) (keep passes (tested t C))))) none-added
       ∙ ap undominated (surviving t C ∙ keep-all (λ f. passes (testOf t C f)) C all-pass)
       ∙ undominated-same C chain
     where
+      none-added : each (weakened t n C) (tested t C) ≡ []
+      none-added = each-none (weakened t n C) (tested t C) (λ x m. passing-weakened x (all-at passes h m))
+
       all-pass : all (λ f. passes (testOf t C f)) C ≡ true
       all-pass = all-of (λ f. passes (testOf t C f)) C (λ f m. all-at passes h (map-in (testOf t C) m))
 

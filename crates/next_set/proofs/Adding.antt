@@ -16,7 +16,7 @@ use Rattle.definitions.specs.Clauses.{width, clauseOf, rowOf, clauseRight, rowA
 use Rattle.definitions.specs.Kept.{kept, guaranteed}
 use Rattle.definitions.specs.Synthesis.{insertLiteral, guarantees, weakenedBy}
 use Rattle.definitions.proofs.ListLaws.{decide, never, or-false-left, and-left, and-right, and-both, all-at, all-of, keep-of, table-length, any-in}
-use Rattle.definitions.proofs.SetLaws.{below-of, range-of}
+use Rattle.definitions.proofs.SetLaws.{below-of, range-of, each-none}
 use Rattle.clause.specs.Rows.{rowCount, clausesOf, ClausesRead, RightRows}
 use Rattle.clause.proofs.RowLaws.{clauses-length}
 use Rattle.clause.proofs.ReadLaws.{read-right}
@@ -35,11 +35,6 @@ pub each-agree : {A B : Type 0} (g h : A → List B) (xs : List A) → ((x : A) 
 unfolding each
 each-agree g h [] e = refl
 each-agree g h (x ∷ xs) e = rw (e x (List·Memᴰ·head refl), each-agree g h xs (λ y m. e y (List·Memᴰ·tail m)))
-
-each-none : {A B : Type 0} (g : A → List B) (xs : List A) → ((x : A) → List·Memᴰ x xs → g x ≡ []) → each g xs ≡ []
-unfolding each
-each-none g [] e = refl
-each-none g (x ∷ xs) e = rw (e x (List·Memᴰ·head refl)) (each-none g xs (λ y m. e y (List·Memᴰ·tail m)))
 
 -- by the places of a list
 pub each-places : {A B : Type 0} (g : A → List B) (d : A) (xs : List A) → each (λ i. g (getD xs i d)) (range 0 (length xs)) ≡ each g xs
@@ -92,7 +87,9 @@ module _ (t : Task) (C : List (List ℕ)) (o : Operator) where
         rw (flag-has (λ f. not (kept atoms C o f)) C flags fails i (omega arith), counted)
 
     -- a clause fails only where the closure of C and the precondition is not contradictory
-    fails-consistent : (f : List ℕ) → (eqb (length f) k && not (kept (t .atoms) C o f)) ≡ true → contradictory atoms (closure atoms C (o .precondition)) ≡ false
+    fails-consistent :
+        (f : List ℕ) → (eqb (length f) k && not (kept (t .atoms) C o f)) ≡ true
+        → contradictory atoms (closure atoms C (o .precondition)) ≡ false
     unfolding kept
     fails-consistent f d =
         let e = not-true (kept (t .atoms) C o f) (and-right (eqb (length f) k) (not (kept (t .atoms) C o f)) d) in
@@ -174,7 +171,9 @@ module _ (w : List ℕ) (o : Operator) (atoms k : ℕ) (flags : List ℕ) (fails
   pub fails-length : length flags ≡ rowCount w
   fails-length = fail-count (clausesOf w) o atoms flags fails ∙ clauses-length w
 
-  pub weakening : atoms ≤ mostAtoms → ClausesRead atoms w → (list : List ℕ) → allBelow mostLiterals list ≡ true → k < width → Weakening w flags list k
+  pub weakening :
+      atoms ≤ mostAtoms → ClausesRead atoms w → (list : List ℕ) → allBelow mostLiterals list ≡ true → k < width
+      → Weakening w flags list k
   weakening few read list low short =
       record {
         rows = rows-more atoms mostAtoms w few (read-right atoms w read);

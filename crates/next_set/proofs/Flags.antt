@@ -75,7 +75,8 @@ module _ (flags : List ℕ) where
   has-not l e = ne-eqb (getD flags l 0) 1 e
 
   module _
-      (list : List ℕ) (count l : ℕ) (inv : keep (has flags) (below (length flags)) ≡ take count list ++ keep (has flags) (range l (length flags - l))) where
+      (list : List ℕ) (count l : ℕ)
+      (inv : keep (has flags) (below (length flags)) ≡ take count list ++ keep (has flags) (range l (length flags - l))) where
     module _ (more : l < length flags) where
       next : (xs : List ℕ) → keep (has flags) (l ∷ range (suc l) (length flags - suc l)) ≡ xs → keep (has flags) (range l (length flags - l)) ≡ xs
       unfolding range

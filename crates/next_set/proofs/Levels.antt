@@ -138,7 +138,9 @@ module _ (N rows : ℕ) (few : N ≤ mostAtoms) (U : List (List ℕ)) (good : Go
       go (some E) a rec = join E a (putAll rows W (some E)) (rec E (a .0))
 
   -- all undominated clauses of one literal more are there
-  pub next-stage : (j : ℕ) (E : List (List ℕ)) → Stage j E → ((f : List ℕ) → List·Memᴰ f (undominated U) → length f ≡ suc j → List·Memᴰ f E) → Stage (suc j) E
+  pub next-stage :
+      (j : ℕ) (E : List (List ℕ)) → Stage j E
+      → ((f : List ℕ) → List·Memᴰ f (undominated U) → length f ≡ suc j → List·Memᴰ f E) → Stage (suc j) E
   next-stage j E s h =
       record {
         order = s .order;

@@ -5,21 +5,21 @@ use mathlib.Core.Option.{Option, none, some}
 use mathlib.Core.Path.{_≡_, refl, _∙_, ap, subst}
 use mathlib.Core.List.{List, [], _∷_, _++_, map, List·Memᴰ, List·Memᴰ·not-nil, List·Memᴰ·cases-cons}
 use mathlib.Core.List.{Memᴰ·append-left, Memᴰ·append-right}
-use Prim.Native.Nat.{ℕ, zero, suc, _+_, _-_, _*_, _≤_, _<_}
+use Prim.Native.Nat.{ℕ, zero, suc, _+_, _-_, _≤_, _<_}
 use native.Mathlib.Omega.{arith}
-use lib.Dec.{eqb, ltb}
+use lib.Dec.{eqb}
 use lib.ListN.{length}
-use borrow.Author.Tests.{eqb-true, eq-eqb, ltb-true, lt-ltb, le-leb, lt-leb, not-true}
-use Rattle.definitions.specs.Lists.{any, all, keep, each, below, range, member}
-use Rattle.definitions.specs.Literal.{mostAtoms, atom}
+use borrow.Author.Tests.{eqb-true, eq-eqb, lt-ltb, le-leb, lt-leb, not-true}
+use Rattle.definitions.specs.Lists.{any, all, keep, each, range}
+use Rattle.definitions.specs.Literal.{mostAtoms}
 use Rattle.definitions.specs.Image.{Operator, Task}
 use Rattle.definitions.specs.Clauses.{width}
-use Rattle.definitions.specs.Kept.{kept, guaranteed}
-use Rattle.definitions.specs.Synthesis.{insertLiteral, insertAll, contains, undominated, Tested, tested, passes, guarantees}
+use Rattle.definitions.specs.Kept.{kept}
+use Rattle.definitions.specs.Synthesis.{insertAll, contains, undominated, tested, passes}
 use Rattle.definitions.specs.Synthesis.{weakenedBy, weakened, nextOf, next, fits}
-use Rattle.definitions.proofs.ListLaws.{and-left, and-right, and-both, map-in, map-of, keep-in, keep-of, keep-agree}
+use Rattle.definitions.proofs.ListLaws.{and-left, and-right, and-both, map-in, keep-in, keep-of, keep-agree}
 use Rattle.definitions.proofs.OrderLaws.{up, insertAll-up, keep-up}
-use Rattle.definitions.proofs.SetLaws.{each-of, below-of, insertAll-of, insertLiteral-keeps, testOf, passes-all}
+use Rattle.definitions.proofs.SetLaws.{each-of, insertAll-of, insertLiteral-keeps, testOf, passes-all, Weak, literal-of, weakened-of}
 use Rattle.definitions.specs.Clauses.{GoodClause}
 use Rattle.definitions.proofs.SetRight.{insert-length, good-insert, surviving}
 use Rattle.clause.proofs.ClauseLaws.{up-distinct, same-set}
@@ -57,62 +57,8 @@ module _ (t : Task) (C : List (List ℕ)) where
   all-pass [] = refl
   all-pass (f ∷ D) = rw (passes-all t C f, all-pass D)
 
-  -- a clause that an operator under which one of C fails weakens it to
-  pub record Weak (g : List ℕ) : Type 0 where
-    pub clause : List ℕ
-    pub mem : List·Memᴰ clause C
-    pub operator : Operator
-    pub one : List·Memᴰ operator (t .operators)
-    pub fails : fine operator clause ≡ false
-    pub there : List·Memᴰ g (weakenedBy t C clause operator)
-
-  -- its literal
-  pub record Literal (f g : List ℕ) : Type 0 where
-    pub it : ℕ
-    pub low : it < 2 * t .atoms
-    pub new : member (atom it) (map atom f) ≡ false
-    pub same : g ≡ insertLiteral it f
-
-  pub literal-of : (f g : List ℕ) (o : Operator) → List·Memᴰ g (weakenedBy t C f o) → Literal f g
-  unfolding weakenedBy guarantees
-  literal-of f g o m =
-      let a = map-of (λ l. insertLiteral l f) (keep (λ l. not (member (atom l) (map atom f))) (guarantees t C o)) m in
-      let b = keep-of (λ l. not (member (atom l) (map atom f))) (guarantees t C o) (a .mem) in
-      let c = keep-of (guaranteed (t .atoms) C o (o .precondition) _) (below (2 * t .atoms)) (b .0) in
-      record {
-        it = a .it;
-        low = below-of (2 * t .atoms) (c .0);
-        new = not-true (member (atom (a .it)) (map atom f)) (b .1);
-        same = a .same;
-      }
-
   module _ {g : List ℕ} where
-    weakened-of : (n : ℕ) → List·Memᴰ g (each (weakened t n C) (tested t C)) → (w : Weak g) × (length (w .clause) < n)
-    unfolding tested weakened
-    weakened-of n m =
-        let a = each-of (weakened t n C) (map (testOf t C) C) m in
-        let b = map-of (testOf t C) C (a .mem) in
-        go (b .it) (b .mem) (ltb (length (b .it)) n) refl (subst (λ (x : Tested). List·Memᴰ g (weakened t n C x)) (b .same) (a .there))
-      where
-        go :
-            (f : List ℕ) → List·Memᴰ f C → (b : Bool) → ltb (length f) n ≡ b → List·Memᴰ g (weakened t n C (testOf t C f))
-            → (w : Weak g) × (length (w .clause) < n)
-        go f mf true e k =
-            let a = each-of (weakenedBy t C f) (testOf t C f .failing) (rw (e, weakened) at k) in
-            let b = keep-of (λ o. not (fine o f)) (t .operators) (a .mem) in (
-              record {
-                clause = f;
-                mem = mf;
-                operator = a .it;
-                one = b .0;
-                fails = not-true (fine (a .it) f) (b .1);
-                there = a .there;
-              },
-              ltb-true (length f) n e,
-            )
-        go f mf false e k = absurd (List·Memᴰ·not-nil (rw (e, weakened) at k))
-
-    weakened-in : (n : ℕ) (w : Weak g) → length (w .clause) < n → List·Memᴰ g (each (weakened t n C) (tested t C))
+    weakened-in : (n : ℕ) (w : Weak t C g) → length (w .clause) < n → List·Memᴰ g (each (weakened t n C) (tested t C))
     unfolding tested weakened
     weakened-in n w h =
         each-in (weakened t n C) (map (testOf t C) C) (map-in (testOf t C) (w .mem))
@@ -120,7 +66,7 @@ module _ (t : Task) (C : List (List ℕ)) where
         (each-in (weakenedBy t C (w .clause)) (testOf t C (w .clause) .failing)
         (keep-in (λ o. not (fine o (w .clause))) (w .one) (ap not (w .fails))) (w .there)))
 
-    added-of : (k : ℕ) → List·Memᴰ g (addedAt t C k) → (w : Weak g) × (length (w .clause) ≡ k)
+    added-of : (k : ℕ) → List·Memᴰ g (addedAt t C k) → (w : Weak t C g) × (length (w .clause) ≡ k)
     unfolding addedAt addedBy addedFor
     added-of k m =
         let a = each-of (addedBy t C k) (t .operators) m in
@@ -128,8 +74,9 @@ module _ (t : Task) (C : List (List ℕ)) where
         go (a .it) (a .mem) (b .it) (b .mem) (eqb (length (b .it)) k && not (fine (a .it) (b .it))) refl (b .there)
       where
         go :
-            (o : Operator) → List·Memᴰ o (t .operators) → (f : List ℕ) → List·Memᴰ f C → (b : Bool) → (eqb (length f) k && not (fine o f)) ≡ b
-            → List·Memᴰ g (addedFor t C k o f) → (w : Weak g) × (length (w .clause) ≡ k)
+            (o : Operator) → List·Memᴰ o (t .operators) → (f : List ℕ) → List·Memᴰ f C → (b : Bool)
+            → (eqb (length f) k && not (fine o f)) ≡ b
+            → List·Memᴰ g (addedFor t C k o f) → (w : Weak t C g) × (length (w .clause) ≡ k)
         go o mo f mf true e j = (
           record {
             clause = f;
@@ -143,7 +90,7 @@ module _ (t : Task) (C : List (List ℕ)) where
         )
         go o mo f mf false e j = absurd (List·Memᴰ·not-nil (rw (e, addedFor) at j))
 
-    added-in : (w : Weak g) (k : ℕ) → length (w .clause) ≡ k → List·Memᴰ g (addedAt t C k)
+    added-in : (w : Weak t C g) (k : ℕ) → length (w .clause) ≡ k → List·Memᴰ g (addedAt t C k)
     unfolding addedAt addedBy addedFor
     added-in w k h =
         each-in (addedBy t C k) (t .operators) (w .one)
