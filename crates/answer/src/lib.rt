@@ -63,6 +63,8 @@ impl Refusal {
     pub const TEXT_CLAUSE: u16 = 25;
 
     pub const TEXT_ROOM: u16 = 26;
+
+    pub const JOIN_ROOM: u16 = 27;
 }
 
 // The answer of a call whose finding holds nothing.

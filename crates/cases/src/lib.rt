@@ -2,8 +2,8 @@
 // A case is little-endian words: the call, two numbers, for each of four lists its length and how many of its first values are
 // stored, then the stored values of the lists. The lists are an image, two more lists of words, and a list of bytes (a word for
 // each byte). A value that is not stored is 7. The calls and their numbers stand in `task_call` (0 to 4), `clause_call` (5 to 9),
-// `fdr_call` (10 to 16) and `dimacs_call` (17 and 18). A line has the returned number, both values or places, and the list that was lent to be changed (not
-// marks and work, which may hold anything), after a bar.
+// `fdr_call` (10 to 16), `dimacs_call` (17 and 18) and `call` (19). A line has the returned number, both values or places, and the
+// list that was lent to be changed (not marks and work, which may hold anything), after a bar.
 //
 // Only `run` is public. The other functions of this file call the C interface, whose contracts stand in `exports`, and write:
 // no contract of the kit can name what C's `write` puts out, so they have no `ensures`, and are proved to be safe and to end.
@@ -62,7 +62,7 @@ fn write_lent(which: u16, list: &[u16], other: &[u16], small: &[u8]) {
     match which {
         1 | 2 | 4 | 15 | 17 => write_bytes(small),
         7 | 10 | 11 | 13 | 14 | 18 => write_words(list),
-        8 | 9 => write_words(other),
+        8 | 9 | 19 => write_words(other),
         _ => {}
     }
 }
@@ -148,6 +148,7 @@ fn dimacs_call(
     }
 }
 
+// The calls by number; 19 joins the tasks of `image` and `list` into `other`.
 fn call(
     which: u16,
     x: u16,
@@ -168,7 +169,10 @@ fn call(
     if which < 17 {
         return fdr_call(which, x, image, list, other, small, first, second);
     }
-    dimacs_call(which, image, list, small, first, second)
+    if which < 19 {
+        return dimacs_call(which, image, list, small, first, second);
+    }
+    exports::kb_join(image, list, other, first, second)
 }
 
 // ---- The cases

@@ -6,15 +6,13 @@ use mathlib.Core.List.{List, [], _∷_, List·Memᴰ, List·Memᴰ·head, List·
 use Prim.Native.Nat.{ℕ, zero, suc, _+_, _-_, _*_, _≤_, _<_}
 use native.Mathlib.Omega.{arith}
 use native.Mathlib.Decide.{decLt}
-use lib.Dec.{ltb}
 use lib.ListN.{length, getD}
-use borrow.Author.Tests.{ltb-true}
 use Rattle.definitions.specs.Lists.{any, ascending, compareWords, isSame, Distinct, nothing, another}
 use Rattle.definitions.specs.Literal.{mostAtoms, allBelow}
 use Rattle.definitions.specs.Clauses.{width, rowOf, clauseOf, clauseRight, rowLess, rowAt}
 use Rattle.definitions.specs.Groups.{hasClause}
-use Rattle.definitions.proofs.LiteralLaws.{list-low}
-use Rattle.definitions.proofs.ListLaws.{decide, and-left, and-right, and-both, all-at, any-in, any-of}
+use Rattle.definitions.proofs.LiteralLaws.{list-low, below-at}
+use Rattle.definitions.proofs.ListLaws.{decide, and-left, and-right, and-both, any-in, any-of}
 use Rattle.definitions.proofs.PlaceLaws.{same-words}
 use Rattle.definitions.proofs.ListLaws.{getD-mem}
 use Rattle.definitions.proofs.Counting.{Part}
@@ -32,10 +30,6 @@ use Rattle.clause.proofs.RowLaws.{in-none, in-step, row-length, RowOf, 
 use Rattle.clause.proofs.RowOrder.{row-trans, row-irrefl}
 
 -- ---- a literal list
-pub below-at : (n : ℕ) (ls : List ℕ) → allBelow n ls ≡ true → (l : ℕ) → List·Memᴰ l ls → l < n
-unfolding allBelow
-below-at n ls h l m = ltb-true l n (all-at (λ x. ltb x n) h m)
-
 pub low-at : (n : ℕ) (ls : List ℕ) (i : ℕ) → allBelow n ls ≡ true → i < length ls → getD ls i 0 < n
 low-at n ls i h low = below-at n ls h (getD ls i 0) (getD-mem ls i 0 low)
 

@@ -1,19 +1,15 @@
 -- Laws of answers: findings, refusals, chained questions, and outcomes. Assumes nothing.
-use mathlib.Core.Bool.{Bool, true, false}
+use mathlib.Core.Bool.{Bool, true, false, false≢true}
 use mathlib.Core.Path.{_≡_, refl, sym, ap, subst}
 use mathlib.Core.List.{List}
 use Prim.Native.Nat.{ℕ, _≤_, _<_}
 use native.Mathlib.Omega.{arith}
-use Rattle.definitions.specs.Answer.{Refusal, Answer, finding, refused, askAt, _>>=_, verdict, Outcome, outcome, stateAfter, becomes}
+use Rattle.definitions.specs.Answer.{Refusal, Answer, finding, refused, isFinding, askAt, _>>=_, verdict, Outcome, outcome, stateAfter, becomes}
 
 -- no refusal is a finding
-isFinding : {A : Type 0} → Answer A → Type 0
-isFinding (finding a) = Unit {0}
-isFinding (refused r) = ⊥
-
 pub not-finding : {A : Type 0} {r : Refusal} {a : A} → _≡_ {A = Answer A} (refused r) (finding a) → ⊥
 unfolding isFinding
-not-finding {A} e = subst isFinding (sym e) tt
+not-finding e = false≢true (ap isFinding e)
 
 pub same-finding : {A : Type 0} (a b : A) → _≡_ {A = Answer A} (finding a) (finding b) → a ≡ b
 same-finding a b e = cc
@@ -31,6 +27,15 @@ pub ask-of : (q i : ℕ) (b : Bool) (u : Unit {0}) → askAt q i b ≡ finding u
 unfolding askAt
 ask-of q i true u e = refl
 ask-of q i false u e = absurd (not-finding e)
+
+-- a question that is answered yes, and a finding that is handed on
+pub pass : {B : Type 0} (q : ℕ) (b : Bool) (k : Unit {0} → Answer B) (r : Answer B) → b ≡ true → k tt ≡ r → (askAt q 0 b >>= k) ≡ r
+unfolding askAt _>>=_
+pass q b k r h e = rw h e
+
+pub through : {A B : Type 0} (m : Answer A) (a : A) (k : A → Answer B) (r : Answer B) → m ≡ finding a → k a ≡ r → (m >>= k) ≡ r
+unfolding _>>=_
+through m a k r h e = rw h e
 
 -- a refusal after a question: by what is asked next, where the question itself does not refuse so, and else by the question
 module _ {A B : Type 0} (k : A → Answer B) (r : Refusal) where

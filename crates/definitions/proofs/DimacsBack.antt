@@ -18,7 +18,7 @@ use Rattle.definitions.specs.Text.{decimal, line}
 use Rattle.definitions.specs.Dimacs.{headBytes, literalWord, rowFields, dimacsText, writeDimacs, split, ended, allEnded, behindComments, blank}
 use Rattle.definitions.specs.Dimacs.{headed, Number, isNumber, numberIn, wordsIn, numbersIn, isZero, isThe, literalOf, saysClauses, isDimacs}
 use Rattle.definitions.specs.Dimacs.{clausesIn, fitsRow, readDimacs}
-use Rattle.definitions.proofs.ListLaws.{and-left, and-right, and-both, all-of}
+use Rattle.definitions.proofs.ListLaws.{and-left, and-right, and-both, all-of, all-append}
 use Rattle.definitions.proofs.LiteralLaws.{Shape, is, isnt, shape, list-ascends}
 use Rattle.definitions.specs.Clauses.{GoodClause}
 use Rattle.definitions.proofs.AnswerLaws.{same-finding, bind-of}
@@ -26,7 +26,7 @@ use Rattle.definitions.proofs.LiteralLaws.{list-low}
 use Rattle.definitions.proofs.ReadLaws.{read-right}
 use Rattle.definitions.proofs.RowsRead.{RightSet, rows-right}
 use Rattle.definitions.proofs.Accepts.{words-length}
-use Rattle.definitions.proofs.DimacsNumbers.{Reads, decimal-reads, minus-reads, number-word, all-append}
+use Rattle.definitions.proofs.DimacsNumbers.{Reads, decimal-reads, minus-reads, number-word}
 use Rattle.definitions.proofs.DimacsLaws.{split-each, split-each-ends, tokens-blank, Fields, last, more, tokens-line, tokens-lines}
 use Rattle.definitions.proofs.DimacsRows.{distinct-in-order, ascending-apart}
 

@@ -2,7 +2,7 @@
 use mathlib.Core.Bool.{Bool, true, false, not, _&&_, false≢true}
 use mathlib.Core.Logic.{_⊎_, inl, inr}
 use mathlib.Core.Path.{_≡_, refl, sym, _∙_, ap}
-use mathlib.Core.List.{List, [], _∷_, _++_}
+use mathlib.Core.List.{List, [], _∷_}
 use Prim.Native.Nat.{ℕ, zero, suc, _+_, _-_, _*_, _/_, _%_, _^_, _≤_, _<_, min}
 use native.Mathlib.Nat.{pow-zero, pow-suc}
 use native.Mathlib.Omega.{arith}
@@ -24,15 +24,6 @@ value-held cap n (d ∷ ds) =
     sym (value-held cap (10 * min cap n + (d - 48)) ds)
     ∙ ap (λ z. min cap (valueBehind z ds)) (value-capped cap n (d - 48))
     ∙ value-held cap (10 * n + (d - 48)) ds
-
-pub all-append : {A : Type 0} (p : A → Bool) (xs ys : List A) → all p (xs ++ ys) ≡ (all p xs && all p ys)
-unfolding all
-all-append p [] ys = refl
-all-append p (x ∷ xs) ys = go (p x) (all-append p xs ys)
-  where
-    go : (b : Bool) → all p (xs ++ ys) ≡ (all p xs && all p ys) → (b && all p (xs ++ ys)) ≡ (b && all p xs && all p ys)
-    go true e = e
-    go false e = refl
 
 -- ---- digits of a number
 digit-right : (n : ℕ) → isDigit (48 + n % 10) ≡ true

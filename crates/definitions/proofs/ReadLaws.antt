@@ -51,7 +51,7 @@ readOperator-right N i b o e = go (operatorOf b) refl
         let m = bind-of (askAt 7 i (operatorRight N q)) (λ _. finding q) o (rw (p, readOperator) at e) in
         subst (λ (z : Operator). operatorRight N z ≡ true) (same-finding q o (m .2)) (ask-of 7 i (operatorRight N q) (m .0) (m .1))
 
-readOperators-right :
+pub readOperators-right :
     (N : ℕ) (w : List ℕ) (k i : ℕ) (os : List Operator) → readOperators N w i k ≡ finding os → (o : Operator) → List·Memᴰ o os
     → operatorRight N o ≡ true
 unfolding readOperators

@@ -11,7 +11,7 @@ use Rattle.definitions.specs.Lists.{all}
 use Rattle.definitions.specs.Dimacs.{split, ended, allEnded, Number, isNumber, numberIn, wordsIn, numbersIn, isZero, isThe, literalOf}
 use Rattle.definitions.specs.Dimacs.{headed, saysClauses, isDimacs, clausesIn, fitsRow}
 use Rattle.definitions.proofs.ListLaws.{and-left, and-right, and-both}
-use Rattle.definitions.proofs.DimacsNumbers.{all-append}
+use Rattle.definitions.proofs.ListLaws.{all-append}
 use Rattle.definitions.proofs.DimacsLaws.{ended-next, ended-end}
 use Rattle.dimacs_form.specs.Walk.{lastMarked}
 use Rattle.dimacs_form.proofs.Walk.{all-ended-last}

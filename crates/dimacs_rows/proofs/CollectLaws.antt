@@ -12,7 +12,7 @@ use Rattle.definitions.specs.Clauses.{width, mostRows, clauseOf, GoodClause}
 use Rattle.definitions.specs.Synthesis.{insertAll}
 use Rattle.definitions.specs.Dimacs.{fitsRow, sorted, distinct}
 use Rattle.definitions.proofs.ListLaws.{and-both}
-use Rattle.definitions.proofs.DimacsNumbers.{all-append}
+use Rattle.definitions.proofs.ListLaws.{all-append}
 use Rattle.dimacs_form.proofs.PlaceLaws.{over-at}
 use Rattle.definitions.proofs.DimacsRows.{good-sorted}
 use Rattle.dimacs_rows.specs.Clauses.{clausesSaid}

@@ -12,6 +12,7 @@ ghost use Rattle.definitions.specs.Encoding.{encodeCall};
 ghost use Rattle.definitions.specs.Coding.{toAtomsCall, fromAtomsCall};
 ghost use Rattle.definitions.specs.FdrStep.{stepFdr, goalFdr, startFdr, runFdr};
 ghost use Rattle.definitions.specs.Dimacs.{writeDimacs, readDimacs};
+ghost use Rattle.definitions.specs.Join.{joinCall};
 ghost use Rattle.agreement.specs.Compared.{comparison, demanded};
 ghost use Rattle.exports.specs.Returned.{returned, returnedVerdict, returnedTest, returnedCount, returnedMade};
 
@@ -293,4 +294,18 @@ pub extern "C" fn kb_read_dimacs(
     ensures { λ r. ⌜ (returned r (now (first .exit)) (now (second .exit)) ≡ returnedCount (written (now (clauses .entry)) (readDimacs (now (image .entry)) (now (text .entry)) (length (now (clauses .entry)))) .answer)) × (now (clauses .exit) ≡ written (now (clauses .entry)) (readDimacs (now (image .entry)) (now (text .entry)) (length (now (clauses .entry)))) .lent) ⌝ }
 {
     numbers::count(dimacs::read(image, text, clauses), first, second)
+}
+
+// Joins two tasks: 1 to 7 of the first image, 1 to 7 of the second, 27. `first` is the length of the joined image.
+#[no_mangle]
+pub extern "C" fn kb_join(
+    left: &[u16],
+    right: &[u16],
+    target: &mut [u16],
+    first: &mut u64,
+    second: &mut u64,
+) -> u32
+    ensures { λ r. ⌜ (returned r (now (first .exit)) (now (second .exit)) ≡ returnedCount (written (now (target .entry)) (joinCall (now (left .entry)) (now (right .entry)) (length (now (target .entry)))) .answer)) × (now (target .exit) ≡ written (now (target .entry)) (joinCall (now (left .entry)) (now (right .entry)) (length (now (target .entry)))) .lent) ⌝ }
+{
+    numbers::count(joining::join(left, right, target), first, second)
 }

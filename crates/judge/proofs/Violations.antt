@@ -19,7 +19,7 @@ use Rattle.propagation.proofs.Sets.{complement-back}
 use Rattle.judge.specs.Judging.{guaranteedFlags, lacksFlag, violates, someViolates}
 use Rattle.judge.proofs.Firing.{closure-held}
 use Rattle.judge.proofs.Guaranteed.{guaranteed-has}
-use Rattle.clause.proofs.ClauseLaws.{below-at}
+use Rattle.definitions.proofs.LiteralLaws.{below-at}
 
 any-either : {A : Type 0} (p q : A → Bool) (xs : List A) (c : Bool) → ((c || any p xs) || any q xs) ≡ (c || any (λ x. p x || q x) xs)
 unfolding any

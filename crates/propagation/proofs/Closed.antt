@@ -15,7 +15,8 @@ use Rattle.definitions.proofs.ListLaws.{decide, never, member-in, member-of}
 use Rattle.definitions.proofs.ClosureLeast.{closure-holds}
 use Rattle.clause.specs.Rows.{clausesOf, ClausesRead}
 use Rattle.clause.proofs.ReadLaws.{read-right}
-use Rattle.clause.proofs.ClauseLaws.{clause-below, below-at}
+use Rattle.definitions.proofs.LiteralLaws.{below-at}
+use Rattle.clause.proofs.ClauseLaws.{clause-below}
 use Rattle.propagation.specs.declared.Closing.{Closing}
 use Rattle.propagation.specs.declared.Closing.the-variants.{Consistent, Contradictory}
 use Rattle.propagation.specs.declared.Pass.the-variants as pass

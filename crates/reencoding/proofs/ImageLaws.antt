@@ -5,7 +5,7 @@ use mathlib.Core.List.{List, [], _∷_, _++_, map, append-assoc, List·Memᴰ, L
 use Prim.Native.Nat.{ℕ, suc, _+_, _*_, _/_, _≤_, _<_}
 use native.Mathlib.Omega.{arith}
 use lib.Dec.{ltb}
-use lib.ListN.{length, getD, take, length-append, length-map}
+use lib.ListN.{length, getD, take, length-map}
 use lib.Seq.{length-take-le}
 use borrow.Author.Tests.{ltb-true}
 use Rattle.definitions.specs.Lists.{all, each, below, ascending}
@@ -28,19 +28,20 @@ use Rattle.cover.specs.Join.{Placed}
 use Rattle.cover.specs.Cover.{Covered}
 use Rattle.writing.specs.Writing.{Wrote}
 use Rattle.cover.specs.Domains.{domainBy, coverWords}
+use Rattle.writing.specs.Directory.{directoryOf, sizeOf}
 use Rattle.writing.proofs.Writes.{wrote-same}
-use Rattle.cover.proofs.DomainLaws.{domains-size, cover-length}
+use Rattle.writing.proofs.DirectoryLaws.{directory-is, image-size}
+use Rattle.cover.proofs.DomainLaws.{domains-size}
 use Rattle.cover.proofs.Joining.{variable-low}
 use Rattle.cover.proofs.Covering.{domains-are, places-are, domained}
 use Rattle.writing.proofs.Target.{fits-not, fits-done}
 use Rattle.checker.specs.Accepts.{Accepts}
 use Rattle.checker.proofs.Written.{call-refused, call-accepted}
 use Rattle.reencoding.specs.Words.{atomsOf, literalBy, literalsBy, countedBy, rowBy, rowsBy, operatorBy}
-use Rattle.reencoding.specs.Parts.{sum, wordsOf, lengthsOf, partsStart, imageSize, pairsOf, headerBy, lowered, operatorsBy, taskWords, imageBy}
+use Rattle.reencoding.specs.Parts.{wordsOf, lengthsOf, lowered, operatorsBy, taskBy, imageBy}
 use Rattle.reencoding.specs.Image.{Valued, Laid, encodeAnswer}
 use Rattle.reencoding.proofs.WordLaws.{literals-length}
 use Rattle.reencoding.proofs.SizeLaws.{operator-length}
-use Rattle.reencoding.proofs.PartLaws.{header-length}
 use Rattle.reencoding.proofs.InitialLaws.{initial-are, lowered-length}
 
 -- ---- lists of words
@@ -112,21 +113,7 @@ module _ (N : ℕ) (C : List (List ℕ)) (ps : List ℕ) (placed : Placed C N ps
         let b = operator-length ps o in
         ap₂ (λ (n : ℕ) (l : List ℕ). n ∷ l) (omega arith) (lengths-are os (λ i k. h (suc i) (omega arith)))
 
--- ---- the directory
-pairs-are : (at : ℕ) (parts : List (List ℕ)) → pairWords at parts ≡ pairsOf at (map length parts)
-unfolding pairWords pairsOf
-pairs-are at [] = refl
-pairs-are at (p ∷ parts) = ap (λ (l : List ℕ). at ∷ length p ∷ l) (pairs-are (at + length p) parts)
-
-operators-length : (ps : List ℕ) (os : List Operator) → length (operatorsBy ps os) ≡ sum (map wordsOf os)
-unfolding operatorsBy each sum wordsOf
-operators-length ps [] = refl
-operators-length ps (o ∷ os) =
-    let a = length-append (operatorBy ps o) (operatorsBy ps os) in
-    let b = operator-length ps o in
-    let c = operators-length ps os in
-    omega arith
-
+-- ---- five parts
 cons-five :
     (a b c d a′ b′ c′ d′ : ℕ) (l l′ : List ℕ) → a ≡ a′ → b ≡ b′ → c ≡ c′ → d ≡ d′ → l ≡ l′
     → (a ∷ b ∷ c ∷ d ∷ l) ≡ (a′ ∷ b′ ∷ c′ ∷ d′ ∷ l′)
@@ -186,13 +173,6 @@ module _ (w : List ℕ) (rd : Reads w) (C : List (List ℕ)) (ps ss ns : List �
       (ap length goal-part ∙ literals-length ps (taskOf w .goal))
       (lengths-are (taskOf w .atoms) C ps (cov .grouped .placed) (taskOf w .operators) rights)
 
-  parts-start : 2 + 2 * length (fdrParts (encode t C)) ≡ partsStart t
-  unfolding fdrParts encode partsStart
-  parts-start =
-      let a = length-map (map (encodeOperator groups-of) (taskOf w .operators)) fdrOperatorWords in
-      let b = length-map (taskOf w .operators) (encodeOperator groups-of) in
-      omega arith
-
   parts-words :
       each (λ p. p) (fdrParts (encode t C))
       ≡ each (domainBy ss ns) (below n)
@@ -202,38 +182,24 @@ module _ (w : List ℕ) (rd : Reads w) (C : List (List ℕ)) (ps ss ns : List �
 
   header-is :
       length (encode t C .domains) ∷ length (encode t C .operators)
-      ∷ pairWords (2 + 2 * length (fdrParts (encode t C))) (fdrParts (encode t C)) ≡ headerBy n t
-  unfolding encode headerBy
+      ∷ pairWords (2 + 2 * length (fdrParts (encode t C))) (fdrParts (encode t C))
+      ≡ directoryOf n (length (taskOf w .operators)) (lengthsOf n t)
+  unfolding encode
   header-is =
       let a : length (map (domainOf C) groups-of) ≡ n = length-map groups-of (domainOf C) ∙ variables in
-      let b : length (map (encodeOperator groups-of) (taskOf w .operators)) ≡ length (taskOf w .operators) =
-      length-map (taskOf w .operators) (encodeOperator groups-of) in
-      let c : pairWords (2 + 2 * length (fdrParts (encode t C))) (fdrParts (encode t C)) ≡ pairsOf (partsStart t) (lengthsOf n t)
-      = pairs-are (2 + 2 * length (fdrParts (encode t C))) (fdrParts (encode t C)) ∙ ap₂ pairsOf parts-start parts-lengths in
-      cc
+      let b = length-map (taskOf w .operators) (encodeOperator groups-of) in
+      let e = encode t C in
+      directory-is (length (e .domains)) (length (e .operators)) (fdrParts e) ∙ rw (a, b, parts-lengths)
 
   pub image-is : encodedImage t C ≡ imageBy t ps ss ns n
-  unfolding encodedImage fdrWords imageBy coverWords taskWords
+  unfolding encodedImage fdrWords imageBy coverWords taskBy
   image-is = ap₂ _++_ header-is (parts-words ∙ sym (append-assoc (each (domainBy ss ns) (below n)) ps _))
 
-  pub image-length : length (imageBy t ps ss ns n) ≡ imageSize n t
-  unfolding imageBy taskWords imageSize lengthsOf sum
+  pub image-length : length (imageBy t ps ss ns n) ≡ sizeOf (lengthsOf n t)
+  unfolding encodedImage fdrWords
   image-length =
-      let l = lowered ps (taskOf w .initial) (take n ss) in
-      let g = literalsBy ps (taskOf w .goal) in
-      let o = operatorsBy ps (taskOf w .operators) in
-      let e1 = length-append (headerBy n t) (coverWords ps ss ns n ++ (l ++ (g ++ o))) in
-      let e2 = length-append (coverWords ps ss ns n) (l ++ (g ++ o)) in
-      let e3 = length-append l (g ++ o) in
-      let e4 = length-append g o in
-      let s1 = header-length n t in
-      let s2 = cover-length ps ss ns n in
-      let s3 = cov .places in
-      let s4 = lowered-length ps (taskOf w .initial) (take n ss) in
-      let s5 = length-take-le n ss (let a = cov .sizes in let b = cov .grouped .few in let c = cov .few in omega arith) in
-      let s6 = literals-length ps (taskOf w .goal) in
-      let s7 = operators-length ps (taskOf w .operators) in
-      omega arith
+      let e = encode t C in
+      ap length (sym image-is) ∙ image-size (length (e .domains)) (length (e .operators)) (fdrParts e) ∙ ap sizeOf parts-lengths
 
   pub laid : Laid t ps ss ns n
   laid =
@@ -252,7 +218,7 @@ module _ (w : List ℕ) (rd : Reads w) (C : List (List ℕ)) (ps ss ns : List �
       }
 
   -- question 16, and the image written
-  module _ (old : List ℕ) (size : ℕ) (es : size ≡ imageSize n t) where
+  module _ (old : List ℕ) (size : ℕ) (es : size ≡ sizeOf (lengthsOf n t)) where
     pub encode-not : length old < size → outcome (refused (refusalAt 16 0 0)) old ≡ written old (encodeAnswer t C (length old))
     unfolding encodeAnswer
     encode-not h = fits-not 16 (length (encodedImage t C)) (encodedImage t C) old (let a = ap length image-is in let b = image-length in omega arith)

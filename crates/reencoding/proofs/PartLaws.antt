@@ -1,25 +1,29 @@
--- Sizes of the parts, and the walks over the operators. Assumes nothing.
-use mathlib.Core.Bool.{Bool, true, false}
-use mathlib.Core.Path.{_≡_, refl, sym, _∙_, ap, ap₂}
+-- Lengths of the parts, and the walks over the operators. Assumes nothing.
+use mathlib.Core.Bool.{true}
+use mathlib.Core.Path.{_≡_, refl, sym, _∙_, ap}
 use mathlib.Core.List.{List, [], _∷_, _++_, map}
-use Prim.Native.Nat.{ℕ, zero, suc, _+_, _-_, _*_, _≤_, _<_, min}
-use native.Mathlib.Numerals.{add-one}
+use Prim.Native.Nat.{ℕ, zero, suc, _+_, _-_, _*_, _≤_, _<_}
 use native.Mathlib.Omega.{arith}
-use lib.ListN.{length, getD, set, drop, length-append, length-map, length-drop, drop-of-length-le}
-use lib.Seq.{drop-cons}
+use lib.ListN.{length, getD, take, drop, length-append, length-map, drop-of-length-le}
 use Rattle.definitions.specs.Lists.{each}
 use Rattle.definitions.specs.Image.{Operator, Task, operatorRight}
+use Rattle.definitions.specs.Literal.{mostAtoms}
+use Rattle.definitions.specs.FdrImage.{mostFdrImage}
 use Rattle.definitions.specs.Step.{noOperator, operatorAt}
-use Rattle.definitions.specs.Image.{mostImage, rowsSize, operatorSize, operatorsSize}
+use Rattle.definitions.specs.Image.{mostImage, mostOperators, operatorSize, operatorsSize}
 use Rattle.definitions.proofs.ImageSize.{Sizes, read-sizes}
 use Rattle.definitions.proofs.Walks.{left-here}
 use Rattle.task.specs.Reads.{taskOf, Reads}
 use Rattle.task.specs.Walk.{operatorIn}
 use Rattle.task.specs.Post.{BlockGiven}
 use Rattle.task.proofs.Questions.{operator-right}
-use Rattle.reencoding.specs.Words.{atomsOf, operatorBy}
-use Rattle.reencoding.specs.Parts.{sum, wordsOf, lengthsOf, partsStart, imageSize, pairsOf, headerBy, operatorsBy}
-use Rattle.reencoding.proofs.SizeLaws.{block-sized, operator-length}
+use Rattle.writing.specs.Directory.{sum, directoryOf, sizeOf, DirectoryGiven}
+use Rattle.writing.specs.Writing.{Wrote}
+use Rattle.writing.proofs.Writes.{wrote-size, wrote-taken}
+use Rattle.writing.proofs.DirectoryLaws.{directory-length}
+use Rattle.reencoding.specs.Words.{operatorBy}
+use Rattle.reencoding.specs.Parts.{wordsOf, lengthsOf, operatorsBy}
+use Rattle.reencoding.proofs.SizeLaws.{block-sized}
 
 pub task-sizes : (w : List ℕ) → Reads w → Sizes (taskOf w)
 task-sizes w rd = read-sizes w (taskOf w) (rd .found)
@@ -66,27 +70,13 @@ module _ (w : List ℕ) (i : ℕ) where
   pub operators-done : length (taskOf w .operators) ≤ i → drop i (taskOf w .operators) ≡ []
   operators-done h = drop-of-length-le (taskOf w .operators) {i = i} h
 
-  abbrev pub sizesLeft : ℕ
-  sizesLeft = sum (map wordsOf (drop i (taskOf w .operators)))
+  pub lengths-next :
+      (x : ℕ) → x ≡ wordsOf (operatorAt (taskOf w) i) → i < length (taskOf w .operators)
+      → map wordsOf (drop i (taskOf w .operators)) ≡ x ∷ map wordsOf (drop (i + 1) (taskOf w .operators))
+  lengths-next x e h = rw (e, operators-left h)
 
-  pub sizes-next : i < length (taskOf w .operators) → sizesLeft ≡ wordsOf (operatorAt (taskOf w) i) + sum (map wordsOf (drop (i + 1) (taskOf w .operators)))
-  unfolding sum
-  sizes-next h = rw (operators-left h)
-
-  pub sizes-end : length (taskOf w .operators) ≤ i → sizesLeft ≡ 0
-  unfolding sum
-  sizes-end h = rw (operators-done h)
-
-  pub pairs-next :
-      (at : ℕ) → i < length (taskOf w .operators) → pairsOf at (map wordsOf (drop i (taskOf w .operators))) ≡
-      (at ∷ wordsOf (operatorAt (taskOf w) i) ∷ []) ++ pairsOf (at + wordsOf (operatorAt (taskOf w) i))
-      (map wordsOf (drop (i + 1) (taskOf w .operators)))
-  unfolding pairsOf
-  pairs-next at h = rw (operators-left h)
-
-  pub pairs-end : (at : ℕ) → length (taskOf w .operators) ≤ i → pairsOf at (map wordsOf (drop i (taskOf w .operators))) ≡ []
-  unfolding pairsOf
-  pairs-end at h = rw (operators-done h)
+  pub lengths-end : length (taskOf w .operators) ≤ i → map wordsOf (drop i (taskOf w .operators)) ≡ []
+  lengths-end h = rw (operators-done h)
 
   pub words-next :
       (places : List ℕ) → i < length (taskOf w .operators) → operatorsBy places (drop i (taskOf w .operators)) ≡ operatorBy places
@@ -105,41 +95,52 @@ module _ (w : List ℕ) (i : ℕ) where
   unfolding operatorsBy each
   words-end places h = rw (operators-done h)
 
--- ---- lengths
+-- ---- the lengths of the parts
+lengths-count : (n : ℕ) (t : Task) → length (lengthsOf n t) ≡ 4 + length (t .operators)
+unfolding lengthsOf
+lengths-count n t = let a = length-map (t .operators) wordsOf in omega arith
+
+-- those of the first four, pair after pair, and those of the operators
+pub lengths-parts :
+    (n a g : ℕ) (t : Task) → a ≡ t .atoms → g ≡ length (t .goal)
+    → lengthsOf n t ≡ 2 * n ∷ 2 * a ∷ n ∷ 2 * g ∷ map wordsOf (t .operators)
+unfolding lengthsOf
+lengths-parts n a g t ea eg = rw (ea, eg)
+
+-- they are in a buffer for the most parts
+module _ (w : List ℕ) (rd : Reads w) (n : ℕ) where
+  pub lengths-few : length (lengthsOf n (taskOf w)) ≤ mostOperators + 4
+  lengths-few = let a = lengths-count n (taskOf w) in let b = task-sizes w rd .most-operators in omega arith
+
+  module _ {old new : List ℕ} {end : ℕ} (room : length old ≡ mostOperators + 4) (wrote : Wrote old 0 (lengthsOf n (taskOf w)) new end) where
+    pub lengths-taken : take end new ≡ lengthsOf n (taskOf w)
+    lengths-taken = wrote-taken (let a = lengths-few in omega arith) wrote
+
+    pub lengths-inside : end ≤ length new
+    lengths-inside = let a = lengths-few in let b = wrote .next in let c = wrote-size wrote in omega arith
+
+-- ---- the directory: its numbers and offsets are words
 sum-most : (os : List Operator) → sum (map wordsOf os) ≤ 2 * operatorsSize os
 unfolding sum wordsOf operatorsSize
 sum-most [] = omega arith
 sum-most (o ∷ os) = let h = sum-most os in let k = operator-some o in omega arith
 
-pub sizes-most : (w : List ℕ) → Reads w → 10 + 2 * length (taskOf w .goal) + sum (map wordsOf (taskOf w .operators)) ≤ 2 * mostImage
-sizes-most w rd = let a = sum-most (taskOf w .operators) in let b = task-sizes w rd .words in omega arith
-
-pub pairs-length : (at : ℕ) (ls : List ℕ) → length (pairsOf at ls) ≡ 2 * length ls
-unfolding pairsOf
-pairs-length at [] = refl
-pairs-length at (l ∷ ls) = let h = pairs-length (at + l) ls in omega arith
-
-pub sizes-count : (w : List ℕ) (at i : ℕ) → length (pairsOf at (map wordsOf (drop i (taskOf w .operators)))) ≡ 2 * (length (taskOf w .operators) - i)
-sizes-count w at i =
-    let a = pairs-length at (map wordsOf (drop i (taskOf w .operators))) in
-    let b = length-map (drop i (taskOf w .operators)) wordsOf in
-    let c = length-drop i (taskOf w .operators) in
-    omega arith
-
--- ---- the header: its two numbers, the pairs of the first four parts, and those of the operators
-module _ (n : ℕ) (t : Task) where
-  pub header-length : length (headerBy n t) ≡ partsStart t
-  unfolding headerBy partsStart lengthsOf
-  header-length =
-      let a = pairs-length (10 + 2 * length (t .operators)) (2 * n ∷ 2 * t .atoms ∷ n ∷ 2 * length (t .goal) ∷ map wordsOf (t .operators)) in
-      let b = length-map (t .operators) wordsOf in
+module _ (w : List ℕ) (rd : Reads w) (n : ℕ) (few : n ≤ mostAtoms) where
+  size-most : sizeOf (lengthsOf n (taskOf w)) < mostFdrImage
+  unfolding sizeOf lengthsOf sum
+  size-most =
+      let a = sum-most (taskOf w .operators) in
+      let b = task-sizes w rd .words in
+      let c = task-sizes w rd .most-atoms in
+      let d = length-map (taskOf w .operators) wordsOf in
       omega arith
 
-  -- the numbers, and the pairs one after the other
-  pub header-parts :
-      (m a g : ℕ) → m ≡ length (t .operators) → a ≡ t .atoms → g ≡ length (t .goal) → let start = 10 + 2 * m in
-      headerBy n t
-      ≡ n ∷ m ∷ start ∷ 2 * n ∷ (start + 2 * n) ∷ 2 * a ∷ (start + 2 * n + 2 * a) ∷ n ∷ (start + 2 * n + 2 * a + n) ∷ 2 * g
-      ∷ pairsOf (start + 2 * n + 2 * a + n + 2 * g) (map wordsOf (t .operators))
-  unfolding headerBy partsStart lengthsOf pairsOf
-  header-parts m a g em ea eg = rw (em, ea, eg)
+  pub directory-given :
+      (m : ℕ) (ls target : List ℕ) → m ≡ length (taskOf w .operators) → ls ≡ lengthsOf n (taskOf w)
+      → length (directoryOf n m ls) ≤ length target → DirectoryGiven n m ls target
+  directory-given m ls target em el room =
+      let a = task-sizes w rd .most-operators in
+      let b = size-most in
+      let c = ap sizeOf el in
+      let d = directory-length n m ls in
+      record { first-word = omega arith; second-word = omega arith; offsets = omega arith; room = omega arith }

@@ -10,6 +10,7 @@ use Rattle.definitions.specs.Image.{Task}
 use Rattle.definitions.specs.Groups.{Written}
 use Rattle.definitions.specs.Encoding.{encodedImage}
 use Rattle.cover.specs.Domains.{Domained}
+use Rattle.reencoding.specs.Parts.{lengthsOf}
 
 -- the n groups of a task's atoms are words: places of the atoms, size of each group
 pub record Valued (t : Task) (ps ss : List ℕ) (n : ℕ) : Type 0 where
@@ -23,6 +24,11 @@ pub record Valued (t : Task) (ps ss : List ℕ) (n : ℕ) : Type 0 where
 pub record Laid (t : Task) (ps ss ns : List ℕ) (n : ℕ) : Type 0 where
   pub valued : Valued t ps ss n
   pub domained : Domained ss ns n
+
+-- and the lengths of the parts of its image
+pub record Measured (t : Task) (ps ss ns : List ℕ) (n : ℕ) (ls : List ℕ) : Type 0 where
+  pub laid : Laid t ps ss ns n
+  pub lengths : ls ≡ lengthsOf n t
 
 -- question 16 of re-encoding, and the finding
 unfoldable pub encodeAnswer : Task → List (List ℕ) → ℕ → Answer Written

@@ -10,15 +10,15 @@ ghost use Rattle.task.specs.Reads.{taskOf, Reads};
 ghost use Rattle.clause.specs.Rows.{clausesOf, ClausesRead};
 ghost use Rattle.cover.specs.Cover.{Room};
 ghost use Rattle.writing.specs.Writing.{Wrote};
-ghost use Rattle.reencoding.specs.Parts.{taskWords, imageBy};
-ghost use Rattle.reencoding.specs.Image.{Valued, Laid, encodeAnswer};
+ghost use Rattle.reencoding.specs.Parts.{taskBy, imageBy};
+ghost use Rattle.reencoding.specs.Image.{Valued, Measured, encodeAnswer};
 use answer::Counted;
 use answer::Refusal;
 use answer::Verdict;
 
 pub mod block; // block.rt: literals and operators as words of the image
 pub mod initial; // initial.rt: the initial values
-pub mod parts; // parts.rt: sizes, directory and operators
+pub mod parts; // parts.rt: lengths and operators
 
 // Writes the initial values, the goal and the operators of a task whose atoms are in `count` groups.
 fn write_parts(
@@ -29,27 +29,29 @@ fn write_parts(
     target: &mut [u16],
     at: usize,
 ) -> usize
-    requires { ⌜ (Reads (now image)) × (Valued (taskOf (now image)) (now places) (now sizes) count) × (at + length (taskWords (taskOf (now image)) (now places) (now sizes) count) ≤ length (now target)) ⌝ }
-    ensures { λ r. ⌜ Wrote (now (target .entry)) at (taskWords (taskOf (now (image .entry))) (now (places .entry)) (now (sizes .entry)) count) (now (target .exit)) r ⌝ }
+    requires { ⌜ (Reads (now image)) × (Valued (taskOf (now image)) (now places) (now sizes) count) × (at + length (taskBy (taskOf (now image)) (now places) (now sizes) count) ≤ length (now target)) ⌝ }
+    ensures { λ r. ⌜ Wrote (now (target .entry)) at (taskBy (taskOf (now (image .entry))) (now (places .entry)) (now (sizes .entry)) count) (now (target .exit)) r ⌝ }
 {
     let goal = initial::values(task::initial(image), places, sizes, count, target, at);
     let operators = block::literals(task::goal(image), places, target, goal);
     parts::operators(image, places, target, operators)
 }
 
-// Writes the image of a task whose atoms are in `count` groups.
+// Writes the image of a task whose atoms are in `count` groups, and whose image has parts of these lengths.
 fn write_image(
     image: &[u16],
     places: &[u16],
     sizes: &[u16],
     none: &[u16],
     count: usize,
+    lengths: &[u16],
     target: &mut [u16],
 ) -> usize
-    requires { ⌜ (Reads (now image)) × (Laid (taskOf (now image)) (now places) (now sizes) (now none) count) × (length (imageBy (taskOf (now image)) (now places) (now sizes) (now none) count) ≤ length (now target)) ⌝ }
+    requires { ⌜ (Reads (now image)) × (Measured (taskOf (now image)) (now places) (now sizes) (now none) count (now lengths)) × (length (imageBy (taskOf (now image)) (now places) (now sizes) (now none) count) ≤ length (now target)) ⌝ }
     ensures { λ r. ⌜ Wrote (now (target .entry)) 0 (imageBy (taskOf (now (image .entry))) (now (places .entry)) (now (sizes .entry)) (now (none .entry)) count) (now (target .exit)) r ⌝ }
 {
-    let variables = parts::header(image, count, target);
+    let operators = task::operators(image);
+    let variables = writing::directory::directory(count, operators, lengths, target);
     let values = cover::write(places, sizes, none, count, target, variables);
     write_parts(image, places, sizes, count, target, values)
 }
@@ -69,11 +71,13 @@ fn write_task(
 {
     let atoms = task::atoms(image);
     let count = cover::cover(clauses, atoms, places, sizes, none);
-    let words = parts::size(image, count);
+    let mut lengths = [0u16; parts::MOST_PARTS];
+    let used = parts::lengths(image, count, &mut lengths);
+    let words = writing::directory::size(&lengths[..used]);
     if target.len() < words {
         return answer::refuse_count(Refusal::TARGET);
     }
-    write_image(image, places, sizes, none, count, target);
+    write_image(image, places, sizes, none, count, &lengths[..used], target);
     Counted::Count(words)
 }
 

@@ -3,3 +3,4 @@ pub mod Copies
 pub mod ByteWords
 pub mod Ranges
 pub mod Target
+pub mod DirectoryLaws

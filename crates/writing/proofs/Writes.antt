@@ -5,7 +5,7 @@ use Prim.Native.Nat.{ℕ, suc, _+_, _≤_, _<_}
 use native.Mathlib.Numerals.{add-one}
 use native.Mathlib.Omega.{arith}
 use lib.ListN.{length, set, take, drop, length-append, length-set, drop-of-length-le}
-use lib.Seq.{sets, length-sets, sets-eq}
+use lib.Seq.{sets, length-sets, sets-eq, take-append-seam}
 use Rattle.writing.specs.Writing.{Wrote, Writing}
 
 -- words after words
@@ -34,6 +34,12 @@ module _ {t words new : List ℕ} {end : ℕ} where
   wrote-front room w =
       let e : 0 + length words ≡ length words = omega arith in
       w .target ∙ sets-eq words t 0 (omega arith) ∙ rw e
+
+  -- what was written is the part up to its end
+  pub wrote-taken : length words ≤ length t → Wrote t 0 words new end → take end new ≡ words
+  wrote-taken room w =
+      let e : end ≡ length words = (let n = w .next in omega arith) in
+      rw (e, wrote-front room w) (take-append-seam words (drop (length words) t))
 
   -- all words of the target
   pub wrote-all : length words ≡ length t → Wrote t 0 words new end → new ≡ words

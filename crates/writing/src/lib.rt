@@ -6,6 +6,8 @@ ghost use lib.ListN.{length};
 ghost use Rattle.definitions.specs.Card.{wordsOf};
 ghost use Rattle.writing.specs.Writing.{Wrote};
 
+pub mod directory; // directory.rt: pairs and directories of images
+
 pub fn words(words: &[u16], target: &mut [u16], at: usize) -> usize
     requires { ⌜ at + length (now words) ≤ length (now target) ⌝ }
     ensures { λ r. ⌜ Wrote (now (target .entry)) at (now (words .entry)) (now (target .exit)) r ⌝ }

@@ -9,6 +9,7 @@ mod agreement;
 mod checker;
 mod dimacs;
 mod fdr;
+mod join;
 mod synthesis;
 mod task;
 mod timing;
@@ -23,4 +24,5 @@ fn main() {
     fdr::run(&bench);
     agreement::run(&bench);
     dimacs::run(&bench);
+    join::run(&bench);
 }

@@ -570,10 +570,45 @@ mod dimacs {
     }
 }
 
+/// Two tasks joined.
+mod join {
+    use super::{reply, Reply};
+
+    extern "C" {
+        fn kb_join(
+            left: *const u16,
+            left_length: usize,
+            right: *const u16,
+            right_length: usize,
+            target: *mut u16,
+            target_length: usize,
+            first: *mut u64,
+            second: *mut u64,
+        ) -> u32;
+    }
+
+    pub fn join(left: &[u16], right: &[u16], target: &mut [u16]) -> Reply {
+        // Safety: every pointer comes with the length of its slice.
+        reply(|first, second| unsafe {
+            kb_join(
+                left.as_ptr(),
+                left.len(),
+                right.as_ptr(),
+                right.len(),
+                target.as_mut_ptr(),
+                target.len(),
+                first,
+                second,
+            )
+        })
+    }
+}
+
 pub use agreement::*;
 pub use checker::*;
 pub use coding::*;
 pub use dimacs::*;
 pub use fdr::*;
+pub use join::*;
 pub use synthesis::*;
 pub use task::*;

@@ -8,6 +8,7 @@ pub mod damage;
 pub mod dimacs;
 pub mod fdr;
 pub mod fixed;
+pub mod join;
 pub mod random;
 pub mod rng;
 pub mod rounds;

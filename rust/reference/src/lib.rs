@@ -1,6 +1,6 @@
 //! An independent implementation of document 01, "Ground invariants and
-//! finite-domain cards", and of document 02, "Further change requests", §1,
-//! written from these documents alone.
+//! finite-domain cards", and of what has landed of document 02, "Further change
+//! requests", written from these documents alone.
 //!
 //! Every public call works on lent slices as the C interface does and asks the
 //! documents' questions in their order; the first "no" is the refusal.
@@ -16,6 +16,7 @@ pub mod dimacs;
 mod directory;
 pub mod fdr;
 pub mod groups;
+pub mod join;
 pub mod kept;
 pub mod literal;
 pub mod naive;

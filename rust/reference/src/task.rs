@@ -16,6 +16,7 @@ pub struct Task<'a> {
 #[derive(Clone, Copy, Debug)]
 pub struct Operator<'a> {
     pub precondition: &'a [u16],
+    row_count: u16,
     rows: &'a [u16],
 }
 
@@ -73,6 +74,11 @@ impl<'a> Task<'a> {
         directory::part(self.image, 1)
     }
 
+    /// The number of words of all its parts.
+    pub(crate) fn part_words(&self) -> usize {
+        self.image.len() - directory::head_words(self.operators + 2)
+    }
+
     fn block(&self, number: usize) -> &'a [u16] {
         directory::part(self.image, 2 + number)
     }
@@ -83,6 +89,12 @@ impl<'a> Task<'a> {
 
     pub fn all_operators(&self) -> impl Iterator<Item = Operator<'a>> + '_ {
         (0..self.operators).map(|number| self.operator(number))
+    }
+
+    /// The operators for one walk over each: question 6 is not asked anew.
+    pub(crate) fn split_operators(&self) -> impl Iterator<Item = Operator<'a>> + '_ {
+        let blocks = (0..self.operators).map(|number| self.block(number));
+        blocks.map(|block| Operator::split(block).expect("question 6 was asked of every block"))
     }
 
     /// The initial state as bytes.
@@ -98,15 +110,23 @@ impl<'a> Task<'a> {
 impl<'a> Operator<'a> {
     /// Takes a block apart; `None` if its counts do not end at the block's end.
     fn read(block: &'a [u16]) -> Option<Operator<'a>> {
-        let (precondition, rest) = split_counted(block, 1)?;
-        let (&count, rows) = rest.split_first()?;
-        let mut remaining = rows;
-        for _ in 0..count {
+        let operator = Operator::split(block)?;
+        let mut remaining = operator.rows;
+        for _ in 0..operator.row_count {
             remaining = split_row(remaining)?.1;
         }
-        remaining
-            .is_empty()
-            .then_some(Operator { precondition, rows })
+        remaining.is_empty().then_some(operator)
+    }
+
+    /// Takes a block apart without a look at the rows.
+    fn split(block: &'a [u16]) -> Option<Operator<'a>> {
+        let (precondition, rest) = split_counted(block, 1)?;
+        let (&row_count, rows) = rest.split_first()?;
+        Some(Operator {
+            precondition,
+            row_count,
+            rows,
+        })
     }
 
     /// Question 7.
@@ -115,6 +135,10 @@ impl<'a> Operator<'a> {
             && self
                 .rows()
                 .all(|row| row.effect.index() < 2 * atoms && is_literal_list(row.conditions, atoms))
+    }
+
+    pub fn row_count(&self) -> u16 {
+        self.row_count
     }
 
     pub fn rows(&self) -> impl Iterator<Item = Row<'a>> {

@@ -7,7 +7,7 @@ use Rattle.task.specs.Reads.{taskOf}
 use Rattle.writing.specs.Writing.{Wrote, Writing}
 use Rattle.writing.proofs.Writes.{write-start, write-same, write-part, write-last, part-room, write-room}
 use Rattle.reencoding.specs.Words.{literalsBy}
-use Rattle.reencoding.specs.Parts.{lowered, operatorsBy, taskWords}
+use Rattle.reencoding.specs.Parts.{lowered, operatorsBy, taskBy}
 use Rattle.reencoding.proofs.ImageLaws.{atoms-of, values-length, goal-below, initial-below}
 use borrow.Author.Needs.{needs}
 use Rattle.reencoding.proofs.write_parts.Statement.{statement}
@@ -17,7 +17,7 @@ use Rattle.reencoding.proofs.write_parts.Tie as tie
 abbrev Left : tie.Start → List ℕ → ℕ → List ℕ → Type 0
 Left s target to left =
     let a = s .args in
-    Writing (a .target .now) (a .at) (taskWords (taskOf (a .image .now)) (a .places .now) (a .sizes .now) (a .count)) target to left
+    Writing (a .target .now) (a .at) (taskBy (taskOf (a .image .now)) (a .places .now) (a .sizes .now) (a .count)) target to left
 
 abbrev values : tie.Start → List ℕ
 values s = lowered (s .args .places .now) (taskOf (s .args .image .now) .initial) (take (s .args .count) (s .args .sizes .now))
@@ -29,7 +29,7 @@ abbrev operators : tie.Start → List ℕ
 operators s = operatorsBy (s .args .places .now) (taskOf (s .args .image .now) .operators)
 
 first : (s : tie.Start) → Left s (s .args .target .now) (s .args .at) (values s ++ (goals s ++ operators s))
-unfolding taskWords
+unfolding taskBy
 first s = write-start
 
 -- the true atoms are read

@@ -1,11 +1,10 @@
-use Rattle.writing.proofs.Writes.{wrote-pair}
-use mathlib.Core.Path.{_≡_, refl, ap}
-use mathlib.Core.List.{[]}
+-- `writing::directory::pair`: one word after the other.
 use native.Mathlib.Omega.{arith}
 use lib.ListN.{length-set}
+use Rattle.writing.proofs.Writes.{wrote-pair}
 use borrow.Author.Needs.{needs}
-use Rattle.reencoding.proofs.parts.pair.Statement.{statement}
-use Rattle.reencoding.proofs.parts.pair.Tie as tie
+use Rattle.writing.proofs.directory.pair.Statement.{statement}
+use Rattle.writing.proofs.directory.pair.Tie as tie
 
 cast-target : tie.Need-cast-target
 cast-target c = search needs

@@ -1,0 +1,48 @@
+-- The words of rows and operators whose atoms follow others, and what writing them asks. Assumes nothing.
+use mathlib.Core.Path.{_≡_}
+use mathlib.Core.Bool.{true}
+use mathlib.Core.List.{List, _++_}
+use Prim.Native.Nat.{ℕ, _+_, _-_, _*_, _≤_}
+use lib.ListN.{length}
+use Rattle.definitions.specs.Lists.{all, each}
+use Rattle.definitions.specs.Literal.{mostAtoms, mostLiterals, allBelow}
+use Rattle.definitions.specs.Image.{mostImage, Row, Operator, rowRight, operatorRight}
+use Rattle.definitions.specs.TaskWords.{rowWords, operatorWords}
+use Rattle.definitions.specs.Join.{shiftedRow, shiftedOperator}
+use Rattle.task.specs.Walk.{row, blockParses, operatorIn, parsesAt, rowsAt}
+
+-- behind n atoms
+unfoldable pub rowsBehind : ℕ → List Row → List ℕ
+rowsBehind n rs = each (λ r. rowWords (shiftedRow n r)) rs
+
+unfoldable pub operatorBehind : ℕ → Operator → List ℕ
+operatorBehind n o = operatorWords (shiftedOperator n o)
+
+unfoldable pub operatorsBehind : ℕ → List Operator → List ℕ
+operatorsBehind n os = each (operatorBehind n) os
+
+-- numbers that stay below the most literals when they are higher by k
+pub record NumbersGiven (k : ℕ) (list : List ℕ) : Type 0 where
+  pub few : k ≤ mostLiterals
+  pub low : allBelow (mostLiterals - k) list ≡ true
+
+-- a row over the atoms that are left behind n, for which there is room
+pub record RowGiven (n effect : ℕ) (conditions target : List ℕ) (at : ℕ) : Type 0 where
+  pub few : n ≤ mostAtoms
+  pub right : rowRight (mostAtoms - n) (row effect conditions) ≡ true
+  pub short : length conditions ≤ mostImage
+  pub room : at + (2 + length conditions) ≤ length target
+
+-- the `count` rows of a block that begin at `from` are over those atoms
+pub record RowsGiven (n : ℕ) (block : List ℕ) (from count : ℕ) : Type 0 where
+  pub few : n ≤ mostAtoms
+  pub parses : parsesAt block from count ≡ true
+  pub right : all (rowRight (mostAtoms - n)) (rowsAt block from count) ≡ true
+  pub short : length block ≤ mostImage
+
+-- and so is the operator of a block
+pub record OperatorGiven (n : ℕ) (block : List ℕ) : Type 0 where
+  pub few : n ≤ mostAtoms
+  pub parses : blockParses block ≡ true
+  pub right : operatorRight (mostAtoms - n) (operatorIn block) ≡ true
+  pub short : length block ≤ mostImage
