@@ -3,6 +3,7 @@ use mathlib.Core.Path.{_≡_, refl, sym, ap, _∙_}
 use mathlib.Core.List.{List}
 use Prim.Native.Nat.{ℕ}
 use Rattle.definitions.specs.Answer.{Refusal, Answer, finding, refused, verdict, Outcome, outcome, stateAfter, becomes, _>>=_}
+use Rattle.definitions.specs.Groups.{Written, written}
 use Rattle.definitions.proofs.AnswerLaws.{not-finding}
 
 -- ---- a verdict tells the answer
@@ -30,3 +31,14 @@ refused-first (refused q) k r e = ap refused (cc)
 -- an outcome by an equal answer
 pub outcome-of : {A : Type 0} (a b : Answer A) (s : List ℕ) (r : Outcome A) → a ≡ b → outcome b s ≡ r → outcome a s ≡ r
 outcome-of a b s r e h = ap (λ (x : Answer _). outcome x s) e ∙ h
+
+-- ---- a call that asks questions first, and then writes
+module _ {A : Type 0} (m : Answer A) (k : A → Answer Written) (old : List ℕ) where
+  -- a refusal of the first questions is handed on, and changes nothing
+  pub written-refused : (r : Refusal) → refused r ≡ verdict m → outcome (refused r) old ≡ written old (m >>= k)
+  unfolding written _>>=_
+  written-refused r e = rw (verdict-refused m r (sym e))
+
+  pub written-found : (a : A) → m ≡ finding a → written old (k a) ≡ written old (m >>= k)
+  unfolding _>>=_
+  written-found a e = rw e

@@ -6,7 +6,7 @@ use mathlib.Core.List.{List, [], _∷_, List·Memᴰ, List·Memᴰ·head, List·
 use Prim.Native.Nat.{ℕ, zero, suc, _+_, _-_, _*_, _≤_, _<_}
 use native.Mathlib.Omega.{arith}
 use native.Mathlib.Decide.{decLt}
-use lib.ListN.{length, getD}
+use lib.ListN.{length}
 use Rattle.definitions.specs.Lists.{any, ascending, compareWords, isSame, Distinct, nothing, another}
 use Rattle.definitions.specs.Literal.{mostAtoms, allBelow}
 use Rattle.definitions.specs.Clauses.{width, rowOf, clauseOf, clauseRight, rowLess, rowAt}
@@ -14,7 +14,6 @@ use Rattle.definitions.specs.Groups.{hasClause}
 use Rattle.definitions.proofs.LiteralLaws.{list-low, below-at}
 use Rattle.definitions.proofs.ListLaws.{decide, and-left, and-right, and-both, any-in, any-of}
 use Rattle.definitions.proofs.PlaceLaws.{same-words}
-use Rattle.definitions.proofs.ListLaws.{getD-mem}
 use Rattle.definitions.proofs.Counting.{Part}
 use Rattle.definitions.proofs.OrderLaws.{up, upFrom, same-self}
 use Rattle.definitions.specs.Clauses.{GoodClause}
@@ -28,10 +27,6 @@ use Rattle.clause.specs.declared.Found.{Found}
 use Rattle.clause.specs.declared.Found.the-variants.{At, Missing}
 use Rattle.clause.proofs.RowLaws.{in-none, in-step, row-length, RowOf, clause-in, clause-of}
 use Rattle.clause.proofs.RowOrder.{row-trans, row-irrefl}
-
--- ---- a literal list
-pub low-at : (n : ℕ) (ls : List ℕ) (i : ℕ) → allBelow n ls ≡ true → i < length ls → getD ls i 0 < n
-low-at n ls i h low = below-at n ls h (getD ls i 0) (getD-mem ls i 0 low)
 
 -- ---- a right row and its clause
 pub right-good : (N : ℕ) (row : List ℕ) → length row ≡ width → clauseRight N row ≡ true → GoodClause N width (clauseOf row)

@@ -21,6 +21,7 @@ use Rattle.definitions.proofs.ImageSize.{words-size, sizes-of}
 use Rattle.definitions.proofs.ListLaws.{decide, and-left, and-right, and-both, all-at, all-of, map-of, table-at, table-length}
 use Rattle.definitions.proofs.LiteralLaws.{list-low, below-at, below-all}
 use Rattle.definitions.proofs.AnswerLaws.{same-finding, bind-of, ask-of}
+use Rattle.definitions.proofs.ReadLaws.{row-effect, row-list, pre-list, rows-right}
 use Rattle.definitions.proofs.TaskBack.{Read, RightTask, right-of, of-right, read-words, read-of}
 use Rattle.definitions.proofs.JoinLaws.{shifted-length, ascending-join, below-join, atoms-shift, member-shift, member-under, member-over}
 use Rattle.definitions.proofs.JoinLaws.{member-append, value-first, value-second}
@@ -67,32 +68,29 @@ module _ (N L : ℕ) where
   row-first : (r : Row) → rowRight N r ≡ true → rowRight (N + L) r ≡ true
   unfolding rowRight
   row-first r h =
-      let e = ltb-true (r .effect) (2 * N) (and-left (ltb (r .effect) (2 * N)) (literalList N (r .conditions)) h) in
-      and-both (lt-ltb (r .effect) (2 * (N + L)) (omega arith))
-      (list-first (r .conditions) (and-right (ltb (r .effect) (2 * N)) (literalList N (r .conditions)) h))
+      let e = row-effect N r h in
+      and-both (lt-ltb (r .effect) (2 * (N + L)) (omega arith)) (list-first (r .conditions) (row-list N r h))
 
   row-second : (r : Row) → rowRight L r ≡ true → rowRight (N + L) (shiftedRow N r) ≡ true
   unfolding rowRight shiftedRow
   row-second r h =
-      let e = ltb-true (r .effect) (2 * L) (and-left (ltb (r .effect) (2 * L)) (literalList L (r .conditions)) h) in
-      and-both (lt-ltb (2 * N + r .effect) (2 * (N + L)) (omega arith))
-      (list-second (r .conditions) (and-right (ltb (r .effect) (2 * L)) (literalList L (r .conditions)) h))
+      let e = row-effect L r h in
+      and-both (lt-ltb (2 * N + r .effect) (2 * (N + L)) (omega arith)) (list-second (r .conditions) (row-list L r h))
 
-  operator-first : (o : Operator) → operatorRight N o ≡ true → operatorRight (N + L) o ≡ true
+  pub operator-first : (o : Operator) → operatorRight N o ≡ true → operatorRight (N + L) o ≡ true
   unfolding operatorRight
   operator-first o h =
-      and-both (list-first (o .precondition) (and-left (literalList N (o .precondition)) (all (rowRight N) (o .rows)) h))
-      (all-of (rowRight (N + L)) (o .rows)
-      (λ r m. row-first r (all-at (rowRight N) (and-right (literalList N (o .precondition)) (all (rowRight N) (o .rows)) h) m)))
+      and-both (list-first (o .precondition) (pre-list N o h))
+      (all-of (rowRight (N + L)) (o .rows) (λ r m. row-first r (all-at (rowRight N) (rows-right N o h) m)))
 
   operator-second : (o : Operator) → operatorRight L o ≡ true → operatorRight (N + L) (shiftedOperator N o) ≡ true
   unfolding operatorRight shiftedOperator
   operator-second o h =
-      and-both (list-second (o .precondition) (and-left (literalList L (o .precondition)) (all (rowRight L) (o .rows)) h))
+      and-both (list-second (o .precondition) (pre-list L o h))
       (all-of (rowRight (N + L)) (map (shiftedRow N) (o .rows))
       (λ r m. let q = map-of (shiftedRow N) (o .rows) m in
       subst (λ (z : Row). rowRight (N + L) z ≡ true) (sym (q .same))
-      (row-second (q .it) (all-at (rowRight L) (and-right (literalList L (o .precondition)) (all (rowRight L) (o .rows)) h) (q .mem)))))
+      (row-second (q .it) (all-at (rowRight L) (rows-right L o h) (q .mem)))))
 
 pub joined-right : (t u : Task) → RightTask t → RightTask u → RightTask (joined t u)
 unfolding joined

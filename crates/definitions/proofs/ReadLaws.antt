@@ -21,25 +21,38 @@ use Rattle.definitions.proofs.LiteralLaws.{list-low}
 abbrev pub Right : Task → Type 0
 Right t = (o : Operator) → List·Memᴰ o (t .operators) → operatorRight (t .atoms) o ≡ true
 
-module _ (N : ℕ) (o : Operator) (right : operatorRight N o ≡ true) where
-  pub pre-low : allBelow (2 * N) (o .precondition) ≡ true
-  unfolding operatorRight
-  pre-low = list-low N (o .precondition) (and-left (literalList N (o .precondition)) (all (rowRight N) (o .rows)) right)
+-- a row is right: its effect and its conditions are over the atoms
+module _ (N : ℕ) (r : Row) (right : rowRight N r ≡ true) where
+  pub row-effect : r .effect < 2 * N
+  unfolding rowRight
+  row-effect = ltb-true (r .effect) (2 * N) (and-left (ltb (r .effect) (2 * N)) (literalList N (r .conditions)) right)
 
-  row-right : (r : Row) → List·Memᴰ r (o .rows) → rowRight N r ≡ true
+  pub row-list : literalList N (r .conditions) ≡ true
+  unfolding rowRight
+  row-list = and-right (ltb (r .effect) (2 * N)) (literalList N (r .conditions)) right
+
+  pub row-conditions : allBelow (2 * N) (r .conditions) ≡ true
+  row-conditions = list-low N (r .conditions) row-list
+
+-- an operator is right: its precondition and its rows are
+module _ (N : ℕ) (o : Operator) (right : operatorRight N o ≡ true) where
+  pub pre-list : literalList N (o .precondition) ≡ true
   unfolding operatorRight
-  row-right r m = all-at (rowRight N) (and-right (literalList N (o .precondition)) (all (rowRight N) (o .rows)) right) m
+  pre-list = and-left (literalList N (o .precondition)) (all (rowRight N) (o .rows)) right
+
+  pub pre-low : allBelow (2 * N) (o .precondition) ≡ true
+  pre-low = list-low N (o .precondition) pre-list
+
+  pub rows-right : all (rowRight N) (o .rows) ≡ true
+  unfolding operatorRight
+  rows-right = and-right (literalList N (o .precondition)) (all (rowRight N) (o .rows)) right
 
   pub effect-low : (r : Row) → List·Memᴰ r (o .rows) → r .effect < 2 * N
-  unfolding rowRight
-  effect-low r m =
-      ltb-true (r .effect) (2 * N) (and-left (ltb (r .effect) (2 * N)) (literalList N (r .conditions)) (row-right r m))
+  effect-low r m = row-effect N r (all-at (rowRight N) rows-right m)
 
   pub conditions-low : all (λ r. allBelow (2 * N) (r .conditions)) (o .rows) ≡ true
-  unfolding rowRight
   conditions-low =
-      all-of (λ r. allBelow (2 * N) (r .conditions)) (o .rows)
-      (λ r m. list-low N (r .conditions) (and-right (ltb (r .effect) (2 * N)) (literalList N (r .conditions)) (row-right r m)))
+      all-of (λ r. allBelow (2 * N) (r .conditions)) (o .rows) (λ r m. row-conditions N r (all-at (rowRight N) rows-right m))
 
 readOperator-right : (N i : ℕ) (b : List ℕ) (o : Operator) → readOperator N i b ≡ finding o → operatorRight N o ≡ true
 unfolding readOperator refuse

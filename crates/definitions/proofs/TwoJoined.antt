@@ -8,14 +8,14 @@ use lib.Dec.{eqb, ltb}
 use lib.ListN.{length, getD}
 use borrow.Author.Tests.{eqb-true, eq-eqb}
 use Rattle.definitions.specs.Lists.{all, below, member}
-use Rattle.definitions.specs.Answer.{Answer, finding, Outcome, outcome, ask, askAt, _>>=_, isFinding}
+use Rattle.definitions.specs.Answer.{Refusal, Answer, finding, refused, refuse, Outcome, outcome, ask, askAt, _>>=_, isFinding}
 use Rattle.definitions.specs.StepLists.{walk, runFrom, notRun, runs}
 use Rattle.definitions.specs.Literal.{allBelow, isState, allTrue, stateOf}
 use Rattle.definitions.specs.Image.{Operator, Task, initialState, readTask}
 use Rattle.definitions.specs.Step.{effects, after, result, operatorAt, step, stepTask, goalTask, runTask}
 use Rattle.definitions.specs.Groups.{Written}
-use Rattle.definitions.specs.Join.{joined, joinCall, firstPart, secondPart}
-use Rattle.definitions.specs.TwoJoined.{RunsTogether, TwoJoined}
+use Rattle.definitions.specs.Join.{joined, joinFits, joinAnswer, joinCall, firstPart, secondPart}
+use Rattle.definitions.specs.TwoJoined.{RunsTogether, TwoJoined, Joining}
 use Rattle.definitions.proofs.ListLaws.{and-left, and-right, and-both, map-of}
 use Rattle.definitions.proofs.LiteralLaws.{list-low, below-at, below-all}
 use Rattle.definitions.proofs.StepLists.{Alike, both-found, both-refused, walk-alike, verdicts-alike}
@@ -212,6 +212,22 @@ module _ (w v z : List ℕ) (t u : Task) (is : List ℕ) where
           left = run-left;
         }
 
+-- ---- refusals
+module _ (w v : List ℕ) (target : ℕ) where
+  first-refused : (r : Refusal) → readTask w ≡ refused r → joinCall w v target ≡ refused r
+  unfolding joinCall _>>=_
+  first-refused r e = rw e
+
+  second-refused : (t : Task) (r : Refusal) → readTask w ≡ finding t → readTask v ≡ refused r → joinCall w v target ≡ refused r
+  unfolding joinCall _>>=_
+  second-refused t r e f = rw (e, f)
+
+  passed :
+      (t u : Task) → readTask w ≡ finding t → readTask v ≡ finding u → joinFits (joined t u) target ≡ false
+      → joinCall w v target ≡ refuse 27 0 0
+  unfolding joinCall joinAnswer ask askAt refuse _>>=_
+  passed t u e f h = rw (e, f, h)
+
 -- whatever a join wrote
 pub two-joined : (w v : List ℕ) (target : ℕ) (x : Written) → joinCall w v target ≡ finding x → TwoJoined w v target x
 two-joined w v target x e =
@@ -230,3 +246,7 @@ two-joined w v target x e =
       accepted = λ c d m₁ m₂ marks a b. joined-accepted w v (x .words) c d m₁ m₂ marks t u a b (j .read-first) (j .read-second) (j .reads);
       lists = λ is. runs-together w v (x .words) t u is (j .read-first) (j .read-second) (j .reads);
     }
+
+-- of every two images and every target
+pub joining : Joining
+joining = record { first-refused = first-refused; second-refused = second-refused; passed = passed; joins = two-joined }

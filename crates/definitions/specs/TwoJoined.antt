@@ -1,17 +1,17 @@
 -- Document 02 §6 as one statement: two tasks and their join, read, accepted and run together. Assumes nothing.
-use mathlib.Core.Bool.{true, _&&_}
+use mathlib.Core.Bool.{true, false, _&&_}
 use mathlib.Core.Path.{_≡_}
 use mathlib.Core.List.{List, _++_}
 use Prim.Native.Nat.{ℕ, _+_, _*_, _≤_}
 use lib.ListN.{length}
-use Rattle.definitions.specs.Answer.{finding, isFinding, _>>=_, Outcome, outcome}
+use Rattle.definitions.specs.Answer.{Refusal, finding, refused, refuse, isFinding, _>>=_, Outcome, outcome}
 use Rattle.definitions.specs.Image.{Task, initialState, readTask}
 use Rattle.definitions.specs.StepLists.{walk, runs}
 use Rattle.definitions.specs.Step.{stepTask, goalTask, runTask}
 use Rattle.definitions.specs.Clauses.{width, mostRows}
 use Rattle.definitions.specs.Checker.{Accepted, check}
 use Rattle.definitions.specs.Groups.{Written}
-use Rattle.definitions.specs.Join.{joined, union, unionWords, firstPart, secondPart}
+use Rattle.definitions.specs.Join.{joined, joinFits, joinCall, union, unionWords, firstPart, secondPart}
 
 -- a list of numbers, whatever they are, from the initial states of the joined image z and of the two images
 module _ (w v z : List ℕ) (t u : Task) (is : List ℕ) where
@@ -27,20 +27,20 @@ module _ (w v z : List ℕ) (t u : Task) (is : List ℕ) where
   endJoined = walk (stepTask z) (initialState (joined t u)) is
 
   abbrev pub endFirst : List ℕ
-  endFirst = walk (stepTask w) (initialState t) (firstPart (length (t .operators)) is)
+  endFirst = walk (stepTask w) (initialState t) own
 
   abbrev pub endSecond : List ℕ
-  endSecond = walk (stepTask v) (initialState u) (secondPart (length (t .operators)) is)
+  endSecond = walk (stepTask v) (initialState u) other
 
   -- the list runs
   abbrev pub runJoined : Outcome ℕ
   runJoined = runTask z (initialState (joined t u)) is
 
   abbrev pub runFirst : Outcome ℕ
-  runFirst = runTask w (initialState t) (firstPart (length (t .operators)) is)
+  runFirst = runTask w (initialState t) own
 
   abbrev pub runSecond : Outcome ℕ
-  runSecond = runTask v (initialState u) (secondPart (length (t .operators)) is)
+  runSecond = runTask v (initialState u) other
 
   pub record RunsTogether : Type 0 where
     -- it runs exactly if the first's part runs in the first and the second's part in the second
@@ -73,3 +73,15 @@ pub record TwoJoined (w v : List ℕ) (target : ℕ) (x : Written) : Type 0 wher
       ≡ finding (record { task = joined first second; clauses = union (first .atoms) (a .clauses) (b .clauses) })
   -- every list of numbers
   pub lists : (is : List ℕ) → RunsTogether w v (x .words) first second is
+
+-- of every two images and every target
+pub record Joining : Type 0 where
+  -- the first image's refusal comes first, then the second's, and 27 only where both were read
+  pub first-refused : (w v : List ℕ) (target : ℕ) (r : Refusal) → readTask w ≡ refused r → joinCall w v target ≡ refused r
+  pub second-refused :
+      (w v : List ℕ) (target : ℕ) (t : Task) (r : Refusal) → readTask w ≡ finding t → readTask v ≡ refused r → joinCall w v target ≡ refused r
+  pub passed :
+      (w v : List ℕ) (target : ℕ) (t u : Task) → readTask w ≡ finding t → readTask v ≡ finding u → joinFits (joined t u) target ≡ false
+      → joinCall w v target ≡ refuse 27 0 0
+  -- whatever is found
+  pub joins : (w v : List ℕ) (target : ℕ) (x : Written) → joinCall w v target ≡ finding x → TwoJoined w v target x

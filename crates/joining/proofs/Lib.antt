@@ -1,1 +1,3 @@
+pub mod ShiftLaws
 pub mod PartLaws
+pub mod Calls

@@ -13,45 +13,41 @@ use Rattle.definitions.specs.Image.{mostImage, mostOperators, Operator, Task, o
 use Rattle.definitions.specs.TaskWords.{operatorWords, taskParts, taskWords}
 use Rattle.definitions.specs.Join.{shifted, shiftedOperator, joined, joinFits}
 use Rattle.definitions.proofs.ImageSize.{block-size}
-use Rattle.definitions.proofs.JoinLaws.{shifted-length, operator-zero}
+use Rattle.definitions.proofs.JoinLaws.{operator-zero}
+use Rattle.definitions.proofs.ListLaws.{each-append, each-map}
+use Rattle.definitions.proofs.LiteralLaws.{list-low}
+use Rattle.definitions.proofs.TaskBack.{RightTask, right-of, read-of}
 use Rattle.definitions.proofs.JoinRead.{operator-long, joined-count, join-long, Fits, fits-of}
 use Rattle.task.specs.Reads.{taskOf, Reads}
 use Rattle.writing.specs.Directory.{directoryOf, sizeOf, DirectoryGiven}
 use Rattle.writing.proofs.DirectoryLaws.{directory-is, directory-length, image-size}
-use Rattle.joining.specs.Behind.{operatorBehind, operatorsBehind}
-use Rattle.joining.specs.Parts.{listLengths, lengthsOf, headerOf, listsOf, operatorsOf, Joinable}
+use Rattle.joining.specs.Behind.{operatorBehind, operatorsBehind, NumbersGiven}
+use Rattle.joining.specs.Parts.{listLengths, lengthsOf, headerOf, listsOf, operatorsOf, Joinable, PartGiven}
+use Rattle.joining.proofs.ShiftLaws.{numbers-given, list-long}
 
 -- ---- the operators
-each-append : {A B : Type 0} (f : A → List B) (xs ys : List A) → each f (xs ++ ys) ≡ each f xs ++ each f ys
-unfolding each
-each-append f [] ys = refl
-each-append f (x ∷ xs) ys = ap (λ l. f x ++ l) (each-append f xs ys) ∙ sym (append-assoc (f x) (each f xs) (each f ys))
+operators-zero : (os : List Operator) → map (shiftedOperator 0) os ≡ os
+operators-zero [] = refl
+operators-zero (o ∷ os) = ap₂ (λ a b. a ∷ b) (operator-zero o) (operators-zero os)
 
 blocks-behind : (n : ℕ) (os : List Operator) → each (λ p. p) (map operatorWords (map (shiftedOperator n) os)) ≡ operatorsBehind n os
-unfolding each operatorsBehind operatorBehind
-blocks-behind n [] = refl
-blocks-behind n (o ∷ os) = ap (λ l. operatorWords (shiftedOperator n o) ++ l) (blocks-behind n os)
+unfolding operatorsBehind operatorBehind
+blocks-behind n os = each-map (λ p. p) operatorWords (map (shiftedOperator n) os) ∙ each-map operatorWords (shiftedOperator n) os
 
 blocks-first : (os : List Operator) → each (λ p. p) (map operatorWords os) ≡ operatorsBehind 0 os
-unfolding each operatorsBehind operatorBehind
-blocks-first [] = refl
-blocks-first (o ∷ os) = ap₂ (λ a b. a ++ b) (ap operatorWords (sym (operator-zero o))) (blocks-first os)
+blocks-first os = ap (λ l. each (λ p. p) (map operatorWords l)) (sym (operators-zero os)) ∙ blocks-behind 0 os
 
 sizes-behind : (n : ℕ) (os : List Operator) → map length (map operatorWords (map (shiftedOperator n) os)) ≡ map operatorSize os
 sizes-behind n [] = refl
 sizes-behind n (o ∷ os) = ap₂ (λ a b. a ∷ b) (block-size (shiftedOperator n o) ∙ operator-long n o) (sizes-behind n os)
 
 sizes-first : (os : List Operator) → map length (map operatorWords os) ≡ map operatorSize os
-sizes-first [] = refl
-sizes-first (o ∷ os) = ap₂ (λ a b. a ∷ b) (block-size o) (sizes-first os)
+sizes-first os = ap (λ l. map length (map operatorWords l)) (sym (operators-zero os)) ∙ sizes-behind 0 os
 
 -- ---- all parts
 module _ (t u : Task) where
   abbrev behind : List Operator
   behind = map (shiftedOperator (t .atoms)) (u .operators)
-
-  list-long : (n : ℕ) (xs ys : List ℕ) → length (xs ++ shifted n ys) ≡ length xs + length ys
-  list-long n xs ys = length-append xs (shifted n ys) ∙ ap (λ k. length xs + k) (shifted-length n ys)
 
   pub list-lengths :
       (a b : ℕ) → a ≡ length (t .initial) + length (u .initial) → b ≡ length (t .goal) + length (u .goal)
@@ -71,22 +67,17 @@ module _ (t u : Task) where
   parts-are : each (λ p. p) (taskParts (joined t u)) ≡ listsOf t u ++ operatorsOf t u
   unfolding taskParts joined listsOf operatorsOf each
   parts-are =
-      ap (λ l. (t .initial ++ initial) ++ ((t .goal ++ goal) ++ l))
+      ap (λ l. initial ++ (goal ++ l))
       (ap (each (λ p. p)) (map-append operatorWords (t .operators) behind)
       ∙ each-append (λ p. p) (map operatorWords (t .operators)) (map operatorWords behind)
       ∙ ap₂ (λ a b. a ++ b) (blocks-first (t .operators)) (blocks-behind (t .atoms) (u .operators)))
-      ∙ append-assoc (t .initial) initial ((t .goal ++ goal) ++ ops)
-      ∙ ap (λ l. t .initial ++ l) (sym (append-assoc initial (t .goal ++ goal) ops))
-      ∙ sym (append-assoc (t .initial) (initial ++ (t .goal ++ goal)) ops)
+      ∙ sym (append-assoc initial goal (operatorsBehind 0 (t .operators) ++ operatorsBehind (t .atoms) (u .operators)))
     where
       initial : List ℕ
-      initial = shifted (t .atoms) (u .initial)
+      initial = t .initial ++ shifted (t .atoms) (u .initial)
 
       goal : List ℕ
-      goal = shifted (2 * t .atoms) (u .goal)
-
-      ops : List ℕ
-      ops = operatorsBehind 0 (t .operators) ++ operatorsBehind (t .atoms) (u .operators)
+      goal = t .goal ++ shifted (2 * t .atoms) (u .goal)
 
   pub image-is : taskWords (joined t u) ≡ headerOf t u ++ (listsOf t u ++ operatorsOf t u)
   unfolding taskWords headerOf
@@ -158,6 +149,39 @@ module _
         offsets = omega arith;
         room = (let p = pairs-most ls in omega arith);
       }
+
+-- ---- the lists and the operators, as the code works them out: n is the number of the first's atoms
+module _ (t u : Task) (n : ℕ) (atoms : n ≡ t .atoms) where
+  pub lists-are :
+      (ti ui tg ug : List ℕ) → ti ≡ t .initial → ui ≡ u .initial → tg ≡ t .goal → ug ≡ u .goal
+      → listsOf t u ≡ (ti ++ shifted n ui) ++ (tg ++ shifted (2 * n) ug)
+  unfolding listsOf
+  lists-are ti ui tg ug e f g h = rw (atoms, e, f, g, h)
+
+  pub operators-are : operatorsOf t u ≡ operatorsBehind 0 (t .operators) ++ operatorsBehind n (u .operators)
+  unfolding operatorsOf
+  operators-are = rw atoms
+
+-- the second's lists behind the first's atoms
+module _ (v : List ℕ) (second : Reads v) (n : ℕ) (few : n + taskOf v .atoms ≤ mostAtoms) where
+  right : RightTask (taskOf v)
+  right = right-of (taskOf v) (read-of v (taskOf v) (second .found) .right)
+
+  pub initial-given : (xs : List ℕ) → xs ≡ taskOf v .initial → NumbersGiven n xs
+  initial-given xs e = rw e (numbers-given n (taskOf v .atoms) (taskOf v .initial) (right .low) (omega arith))
+
+  pub goal-given : (xs : List ℕ) → xs ≡ taskOf v .goal → NumbersGiven (2 * n) xs
+  goal-given xs e =
+      rw e (numbers-given (2 * n) (2 * taskOf v .atoms) (taskOf v .goal) (list-low (taskOf v .atoms) (taskOf v .goal) (right .goal)) (omega arith))
+
+-- ---- the parts of the joined image find room, one after the other
+module _ {w v target : List ℕ} (j : Joinable w v target) where
+  pub all-room : 0 + length (taskWords (joined (taskOf w) (taskOf v))) ≤ length target
+  all-room = let r = joinable-fits j .room in omega arith
+
+  pub part-given : {part new : List ℕ} {to : ℕ} → to + length part ≤ length new → PartGiven w v part new to
+  unfolding joined
+  part-given room = record { first = j .first; second = j .second; few = joinable-fits j .atoms; room = room }
 
 -- ---- question 27, one limit after the other
 module _ (w v : List ℕ) (first : Reads w) (second : Reads v) (room : ℕ) where

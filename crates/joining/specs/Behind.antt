@@ -26,7 +26,14 @@ pub record NumbersGiven (k : ℕ) (list : List ℕ) : Type 0 where
   pub few : k ≤ mostLiterals
   pub low : allBelow (mostLiterals - k) list ≡ true
 
--- a row over the atoms that are left behind n, for which there is room
+-- literals of the atoms that are left behind n: their count and they are words, for which there is room
+pub record CountedGiven (n : ℕ) (list target : List ℕ) (at : ℕ) : Type 0 where
+  pub few : n ≤ mostAtoms
+  pub low : allBelow (2 * (mostAtoms - n)) list ≡ true
+  pub short : length list ≤ mostImage
+  pub room : at + (1 + length list) ≤ length target
+
+-- a row over those atoms, for which there is room
 pub record RowGiven (n effect : ℕ) (conditions target : List ℕ) (at : ℕ) : Type 0 where
   pub few : n ≤ mostAtoms
   pub right : rowRight (mostAtoms - n) (row effect conditions) ≡ true

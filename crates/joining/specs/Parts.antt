@@ -25,8 +25,7 @@ headerOf t u = directoryOf (t .atoms + u .atoms) (length (t .operators) + length
 
 -- the initial lists, then the goals
 unfoldable pub listsOf : Task → Task → List ℕ
-listsOf t u =
-    t .initial ++ (shifted (t .atoms) (u .initial) ++ (t .goal ++ shifted (2 * t .atoms) (u .goal)))
+listsOf t u = (t .initial ++ shifted (t .atoms) (u .initial)) ++ (t .goal ++ shifted (2 * t .atoms) (u .goal))
 
 -- the operators, the first's behind no atom
 unfoldable pub operatorsOf : Task → Task → List ℕ

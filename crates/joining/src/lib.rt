@@ -41,10 +41,20 @@ fn write_lists(left: &[u16], right: &[u16], target: &mut [u16], at: usize) -> us
     ensures { λ r. ⌜ Wrote (now (target .entry)) at (listsOf (taskOf (now (left .entry))) (taskOf (now (right .entry)))) (now (target .exit)) r ⌝ }
 {
     let before = task::atoms(left) as u16;
-    let second = writing::words(task::initial(left), target, at);
-    let goal = shift::numbers(task::initial(right), before, target, second);
-    let last = writing::words(task::goal(left), target, goal);
-    shift::numbers(task::goal(right), 2 * before, target, last)
+    let goal = shift::lists(
+        task::initial(left),
+        task::initial(right),
+        before,
+        target,
+        at,
+    );
+    shift::lists(
+        task::goal(left),
+        task::goal(right),
+        2 * before,
+        target,
+        goal,
+    )
 }
 
 // Writes the operators of both.

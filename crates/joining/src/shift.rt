@@ -1,21 +1,18 @@
 // Literals, rows and operators of a task whose atoms follow those of another, as words of the joined image. Each function gives the
 // place after the words that it wrote.
-ghost use mathlib.Core.Path.{_≡_};
-ghost use mathlib.Core.Bool.{true};
-ghost use Prim.Native.Nat.{_+_, _*_, _≤_, _<_};
+ghost use mathlib.Core.List.{_++_};
+ghost use Prim.Native.Nat.{_+_, _*_, _≤_};
 ghost use lib.ListN.{length};
-ghost use Rattle.definitions.specs.Lists.{each};
-ghost use Rattle.definitions.specs.Literal.{mostAtoms, mostLiterals, allBelow};
-ghost use Rattle.definitions.specs.Image.{rowRight};
+ghost use Rattle.definitions.specs.Literal.{mostAtoms};
 ghost use Rattle.definitions.specs.TaskWords.{countedLiterals, rowWords};
 ghost use Rattle.definitions.specs.Join.{shifted, shiftedRow};
 ghost use Rattle.task.specs.Walk.{row, operatorIn, rowsAt};
 ghost use Rattle.task.specs.Reads.{taskOf, Reads};
 ghost use Rattle.writing.specs.Writing.{Wrote};
-ghost use Rattle.joining.specs.Behind.{rowsBehind, operatorBehind, operatorsBehind, NumbersGiven, RowGiven, RowsGiven, OperatorGiven};
+ghost use Rattle.joining.specs.Behind.{rowsBehind, operatorBehind, operatorsBehind, NumbersGiven, CountedGiven, RowGiven, RowsGiven, OperatorGiven};
 
 // Writes numbers, each higher by `by`.
-pub fn numbers(list: &[u16], by: u16, target: &mut [u16], at: usize) -> usize
+fn numbers(list: &[u16], by: u16, target: &mut [u16], at: usize) -> usize
     requires { ⌜ (NumbersGiven by (now list)) × (at + length (now list) ≤ length (now target)) ⌝ }
     ensures { λ r. ⌜ Wrote (now (target .entry)) at (shifted by (now (list .entry))) (now (target .exit)) r ⌝ }
 {
@@ -29,9 +26,18 @@ pub fn numbers(list: &[u16], by: u16, target: &mut [u16], at: usize) -> usize
     to
 }
 
+// Writes a list, then another of numbers that are each higher by `by`.
+pub fn lists(first: &[u16], second: &[u16], by: u16, target: &mut [u16], at: usize) -> usize
+    requires { ⌜ (NumbersGiven by (now second)) × (at + length (now first ++ shifted by (now second)) ≤ length (now target)) ⌝ }
+    ensures { λ r. ⌜ Wrote (now (target .entry)) at (now (first .entry) ++ shifted by (now (second .entry))) (now (target .exit)) r ⌝ }
+{
+    let to = writing::words(first, target, at);
+    numbers(second, by, target, to)
+}
+
 // Writes the number of literals, then the literals, behind `before` atoms.
 fn counted(list: &[u16], before: u16, target: &mut [u16], at: usize) -> usize
-    requires { ⌜ (before ≤ mostAtoms) × (NumbersGiven (2 * before) (now list)) × (length (now list) < 65536) × (at + length (now list) < length (now target)) ⌝ }
+    requires { ⌜ CountedGiven before (now list) (now target) at ⌝ }
     ensures { λ r. ⌜ Wrote (now (target .entry)) at (countedLiterals (shifted (2 * before) (now (list .entry)))) (now (target .exit)) r ⌝ }
 {
     target[at] = list.len() as u16;

@@ -13,7 +13,7 @@ use Rattle.definitions.specs.Closure.{has, bit, closure, contradictory}
 use Rattle.definitions.proofs.ListLaws.{and-left, and-right, and-both}
 use Rattle.writing.specs.Writing.{Wrote}
 use Rattle.writing.proofs.Writes.{wrote-size, wrote-front}
-use Rattle.clause.proofs.ClauseLaws.{low-at}
+use Rattle.definitions.proofs.LiteralLaws.{low-at}
 use Rattle.propagation.specs.Marks.{Marked, RestKept, ConsistentMarks, Closes}
 use Rattle.propagation.specs.declared.Closing.{Closing}
 use Rattle.propagation.specs.declared.Closing.the-variants.{Consistent, Contradictory}

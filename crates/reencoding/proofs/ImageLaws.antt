@@ -18,7 +18,8 @@ use Rattle.definitions.specs.Groups.{groups, domainOf, domainWords, placeOf, pl
 use Rattle.definitions.specs.Fdr.{fdrLiteralWords, countedWords, fdrRowWords, fdrOperatorWords, fdrParts}
 use Rattle.definitions.specs.Fdr.{pairWords, fdrWords}
 use Rattle.definitions.specs.Encoding.{valueIn, encodeLiteral, encodeRow, encodeOperator, encode, encodedImage, encodeCall}
-use Rattle.definitions.proofs.ListLaws.{and-left, and-right}
+use Rattle.definitions.proofs.ListLaws.{and-left, and-right, each-map}
+use Rattle.definitions.proofs.ReadLaws.{row-effect, row-conditions, pre-low, rows-right}
 use Rattle.answer.specs.Answer.{refusalAt}
 use Rattle.task.specs.Reads.{taskOf, Reads}
 use Rattle.task.proofs.Questions.{task-read, operator-right}
@@ -44,17 +45,6 @@ use Rattle.reencoding.proofs.WordLaws.{literals-length}
 use Rattle.reencoding.proofs.SizeLaws.{operator-length}
 use Rattle.reencoding.proofs.InitialLaws.{initial-are, lowered-length}
 
--- ---- lists of words
-each-map : {A B : Type 0} (f : B → List ℕ) (g : A → B) (xs : List A) → each f (map g xs) ≡ each (λ x. f (g x)) xs
-unfolding each
-each-map f g [] = refl
-each-map f g (x ∷ xs) = ap (λ (l : List ℕ). f (g x) ++ l) (each-map f g xs)
-
-each-same : {A : Type 0} (f g : A → List ℕ) (xs : List A) → ((x : A) → List·Memᴰ x xs → f x ≡ g x) → each f xs ≡ each g xs
-unfolding each
-each-same f g [] h = refl
-each-same f g (x ∷ xs) h = ap₂ _++_ (h x (List·Memᴰ·head refl)) (each-same f g xs (λ y m. h y (List·Memᴰ·tail m)))
-
 -- ---- one literal, one row, one operator
 module _ (N : ℕ) (C : List (List ℕ)) (ps : List ℕ) (placed : Placed C N ps) where
   abbrev G : List (List ℕ)
@@ -76,10 +66,10 @@ module _ (N : ℕ) (C : List (List ℕ)) (ps : List ℕ) (placed : Placed C N ps
   counted-are ls h = ap₂ (λ (n : ℕ) (l : List ℕ). n ∷ l) (length-map ls (encodeLiteral G)) (literals-are ls h)
 
   row-is : (r : Row) → rowRight N r ≡ true → fdrRowWords (encodeRow G r) ≡ rowBy ps r
-  unfolding groups fdrRowWords encodeRow rowBy rowRight atom
+  unfolding groups fdrRowWords encodeRow rowBy atom
   row-is r h =
-      let low = ltb-true (r .effect) (2 * N) (and-left (ltb (r .effect) (2 * N)) (literalList N (r .conditions)) h) in
-      let c = counted-are (r .conditions) (list-low N (r .conditions) (and-right (ltb (r .effect) (2 * N)) (literalList N (r .conditions)) h)) in
+      let low = row-effect N r h in
+      let c = counted-are (r .conditions) (row-conditions N r h) in
       rw (placed .variable (r .effect / 2) (omega arith), placed .value (r .effect / 2) (omega arith), ← c)
 
   rows-are : (rs : List Row) → all (rowRight N) rs ≡ true → each fdrRowWords (map (encodeRow G) rs) ≡ rowsBy ps rs
@@ -89,11 +79,10 @@ module _ (N : ℕ) (C : List (List ℕ)) (ps : List ℕ) (placed : Placed C N ps
       ap₂ _++_ (row-is r (and-left (rowRight N r) (all (rowRight N) rs) h)) (rows-are rs (and-right (rowRight N r) (all (rowRight N) rs) h))
 
   operator-is : (o : Operator) → operatorRight N o ≡ true → fdrOperatorWords (encodeOperator G o) ≡ operatorBy ps o
-  unfolding fdrOperatorWords encodeOperator operatorBy operatorRight
+  unfolding fdrOperatorWords encodeOperator operatorBy
   operator-is o h =
-      ap₂ _++_ (counted-are (o .precondition) (list-low N (o .precondition) (and-left (literalList N (o .precondition)) (all (rowRight N) (o .rows)) h)))
-      (ap₂ (λ (n : ℕ) (l : List ℕ). n ∷ l) (length-map (o .rows) (encodeRow G))
-      (rows-are (o .rows) (and-right (literalList N (o .precondition)) (all (rowRight N) (o .rows)) h)))
+      ap₂ _++_ (counted-are (o .precondition) (pre-low N o h))
+      (ap₂ (λ (n : ℕ) (l : List ℕ). n ∷ l) (length-map (o .rows) (encodeRow G)) (rows-are (o .rows) (rows-right N o h)))
 
   -- all operators
   module _ where

@@ -1,30 +1,31 @@
 -- The initial values: the walk that lowers them, and what it makes of the groups. Assumes nothing.
 use mathlib.Core.Bool.{Bool, true, false, _||_, cond}
 use mathlib.Core.Logic.{_⊎_, inl, inr}
-use mathlib.Core.Path.{_≡_, refl, sym, _∙_, ap, ap₂}
-use mathlib.Core.List.{List, [], _∷_, _++_, append-assoc, map, List·Memᴰ, List·Memᴰ·head, List·Memᴰ·tail, List·Memᴰ·not-nil, List·Memᴰ·cases-cons}
-use Prim.Native.Nat.{ℕ, zero, suc, _+_, _-_, _*_, _/_, _≤_, _<_, min}
+use mathlib.Core.Path.{_≡_, refl, sym, _∙_, ap}
+use mathlib.Core.List.{List, [], _∷_, _++_, append-assoc, map}
+use mathlib.Core.List.{List·Memᴰ, List·Memᴰ·head, List·Memᴰ·tail, List·Memᴰ·not-nil, List·Memᴰ·cases-cons}
+use Prim.Native.Nat.{ℕ, suc, _+_, _-_, _*_, _≤_, _<_, min}
 use native.Mathlib.Decide.{ℕ-discrete}
 use native.Mathlib.Omega.{arith}
 use lib.Dec.{eqb, ltb}
-use lib.ListN.{length, getD, set, take, drop, length-map, length-set, length-append, length-take, length-drop, drop-of-length-le}
-use lib.Seq.{set-getD, sets, sets-eq, length-sets, getD-set-same, getD-set-other, getD-take, ext-getD, take-at, drop-at, length-take-le}
+use lib.ListN.{length, getD, set, take, drop, length-map, length-set, drop-of-length-le}
+use lib.Seq.{set-getD, sets-eq, getD-set-same, getD-set-other, getD-take, ext-getD, take-at, drop-at, length-take-le}
 use borrow.Author.Tests.{eq-eqb, ne-eqb, ltb-true}
-use Rattle.definitions.specs.Lists.{any, all, below, member}
+use Rattle.definitions.specs.Lists.{any, all, member}
 use Rattle.definitions.specs.Literal.{allBelow, stateOf}
 use Rattle.definitions.specs.Image.{Task, initialState}
 use Rattle.definitions.specs.Groups.{groupsBelow, groups, placeIn}
 use Rattle.definitions.specs.Encoding.{valueIn}
-use Rattle.definitions.proofs.ListLaws.{or-left, or-right, and-left, and-right, table-at}
+use Rattle.definitions.proofs.ListLaws.{or-left, or-right, or-assoc, and-left, and-right, table-at, getD-map-low}
 use Rattle.definitions.proofs.Walks.{left-here}
 use Rattle.definitions.proofs.GroupLaws.{in-mem, mem-in, all-below}
 use Rattle.definitions.proofs.PlaceLaws as places
-use Rattle.definitions.proofs.ListLaws.{getD-map-low}
 use Rattle.cover.specs.Join.{Placed}
 use Rattle.cover.specs.Cover.{Covered}
 use Rattle.cover.proofs.Joining.{at-variable, variable-at, variable-low}
 use Rattle.writing.specs.Writing.{Wrote}
-use Rattle.clause.proofs.ClauseLaws.{low-at}
+use Rattle.writing.proofs.Writes.{wrote-size, wrote-between}
+use Rattle.definitions.proofs.LiteralLaws.{low-at}
 use Rattle.reencoding.specs.Words.{atomsOf}
 use Rattle.reencoding.specs.Parts.{lower, lowered}
 
@@ -41,8 +42,8 @@ module _ (vs : List ℕ) (v x : ℕ) where
 -- ---- the walk over the true atoms
 module _ (places trues vs : List ℕ) (i : ℕ) where
   pub lowered-next :
-      (a v : ℕ) (vs′ : List ℕ) → i < length trues → a ≡ getD trues i 0 → v ≡ getD places (2 * a) 0 → vs′ ≡ lower vs v (getD places (2 * a + 1) 0)
-      → lowered places (drop i trues) vs ≡ lowered places (drop (i + 1) trues) vs′
+      (a v : ℕ) (vs′ : List ℕ) → i < length trues → a ≡ getD trues i 0 → v ≡ getD places (2 * a) 0
+      → vs′ ≡ lower vs v (getD places (2 * a + 1) 0) → lowered places (drop i trues) vs ≡ lowered places (drop (i + 1) trues) vs′
   unfolding lowered
   lowered-next a v vs′ h ea ev e = rw (left-here trues i 0 a ea h, e, ev)
 
@@ -50,7 +51,9 @@ module _ (places trues vs : List ℕ) (i : ℕ) where
   unfolding lowered
   lowered-end h = rw (drop-of-length-le trues {i = i} h)
 
-pub true-inside : (places trues : List ℕ) (i a : ℕ) → allBelow (atomsOf places) trues ≡ true → i < length trues → a ≡ getD trues i 0 → a < atomsOf places
+pub true-inside :
+    (places trues : List ℕ) (i a : ℕ) → allBelow (atomsOf places) trues ≡ true → i < length trues → a ≡ getD trues i 0
+    → a < atomsOf places
 true-inside places trues i a h low e = let k = low-at (atomsOf places) trues i h low in omega arith
 
 pub place-inside : (places : List ℕ) (a : ℕ) → a < atomsOf places → 2 * a + 1 < length places
@@ -66,9 +69,6 @@ lowered-length places (a ∷ trues) vs =
 
 -- ---- words that are changed where they were written
 module _ (t : List ℕ) (at : ℕ) (vs t′ : List ℕ) (end : ℕ) (w : Wrote t at vs t′ end) (room : at + length vs ≤ length t) where
-  wrote-is : t′ ≡ (take at t ++ vs) ++ drop (at + length vs) t
-  wrote-is = w .target ∙ sets-eq vs t at room
-
   front : length (take at t) ≡ at
   front = length-take-le at t (omega arith)
 
@@ -76,10 +76,10 @@ module _ (t : List ℕ) (at : ℕ) (vs t′ : List ℕ) (end : ℕ) (w : Wrote t
   words-inside = let n = w .next in omega arith
 
   pub words-end : end ≤ length t′
-  words-end = let n = w .next in let a = length-sets t at vs in rw (w .target) (omega arith)
+  words-end = let n = w .next in let a = wrote-size w in omega arith
 
   after : drop at t′ ≡ vs ++ drop (at + length vs) t
-  after = rw (wrote-is, append-assoc (take at t) vs (drop (at + length vs) t)) (drop-at (take at t) (vs ++ drop (at + length vs) t) at front)
+  after = rw (wrote-between room w, append-assoc (take at t) vs (drop (at + length vs) t)) (drop-at (take at t) (vs ++ drop (at + length vs) t) at front)
 
   pub part-is : take (end - at) (drop at t′) ≡ vs
   part-is =
@@ -88,7 +88,8 @@ module _ (t : List ℕ) (at : ℕ) (vs t′ : List ℕ) (end : ℕ) (w : Wrote t
       rw (e, after) (take-at vs (drop (at + length vs) t) (length vs) refl)
 
   front-stays : take at t′ ≡ take at t
-  front-stays = rw (wrote-is, append-assoc (take at t) vs (drop (at + length vs) t)) (take-at (take at t) (vs ++ drop (at + length vs) t) at front)
+  front-stays =
+      rw (wrote-between room w, append-assoc (take at t) vs (drop (at + length vs) t)) (take-at (take at t) (vs ++ drop (at + length vs) t) at front)
 
   back-stays : drop (end - at) (drop at t′) ≡ drop (at + length vs) t
   back-stays =
@@ -243,11 +244,7 @@ module _ (N : ℕ) (C : List (List ℕ)) (ps : List ℕ) (placed : Placed C N ps
       (length-set vs (getD ps (2 * a) 0) (min (getD vs (getD ps (2 * a) 0) 0) (getD ps (2 * a + 1) 0)) ∙ size)
       (holds-lower p vs a (ltb-true a N (and-left (ltb a N) (all (λ x. ltb x N) trues) low)) size h) v inside
       ∙ first-same (λ b. more p a b || any (eqb b) trues) (λ b. p b || (eqb b a || any (eqb b) trues)) 0 (getD G v [])
-      (λ b m. or-assoc (p b) (eqb b a) (any (eqb b) trues))
-    where
-      or-assoc : (x y z : Bool) → ((x || y) || z) ≡ (x || (y || z))
-      or-assoc true y z = refl
-      or-assoc false y z = refl
+      (λ b m. sym (or-assoc (p b) (eqb b a) (any (eqb b) trues)))
 
 -- ---- the values of the initial state
 value-first : (s : List ℕ) (i : ℕ) (g : List ℕ) → valueIn s i g ≡ firstBy (λ a. eqb (getD s a 0) 1) i g

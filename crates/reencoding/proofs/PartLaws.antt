@@ -1,99 +1,28 @@
--- Lengths of the parts, and the walks over the operators. Assumes nothing.
-use mathlib.Core.Bool.{true}
-use mathlib.Core.Path.{_≡_, refl, sym, _∙_, ap}
-use mathlib.Core.List.{List, [], _∷_, _++_, map}
-use Prim.Native.Nat.{ℕ, zero, suc, _+_, _-_, _*_, _≤_, _<_}
+-- Lengths of the parts, and the directory that they make. Assumes nothing.
+use mathlib.Core.Path.{_≡_, ap}
+use mathlib.Core.List.{List, [], _∷_, map}
+use Prim.Native.Nat.{ℕ, _+_, _-_, _*_, _≤_, _<_}
 use native.Mathlib.Omega.{arith}
-use lib.ListN.{length, getD, take, drop, length-append, length-map, drop-of-length-le}
-use Rattle.definitions.specs.Lists.{each}
-use Rattle.definitions.specs.Image.{Operator, Task, operatorRight}
+use lib.ListN.{length, take, length-map}
 use Rattle.definitions.specs.Literal.{mostAtoms}
+use Rattle.definitions.specs.Image.{mostOperators, Operator, Task, operatorSize, operatorsSize}
 use Rattle.definitions.specs.FdrImage.{mostFdrImage}
-use Rattle.definitions.specs.Step.{noOperator, operatorAt}
-use Rattle.definitions.specs.Image.{mostImage, mostOperators, operatorSize, operatorsSize}
-use Rattle.definitions.proofs.ImageSize.{Sizes, read-sizes}
-use Rattle.definitions.proofs.Walks.{left-here}
+use Rattle.definitions.specs.Step.{operatorAt}
 use Rattle.task.specs.Reads.{taskOf, Reads}
-use Rattle.task.specs.Walk.{operatorIn}
 use Rattle.task.specs.Post.{BlockGiven}
-use Rattle.task.proofs.Questions.{operator-right}
+use Rattle.task.proofs.BlockSizes.{task-sizes, size-is}
 use Rattle.writing.specs.Directory.{sum, directoryOf, sizeOf, DirectoryGiven}
 use Rattle.writing.specs.Writing.{Wrote}
 use Rattle.writing.proofs.Writes.{wrote-size, wrote-taken}
 use Rattle.writing.proofs.DirectoryLaws.{directory-length}
-use Rattle.reencoding.specs.Words.{operatorBy}
-use Rattle.reencoding.specs.Parts.{wordsOf, lengthsOf, operatorsBy}
-use Rattle.reencoding.proofs.SizeLaws.{block-sized}
-
-pub task-sizes : (w : List ℕ) → Reads w → Sizes (taskOf w)
-task-sizes w rd = read-sizes w (taskOf w) (rd .found)
+use Rattle.reencoding.specs.Parts.{wordsOf, lengthsOf}
 
 -- ---- one operator
-operator-some : (o : Operator) → 2 ≤ operatorSize o
-unfolding operatorSize
-operator-some o = omega arith
-
-operator-most : (os : List Operator) (i : ℕ) → i < length os → operatorSize (getD os i noOperator) ≤ operatorsSize os
-unfolding operatorsSize
-operator-most [] i h = absurd (omega arith)
-operator-most (o ∷ os) zero h = omega arith
-operator-most (o ∷ os) (suc i) h = let k = operator-most os i (omega arith) in omega arith
-
-module _ (w : List ℕ) (rd : Reads w) (i : ℕ) (h : i < length (taskOf w .operators)) (b : List ℕ) (given : BlockGiven b (taskOf w) i) where
-  size-is : operatorSize (operatorAt (taskOf w) i) ≡ length b
-  size-is = ap operatorSize (sym (given .operator)) ∙ block-sized b (given .parses)
-
-  pub block-some : 2 ≤ length b
-  block-some = let a = size-is in let c = operator-some (operatorAt (taskOf w) i) in omega arith
-
-  pub block-most : length b ≤ mostImage
-  unfolding operatorAt
-  block-most =
-      let a = size-is in
-      let c = operator-most (taskOf w .operators) i h in
-      let d = task-sizes w rd .words in
-      omega arith
-
-  pub block-words : 2 * length b - 2 ≡ wordsOf (operatorAt (taskOf w) i)
-  unfolding wordsOf
-  block-words = let a = size-is in omega arith
-
-  pub block-right : (n : ℕ) → taskOf w .atoms ≡ n → operatorRight n (operatorIn b) ≡ true
-  block-right n e = rw (given .operator, ← e) (operator-right w rd i h)
-
--- ---- all operators: what is left at i
-module _ (w : List ℕ) (i : ℕ) where
-  pub operators-left : i < length (taskOf w .operators) → drop i (taskOf w .operators) ≡ operatorAt (taskOf w) i ∷ drop (i + 1) (taskOf w .operators)
-  unfolding operatorAt
-  operators-left h = left-here (taskOf w .operators) i noOperator (getD (taskOf w .operators) i noOperator) refl h
-
-  pub operators-done : length (taskOf w .operators) ≤ i → drop i (taskOf w .operators) ≡ []
-  operators-done h = drop-of-length-le (taskOf w .operators) {i = i} h
-
-  pub lengths-next :
-      (x : ℕ) → x ≡ wordsOf (operatorAt (taskOf w) i) → i < length (taskOf w .operators)
-      → map wordsOf (drop i (taskOf w .operators)) ≡ x ∷ map wordsOf (drop (i + 1) (taskOf w .operators))
-  lengths-next x e h = rw (e, operators-left h)
-
-  pub lengths-end : length (taskOf w .operators) ≤ i → map wordsOf (drop i (taskOf w .operators)) ≡ []
-  lengths-end h = rw (operators-done h)
-
-  pub words-next :
-      (places : List ℕ) → i < length (taskOf w .operators) → operatorsBy places (drop i (taskOf w .operators)) ≡ operatorBy places
-      (operatorAt (taskOf w) i) ++ operatorsBy places (drop (i + 1) (taskOf w .operators))
-  unfolding operatorsBy each
-  words-next places h = rw (operators-left h)
-
-  pub words-room :
-      (places : List ℕ) → i < length (taskOf w .operators) → length (operatorsBy places (drop i (taskOf w .operators))) ≡ length
-      (operatorBy places (operatorAt (taskOf w) i)) + length (operatorsBy places (drop (i + 1) (taskOf w .operators)))
-  words-room places h =
-      ap length (words-next places h)
-      ∙ length-append (operatorBy places (operatorAt (taskOf w) i)) (operatorsBy places (drop (i + 1) (taskOf w .operators)))
-
-  pub words-end : (places : List ℕ) → length (taskOf w .operators) ≤ i → operatorsBy places (drop i (taskOf w .operators)) ≡ []
-  unfolding operatorsBy each
-  words-end places h = rw (operators-done h)
+pub block-words :
+    (w : List ℕ) (rd : Reads w) (i : ℕ) (h : i < length (taskOf w .operators)) (b : List ℕ) → BlockGiven b (taskOf w) i
+    → 2 * length b - 2 ≡ wordsOf (operatorAt (taskOf w) i)
+unfolding wordsOf
+block-words w rd i h b given = let a = size-is w rd i h b given in omega arith
 
 -- ---- the lengths of the parts
 lengths-count : (n : ℕ) (t : Task) → length (lengthsOf n t) ≡ 4 + length (t .operators)
@@ -121,9 +50,9 @@ module _ (w : List ℕ) (rd : Reads w) (n : ℕ) where
 
 -- ---- the directory: its numbers and offsets are words
 sum-most : (os : List Operator) → sum (map wordsOf os) ≤ 2 * operatorsSize os
-unfolding sum wordsOf operatorsSize
+unfolding sum wordsOf operatorSize operatorsSize
 sum-most [] = omega arith
-sum-most (o ∷ os) = let h = sum-most os in let k = operator-some o in omega arith
+sum-most (o ∷ os) = let h = sum-most os in omega arith
 
 module _ (w : List ℕ) (rd : Reads w) (n : ℕ) (few : n ≤ mostAtoms) where
   size-most : sizeOf (lengthsOf n (taskOf w)) < mostFdrImage

@@ -18,7 +18,7 @@ use Rattle.definitions.specs.Clauses.{width, rowOf, clauseWords}
 use Rattle.definitions.specs.Synthesis.{firstSet}
 use Rattle.definitions.proofs.ListLaws.{decide, and-right, and-both, all-of, map-of, table-length}
 use Rattle.literal.specs.Literal.{literalOf}
-use Rattle.clause.proofs.ClauseLaws.{low-at}
+use Rattle.definitions.proofs.LiteralLaws.{low-at}
 use Rattle.synthesis.specs.Rounds.{unitsFrom}
 
 some-width : 1 ≤ width

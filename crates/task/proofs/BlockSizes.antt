@@ -7,11 +7,11 @@ use Prim.Native.Nat.{ℕ, zero, suc, _+_, _-_, _*_, _≤_, _<_}
 use native.Mathlib.Omega.{arith}
 use lib.ListN.{length, getD, take, drop, length-take, length-drop, drop-of-length-le}
 use Rattle.definitions.specs.Lists.{all, each}
-use Rattle.definitions.specs.Literal.{allBelow, literalList}
+use Rattle.definitions.specs.Literal.{allBelow}
 use Rattle.definitions.specs.Image.{mostImage, Row, Operator, rowsSize, operatorSize, operatorsSize, rowsOf, operatorOf, rowRight, operatorRight}
 use Rattle.definitions.specs.Step.{noOperator, operatorAt}
 use Rattle.definitions.proofs.ListLaws.{and-left, and-right}
-use Rattle.definitions.proofs.LiteralLaws.{list-low}
+use Rattle.definitions.proofs.ReadLaws.{pre-low, rows-right}
 use Rattle.definitions.proofs.Walks.{left-here}
 use Rattle.definitions.proofs.TaskBack.{rows-words, operator-words}
 use Rattle.definitions.proofs.ImageSize.{rows-size, block-size, Sizes, read-sizes}
@@ -37,6 +37,20 @@ module _ (b : List ℕ) (p k : ℕ) (ok : parsesAt b p k ≡ true) where
   rows-sized =
       sym (rows-size (rowsAt b p k)) ∙ ap length (rows-words k (drop p b) (rowsAt b p k) (parsed b p k ok) .1) ∙ length-drop p b
 
+-- as the rows that are left are right, so are the first and the others
+module _ (N : ℕ) (xs : List Row) (r : Row) (rs : List Row) (e : xs ≡ r ∷ rs) (right : all (rowRight N) xs ≡ true) where
+  pub first-right : rowRight N r ≡ true
+  unfolding all
+  first-right = and-left (rowRight N r) (all (rowRight N) rs) (rw e at right)
+
+  pub others-right : all (rowRight N) rs ≡ true
+  unfolding all
+  others-right = and-right (rowRight N r) (all (rowRight N) rs) (rw e at right)
+
+-- a part of a block is no longer than the block
+pub part-short : (b : List ℕ) (k from : ℕ) → length (take k (drop from b)) ≤ length b
+part-short b k from = let a = length-take k (drop from b) in let c = length-drop from b in omega arith
+
 rows-many : (rs : List Row) → length rs ≤ rowsSize rs
 unfolding rowsSize
 rows-many [] = omega arith
@@ -52,19 +66,17 @@ module _ (b : List ℕ) (o : Operator) (end k : ℕ) (read : BlockRead b o end k
       omega arith
 
   pub precondition-few : length (take (end - 1) (drop 1 b)) ≤ length b
-  precondition-few = let a = length-take (end - 1) (drop 1 b) in let c = length-drop 1 b in omega arith
+  precondition-few = part-short b (end - 1) 1
 
   -- as many rows as the operator has
   pub rows-same : length (o .rows) ≡ k
   rows-same = ap length (sym (read .rows)) ∙ rows-counted b (end + 1) k (read .parses)
 
   pub operator-pre : (N : ℕ) → operatorRight N o ≡ true → allBelow (2 * N) (take (end - 1) (drop 1 b)) ≡ true
-  unfolding operatorRight
-  operator-pre N h = rw (read .precondition) (list-low N (o .precondition) (and-left (literalList N (o .precondition)) (all (rowRight N) (o .rows)) h))
+  operator-pre N h = rw (read .precondition) (pre-low N o h)
 
   pub operator-rows : (N : ℕ) → operatorRight N o ≡ true → all (rowRight N) (rowsAt b (end + 1) k) ≡ true
-  unfolding operatorRight
-  operator-rows N h = rw (read .rows) (and-right (literalList N (o .precondition)) (all (rowRight N) (o .rows)) h)
+  operator-rows N h = rw (read .rows) (rows-right N o h)
 
 -- the words of its operator
 block-of : (b : List ℕ) → blockParses b ≡ true → operatorOf b ≡ some (operatorIn b)

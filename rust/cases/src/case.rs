@@ -1,6 +1,6 @@
 //! One case: a call with what it is given, and the line that belongs to it.
 
-use reference::{agreement, checker, coding, dimacs, fdr, groups, kept, reencoding};
+use reference::{agreement, checker, coding, dimacs, fdr, groups, join, kept, reencoding};
 use reference::{state, synthesis, task, Reply};
 use std::fmt::Write;
 
@@ -64,6 +64,7 @@ impl Case {
             16 => agreement::agree(image, list, other, small).into(),
             17 => dimacs::write(image, list, small).into(),
             18 => dimacs::read(image, small, list).into(),
+            19 => join::join(image, list, other).into(),
             call => unreachable!("no call has the number {call}"),
         }
     }
@@ -76,7 +77,7 @@ impl Case {
         match self.call {
             1 | 2 | 4 | 15 | 17 => add_list(&mut line, &after.small),
             7 | 10 | 11 | 13 | 14 | 18 => add_list(&mut line, &after.list),
-            8 | 9 => add_list(&mut line, &after.other),
+            8 | 9 | 19 => add_list(&mut line, &after.other),
             _ => {}
         }
         (reply.number, line + "\n")

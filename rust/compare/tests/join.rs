@@ -65,27 +65,35 @@ impl Kinds {
     }
 }
 
-/// What would answer question 27 with "no", each cause for itself.
-fn causes(pair: &Pair, target: usize) -> Vec<&'static str> {
+/// What would answer question 27 with "no", each cause for itself, and by how much.
+fn causes(pair: &Pair, target: usize) -> Vec<(&'static str, usize)> {
     let sum = |place: usize| {
         let number = |image: &[u16]| usize::from(image.get(place).copied().unwrap_or(0));
         number(&pair.left) + number(&pair.right)
     };
     let words = pair.joined_words();
     let causes = [
-        ("atoms", sum(0) > 1024),
-        ("operators", sum(1) > 1024),
-        ("words", words > 8192),
-        ("target", words > target),
+        ("atoms", sum(0).saturating_sub(1024)),
+        ("operators", sum(1).saturating_sub(1024)),
+        ("words", words.saturating_sub(8192)),
+        ("target", words.saturating_sub(target)),
     ];
-    let due = causes.iter().filter(|(_, due)| *due);
-    due.map(|(name, _)| *name).collect()
+    causes.into_iter().filter(|&(_, over)| over > 0).collect()
+}
+
+/// Sees what caused 27, and whether it was one limit alone, passed by one.
+fn see_27(kinds: &mut Kinds, causes: &[(&'static str, usize)]) {
+    let names: Vec<&str> = causes.iter().map(|&(name, _)| name).collect();
+    kinds.see(format!("27: {}", names.join(", ")));
+    if let &[(name, 1)] = causes {
+        kinds.see(format!("passed by one: {name}"));
+    }
 }
 
 /// Sees of which image a refusal is, or what caused 27, and what has to wait for it.
 fn see_answer(kinds: &mut Kinds, pair: &Pair, target: usize, reply: Reply) {
     let [left, right] = [&pair.left, &pair.right].map(|image| task::read(image).err());
-    let causes = causes(pair, target).join(", ");
+    let causes = causes(pair, target);
     match (left, right) {
         (Some(left), right) => {
             kinds.see(format!("first refused {}", left.number));
@@ -96,7 +104,7 @@ fn see_answer(kinds: &mut Kinds, pair: &Pair, target: usize, reply: Reply) {
             kinds.see(format!("second refused {}", right.number));
             kinds.see_if(!causes.is_empty(), "second refused, 27 due");
         }
-        (None, None) if reply.number == 27 => kinds.see(format!("27: {causes}")),
+        (None, None) if reply.number == 27 => see_27(kinds, &causes),
         (None, None) => see_finding(kinds, pair, target),
     }
 }
@@ -122,6 +130,8 @@ fn see_finding(kinds: &mut Kinds, pair: &Pair, target: usize) {
     let operators = tasks[0].operators() + tasks[1].operators();
     kinds.see_if(operators == 1024, "1024 operators");
     kinds.see_if(words == 8192, "8192 words");
+    kinds.see_if(pair.left.len() == 8192, "joined, the first of 8192 words");
+    kinds.see_if(pair.right.len() == 8192, "joined, the second of 8192 words");
     kinds.see_if(words == target, "joined, target of the exact length");
     kinds.see_if(target > 8192, "joined, target of more than 8192 words");
 }
@@ -132,8 +142,9 @@ fn all_kinds() -> Vec<String> {
     let mut kinds: Vec<String> = sides
         .flat_map(|side| (1..=7).map(move |number| format!("{side} refused {number}")))
         .collect();
+    let causes = ["atoms", "operators", "words", "target"];
+    kinds.extend(causes.map(|cause| format!("passed by one: {cause}")));
     for subset in 1..16 {
-        let causes = ["atoms", "operators", "words", "target"];
         let some = (0..4).filter(|cause| subset >> cause & 1 == 1);
         let some: Vec<&str> = some.map(|cause| causes[cause]).collect();
         kinds.push(format!("27: {}", some.join(", ")));
@@ -149,6 +160,8 @@ fn all_kinds() -> Vec<String> {
         "1024 atoms",
         "1024 operators",
         "8192 words",
+        "joined, the first of 8192 words",
+        "joined, the second of 8192 words",
         "joined, target of the exact length",
         "joined, target of more than 8192 words",
     ];
@@ -366,6 +379,24 @@ fn lists_run_as_their_parts() {
     tally.finish(LEAST, &[0]);
 }
 
+/// Lists of the largest joined images, of 8,192 words.
+#[test]
+fn lists_of_the_largest() {
+    let rng = &mut Rng::new(906);
+    let mut tally = Tally::new("kb_join, for lists of the largest");
+    let mut runs = [0; 2];
+    for _ in 0..200 {
+        let (atoms, operators) = (rng.between(500, 1024), rng.between(2, 1024));
+        let joined = Joined::new(&mut tally, join::sized_pair(rng, atoms, operators, 8192));
+        assert_eq!(joined.image.len(), 8192);
+        let list = random_list(rng, &joined);
+        runs[usize::from(joined.assert_run(&list))] += 1;
+        joined.assert_steps(&list);
+    }
+    println!("kb_join: lists of the largest, refused and run {runs:?}");
+    assert!(runs.iter().all(|&count| count > 20));
+}
+
 /// A number from the joined M on, up to the highest, is refused with 19 in the joined
 /// task, and in the second with that number less the first's M.
 #[test]
@@ -408,6 +439,10 @@ fn mark_bytes(image: &[u16]) -> usize {
 
 /// The union of a set for each task: accepted if each is, with marks as 13 asks. Refused
 /// with 10 or 11, it names the first's place, or the second's behind all of the first.
+/// Document 02 §6 does not say when a union is refused. For 10 it is plain. A clause that
+/// is not kept in its task is not kept in the joined one either: the other set shares no
+/// atom with it, and is true initially, else 10 had come, so it makes no closure
+/// contradictory. The lowest places (document 02 §2) then are the part's own.
 fn assert_union(tally: &mut Tally, joined: &Joined, sets: [&[u16]; 2]) -> Reply {
     let Joined { left, right, image } = joined;
     let both = model::union(usize::from(left[0]), sets[0], sets[1]);

@@ -6,12 +6,13 @@ use native.Mathlib.Omega.{arith}
 use lib.ListN.{length, take}
 use lib.Seq.{length-take-le}
 use Rattle.task.specs.Reads.{taskOf}
+use Rattle.task.proofs.BlockSizes.{task-sizes}
 use Rattle.clause.specs.Rows.{clausesOf, ClausesRead}
 use Rattle.answer.proofs.Laws.{outcome-of}
 use Rattle.cover.specs.Cover.{Room, Covered}
 use Rattle.writing.specs.Directory.{sizeOf}
 use Rattle.reencoding.specs.Parts.{lengthsOf}
-use Rattle.reencoding.proofs.PartLaws.{task-sizes, lengths-few, lengths-taken, lengths-inside}
+use Rattle.reencoding.proofs.PartLaws.{lengths-few, lengths-taken, lengths-inside}
 use Rattle.reencoding.proofs.ImageLaws.{laid, image-length, encode-not, encode-done}
 use borrow.Author.Needs.{needs}
 use Rattle.reencoding.proofs.write_task.Statement.{statement}

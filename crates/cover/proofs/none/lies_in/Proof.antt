@@ -5,7 +5,7 @@ use lib.ListN.{length, drop}
 use borrow.Author.Tests.{not-true, not-false}
 use Rattle.definitions.specs.Lists.{all}
 use Rattle.definitions.proofs.Walks.{all-off, all-on, all-end}
-use Rattle.clause.proofs.ClauseLaws.{low-at}
+use Rattle.definitions.proofs.LiteralLaws.{low-at}
 use Rattle.cover.specs.None.{inGroup, liesIn}
 use borrow.Author.Needs.{needs}
 use Rattle.cover.proofs.none.lies_in.Statement.{statement}

@@ -2,7 +2,7 @@ use Prim.Native.Nat.{_<_}
 use mathlib.Core.Path.{_≡_, sym, _∙_}
 use native.Mathlib.Omega.{arith}
 use lib.ListN.{length}
-use Rattle.clause.proofs.ClauseLaws.{low-at}
+use Rattle.definitions.proofs.LiteralLaws.{low-at}
 use Rattle.cover.proofs.Omitting.{omit-lies, omit-not}
 use borrow.Author.Needs.{needs}
 use Rattle.cover.proofs.none.omit.Statement.{statement}

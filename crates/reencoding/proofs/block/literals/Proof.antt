@@ -2,7 +2,7 @@ use Prim.Native.Nat.{ℕ, _+_, _-_, _≤_}
 use native.Mathlib.Omega.{arith}
 use mathlib.Core.List.{List, _++_}
 use lib.ListN.{length, getD, drop}
-use Rattle.clause.proofs.ClauseLaws.{low-at}
+use Rattle.definitions.proofs.LiteralLaws.{low-at}
 use Rattle.writing.specs.Writing.{Writing}
 use Rattle.writing.proofs.Writes.{write-start, write-same, write-part, write-end, part-room}
 use Rattle.reencoding.specs.Words.{literalBy, literalsBy}

@@ -1,13 +1,12 @@
 use Rattle.task.specs.Walk.{rowsAt}
-use mathlib.Core.Path.{_≡_, sym, _∙_, ap, subst}
-use mathlib.Core.List.{List}
-use Prim.Native.Nat.{ℕ, _≤_, _<_, _-_, _+_}
+use mathlib.Core.Path.{_≡_, _∙_, ap}
+use Prim.Native.Nat.{_≤_, _-_, _+_}
 use native.Mathlib.Omega.{arith}
 use lib.ListN.{length, take, drop, length-append, length-set}
-use Rattle.writing.specs.Writing.{Wrote}
+use Rattle.task.proofs.BlockSizes.{block-few, precondition-few, operator-pre, operator-rows}
 use Rattle.writing.proofs.Writes.{wrote-word, wrote-both}
 use Rattle.reencoding.specs.Words.{countedBy, rowsBy}
-use Rattle.reencoding.proofs.SizeLaws.{block-few, precondition-few, operator-words, operator-pre, operator-rows}
+use Rattle.reencoding.proofs.SizeLaws.{operator-words}
 use borrow.Author.Needs.{needs}
 use Rattle.reencoding.proofs.block.operator.Statement.{statement}
 use Rattle.reencoding.proofs.block.operator.Tie as tie

@@ -4,7 +4,8 @@ use mathlib.Core.Path.{_≡_, _∙_}
 use native.Mathlib.Omega.{arith}
 use lib.ListN.{length, length-set}
 use Rattle.writing.proofs.Writes.{wrote-same, wrote-three}
-use Rattle.reencoding.proofs.WordLaws.{row-inside, row-conditions, row-length, row-words, counted-length}
+use Rattle.definitions.proofs.ReadLaws.{row-conditions}
+use Rattle.reencoding.proofs.WordLaws.{row-inside, row-length, row-words, counted-length}
 use borrow.Author.Needs.{needs}
 use Rattle.reencoding.proofs.block.row.Statement.{statement}
 use Rattle.reencoding.proofs.block.row.Tie as tie
@@ -22,7 +23,7 @@ room c =
     omega (arith, start c .pre .0 .room, row-length (a .places .now) (a .effect .code) (a .conditions .now))
 
 inside : (c : tie.After-sign) → 2 * c .before .atom .result + 1 < length (start c .args .places .now)
-inside c = omega (arith, c .before .atom .ensures, row-inside _ _ _ (start c .pre .1))
+inside c = omega (arith, c .before .atom .ensures, row-inside _ _ (start c .pre .1))
 
 -- where the conditions are written
 abbrev signed : tie.After-counted-arg → tie.After-sign
@@ -88,7 +89,7 @@ counted-requires c κs =
     let r = s .pre .0 .room in
     let a = row-length (s .args .places .now) (s .args .effect .code) (s .args .conditions .now) in
     let b = counted-length (s .args .places .now) (s .args .conditions .now) in
-    (record { low = s .pre .0 .low; room = simp length-set (omega arith) }, row-conditions _ _ _ (s .pre .1), s .pre .2)
+    (record { low = s .pre .0 .low; room = simp length-set (omega arith) }, row-conditions _ _ (s .pre .1), s .pre .2)
 
 same-length : tie.Need-same-length
 same-length c = c .before .before .counted .kept .1 .1 .0 ∙ simp length-set

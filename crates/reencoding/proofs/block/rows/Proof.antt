@@ -10,7 +10,8 @@ use Rattle.task.proofs.Blocks.{rows-none}
 use Rattle.writing.specs.Writing.{Writing}
 use Rattle.writing.proofs.Writes.{write-start, write-same, write-part, write-end, write-room}
 use Rattle.reencoding.specs.Words.{atomsOf, rowsBy}
-use Rattle.reencoding.proofs.WordLaws.{rows-next, rows-room, rows-first, rows-others, rows-nothing, part-short}
+use Rattle.task.proofs.BlockSizes.{part-short, first-right, others-right}
+use Rattle.reencoding.proofs.WordLaws.{rows-next, rows-room, rows-nothing}
 use borrow.Author.Needs.{needs}
 use Rattle.reencoding.proofs.block.rows.Statement.{statement}
 use Rattle.reencoding.proofs.block.rows.Tie as tie
@@ -70,7 +71,7 @@ row-requires-2 c κs =
     let first = rows-room (s .args .places .now) _ _ _ (r .ensures .row) in
     let part = part-short (s .args .block .now) (r .result .end - r .result .from) (r .result .from) in
     let short = s .pre .1 .short in
-    (record { low = s .pre .0 .low; room = omega arith }, rows-first (s .args .places .now) _ _ _ (r .ensures .row) _ (v .1), omega arith)
+    (record { low = s .pre .0 .low; room = omega arith }, first-right _ _ _ _ (r .ensures .row) (v .1), omega arith)
 
 sub-left : tie.Need-sub-left Inv-loop μ-loop
 sub-left c = search needs
@@ -84,7 +85,7 @@ loop-again c =
     let d = taken (w .before) in
     let v = at d .loop .inv in
     let r = d .row .ensures in
-    let others = rows-others (start (at d) .args .places .now) _ _ _ (r .row) _ (v .1) in
+    let others = others-right _ _ _ _ (r .row) (v .1) in
     (r .next, others, write-part (write-same (rows-next _ _ _ _ (r .row)) (v .2)) (w .row2 .ensures))
 
 same-length : tie.Need-same-length Inv-loop μ-loop

@@ -4,10 +4,10 @@ use Prim.Native.Nat.{_+_, _-_, _<_}
 use native.Mathlib.Omega.{arith}
 use lib.ListN.{length, drop, length-map}
 use Rattle.task.specs.Reads.{taskOf}
+use Rattle.task.proofs.BlockSizes.{made-next, made-end}
 use Rattle.writing.specs.Writing.{Writing}
 use Rattle.writing.proofs.Writes.{write-start, write-same, write-word, write-end, word-room}
 use Rattle.reencoding.specs.Parts.{wordsOf}
-use Rattle.reencoding.proofs.PartLaws.{lengths-next, lengths-end}
 use borrow.Author.Needs.{needs}
 use Rattle.reencoding.proofs.parts.block_lengths.Statement.{statement}
 use Rattle.reencoding.proofs.parts.block_lengths.Tie as tie
@@ -46,7 +46,7 @@ next :
     (c .block-size .result ∷ map wordsOf (drop (l .loop .i + 1) (taskOf (s .image .now) .operators)))
 next c =
     let l = at c in
-    write-same (lengths-next _ (l .loop .i) _ (c .block-size .ensures .0) (inside (turn c))) (l .loop .inv)
+    write-same (made-next _ (l .loop .i) wordsOf _ (c .block-size .ensures .0) (inside (turn c))) (l .loop .inv)
 
 room : (c : tie.After-block-size Inv-loop μ-loop) → at c .loop .to < length (at c .loop .lengths)
 room c =
@@ -91,7 +91,7 @@ returns : tie.Need-returns Inv-loop μ-loop
 returns c =
     let l = c .before in
     write-end
-    (write-same (lengths-end _ (l .loop .i) (omega (arith, c .loop-test .left, counted l .operators .ensures .0))) (l .loop .inv))
+    (write-same (made-end _ (l .loop .i) wordsOf (omega (arith, c .loop-test .left, counted l .operators .ensures .0))) (l .loop .inv))
 
 pub block-lengths-spec : {M : Type 1} → statement M
 block-lengths-spec =

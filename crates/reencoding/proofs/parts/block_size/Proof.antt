@@ -1,5 +1,6 @@
 use native.Mathlib.Omega.{arith}
-use Rattle.reencoding.proofs.PartLaws.{block-some, block-most, block-words}
+use Rattle.task.proofs.BlockSizes.{block-some, block-most}
+use Rattle.reencoding.proofs.PartLaws.{block-words}
 use borrow.Author.Needs.{needs}
 use Rattle.reencoding.proofs.parts.block_size.Statement.{statement}
 use Rattle.reencoding.proofs.parts.block_size.Tie as tie

@@ -4,8 +4,9 @@ use Prim.Native.Nat.{_*_, _<_}
 use native.Mathlib.Omega.{arith}
 use lib.ListN.{length}
 use Rattle.task.specs.Reads.{taskOf}
+use Rattle.task.proofs.BlockSizes.{task-sizes}
 use Rattle.writing.proofs.Writes.{wrote-same, wrote-both, wrote-size}
-use Rattle.reencoding.proofs.PartLaws.{task-sizes, lengths-parts}
+use Rattle.reencoding.proofs.PartLaws.{lengths-parts}
 use borrow.Author.Needs.{needs}
 use Rattle.reencoding.proofs.parts.lengths.Statement.{statement}
 use Rattle.reencoding.proofs.parts.lengths.Tie as tie
