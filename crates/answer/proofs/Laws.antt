@@ -2,7 +2,7 @@
 use mathlib.Core.Path.{_≡_, refl, sym, ap, _∙_}
 use mathlib.Core.List.{List}
 use Prim.Native.Nat.{ℕ}
-use Rattle.definitions.specs.Answer.{Refusal, Answer, finding, refused, verdict, Outcome, outcome, stateAfter, becomes, _>>=_}
+use Rattle.definitions.specs.Answer.{Refusal, Answer, finding, refused, verdict, Outcome, outcome, _>>=_}
 use Rattle.definitions.specs.Groups.{Written, written}
 use Rattle.definitions.proofs.AnswerLaws.{not-finding}
 

@@ -9,7 +9,7 @@ use native.Mathlib.Nat.{le-of-mul-le-mul-left}
 use native.Mathlib.Omega.{arith}
 use lib.ListN.{length}
 use borrow.Author.Tests.{le-leb}
-use Rattle.definitions.specs.Lists.{all, each}
+use Rattle.definitions.specs.Lists.{all}
 use Rattle.definitions.specs.Answer.{finding}
 use Rattle.definitions.specs.Literal.{complement, holdsIn, mostAtoms}
 use Rattle.definitions.specs.Image.{Row, Operator, Task, initialState, readTask}
@@ -25,7 +25,8 @@ use Rattle.definitions.proofs.Accepts.{width-pos, words-length, accepts
 use Rattle.definitions.proofs.TaskBack.{RightTask, right-of, read-of}
 use Rattle.definitions.proofs.JoinLaws.{shifted-of, complement-shift, holds-first, holds-second}
 use Rattle.definitions.proofs.JoinKept.{AllLow, kept-shift, kept-more, kept-untouched}
-use Rattle.definitions.proofs.JoinRead.{initial-long, joined-initial}
+use Rattle.definitions.proofs.JoinRead.{joined-initial}
+use Rattle.definitions.proofs.StateLaws.{initial-long}
 use Rattle.definitions.proofs.RowsRead.{RightSet, rows-right}
 use Rattle.definitions.proofs.CheckSound.{Checked, checked, clauses-low}
 use Rattle.definitions.proofs.JoinUnion.{AllGood, union-up, union-good, union-words}
@@ -112,7 +113,8 @@ module _ (t u : Task) (C D : List (List ℕ)) (rt : RightTask t) (ru : RightTask
   union-kept f m o mo = go (List·Memᴰ·append-cases C m) (List·Memᴰ·append-cases (t .operators) mo)
     where
       go :
-          List·Memᴰ f C ⊎ List·Memᴰ f (map (shifted (2 * N)) D) → List·Memᴰ o (t .operators) ⊎ List·Memᴰ o (map (shiftedOperator N) (u .operators))
+          List·Memᴰ f C ⊎ List·Memᴰ f (map (shifted (2 * N)) D)
+          → List·Memᴰ o (t .operators) ⊎ List·Memᴰ o (map (shiftedOperator N) (u .operators))
           → kept (N + L) U o f ≡ true
       go (inl k) (inl j) = keeps-first o j f k
       go (inl k) (inr j) =

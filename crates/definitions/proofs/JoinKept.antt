@@ -83,7 +83,8 @@ among n C f m = map-in (shifted (2 * n)) m
 module _ (n N K : ℕ) (room : n + N ≤ K) (C D : List (List ℕ)) (lowC : AllLow N C) (there : Among n C D) where
   -- the closure is monotone in clauses and literals, and commutes with shifting
   pub closure-shift :
-      (ls ms : List ℕ) → allBelow (2 * N) ls ≡ true → Within n ls ms → (l : ℕ) → has (closure N C ls) l ≡ true → has (closure K D ms) (2 * n + l) ≡ true
+      (ls ms : List ℕ) → allBelow (2 * N) ls ≡ true → Within n ls ms → (l : ℕ) → has (closure N C ls) l ≡ true
+      → has (closure K D ms) (2 * n + l) ≡ true
   closure-shift ls ms low sub l e = sym (has-drop (2 * n) T l) ∙ closure-least N C ls (drop (2 * n) T) holds closed l e
     where
       T : List ℕ
@@ -102,7 +103,8 @@ module _ (n N K : ℕ) (room : n + N ≤ K) (C D : List (List ℕ)) (lowC : AllL
           ∙ closure-closed K D ms (shifted (2 * n) f) (there f m) (2 * n + l) (omega arith) (forces-shift n T l f ∙ e)
 
   pub contradictory-shift :
-      (ls ms : List ℕ) → allBelow (2 * N) ls ≡ true → Within n ls ms → contradictory N (closure N C ls) ≡ true → contradictory K (closure K D ms) ≡ true
+      (ls ms : List ℕ) → allBelow (2 * N) ls ≡ true → Within n ls ms → contradictory N (closure N C ls) ≡ true
+      → contradictory K (closure K D ms) ≡ true
   unfolding contradictory
   contradictory-shift ls ms low sub e =
       let S = closure N C ls in
@@ -200,7 +202,8 @@ module _ (n N K : ℕ) (room : n + N ≤ K) (C D : List (List ℕ)) (lowC : AllL
 
     -- another literal of f, shifted
     other-shift :
-        (f : List ℕ) (l m : ℕ) → List·Memᴰ m (keep (λ m. not (eqb m l)) f) → List·Memᴰ (2 * n + m) (keep (λ m. not (eqb m (2 * n + l))) (shifted (2 * n) f))
+        (f : List ℕ) (l m : ℕ) → List·Memᴰ m (keep (λ m. not (eqb m l)) f)
+        → List·Memᴰ (2 * n + m) (keep (λ m. not (eqb m (2 * n + l))) (shifted (2 * n) f))
     other-shift f l m k =
         let q = keep-of (λ m. not (eqb m l)) f k in
         keep-in (λ m. not (eqb m (2 * n + l))) (shifted-in (2 * n) (q .0)) (ap not (eqb-shift (2 * n) m l) ∙ q .1)
@@ -319,7 +322,8 @@ kept-more N K room C D lowC there o right f e =
 
 -- an operator whose rows touch no literal of f keeps it
 pub kept-untouched :
-    (K : ℕ) (D : List (List ℕ)) (o : Operator) (f : List ℕ) → ((l : ℕ) → List·Memᴰ l f → (r : Row) → List·Memᴰ r (o .rows) → r .effect ≡ complement l → ⊥)
+    (K : ℕ) (D : List (List ℕ)) (o : Operator) (f : List ℕ)
+    → ((l : ℕ) → List·Memᴰ l f → (r : Row) → List·Memᴰ r (o .rows) → r .effect ≡ complement l → ⊥)
     → kept K D o f ≡ true
 unfolding kept rowsWith
 kept-untouched K D o f apart =

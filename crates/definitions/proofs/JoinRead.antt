@@ -47,7 +47,8 @@ module _ (N L : ℕ) where
       and-both
       (and-both
       (ascending-join (2 * N) ls ms (up N ls h) (list-low N ls h) (up L ms g))
-      (subst (λ (k : ℕ). allBelow k (ls ++ shifted (2 * N) ms) ≡ true) (omega arith) (below-join (2 * N) (2 * L) ls ms (list-low N ls h) (list-low L ms g))))
+      (subst (λ (k : ℕ). allBelow k (ls ++ shifted (2 * N) ms) ≡ true) (omega arith)
+      (below-join (2 * N) (2 * L) ls ms (list-low N ls h) (list-low L ms g))))
       (subst (λ (l : List ℕ). ascending l ≡ true) (sym (map-append atom ls (shifted (2 * N) ms) ∙ ap (λ l. map atom ls ++ l) (atoms-shift N ms)))
       (ascending-join N (map atom ls) (map atom ms) (apart N ls h) (atoms-low N ls (list-low N ls h)) (apart L ms g)))
     where
@@ -110,10 +111,6 @@ joined-right t u r q =
         let k = map-of (shiftedOperator (t .atoms)) (u .operators) m in
         subst (λ (z : Operator). operatorRight (t .atoms + u .atoms) z ≡ true) (sym (k .same))
         (operator-second (t .atoms) (u .atoms) (k .it) (q .operators (k .it) (k .mem)))
-
-pub initial-long : (t : Task) → length (initialState t) ≡ t .atoms
-unfolding initialState
-initial-long t = table-length (stateOf (t .initial)) (t .atoms)
 
 -- the joined initial state is the two initial states one after the other
 pub joined-initial : (t u : Task) → RightTask t → initialState (joined t u) ≡ initialState t ++ initialState u
@@ -258,60 +255,46 @@ some-atom : (t u : Task) → 1 ≤ t .atoms → 1 ≤ joined t u .atoms
 unfolding joined
 some-atom t u h = omega arith
 
--- what a finding of the join says: both images read, and its words read as the joined task
+-- what a join writes
+abbrev pub joinWritten : Task → Task → Written
+joinWritten t u = record { count = length (taskWords (joined t u)); words = taskWords (joined t u) }
+
+-- what a finding of the join says: both images read, 27 is answered yes, and the words are those of the joined task
 pub record Joins (w v : List ℕ) (target : ℕ) (x : Written) : Type 0 where
   pub first : Task
   pub second : Task
   pub read-first : readTask w ≡ finding first
   pub read-second : readTask v ≡ finding second
-  pub words : x .words ≡ taskWords (joined first second)
-  pub reads : readTask (x .words) ≡ finding (joined first second)
-  pub count : x .count ≡ length (x .words)
-  pub long : x .count + 6 ≡ length w + length v
-  pub fits : x .count ≤ target
+  pub fits : Fits (joined first second) target
+  pub same : joinWritten first second ≡ x
 
 module _ (w v : List ℕ) (target : ℕ) (t u : Task) (readt : readTask w ≡ finding t) (readu : readTask v ≡ finding u) where
-  abbrev ws : List ℕ
-  ws = taskWords (joined t u)
-
   abbrev first-read : Read w t
   first-read = read-of w t readt
 
   abbrev second-read : Read v u
   second-read = read-of v u readu
 
-  pub join-long : length ws + 6 ≡ length w + length v
+  pub join-long : length (taskWords (joined t u)) + 6 ≡ length w + length v
   join-long = joined-long t u ∙ ap₂ (λ a b. length a + length b) (first-read .words) (second-read .words)
 
-  join-reads : Fits (joined t u) target → readTask ws ≡ finding (joined t u)
+  pub join-reads : Fits (joined t u) target → readTask (taskWords (joined t u)) ≡ finding (joined t u)
   join-reads f =
       read-words (joined t u) (of-right (joined t u) (joined-right t u (right-of t (first-read .right)) (right-of u (second-read .right))))
       (fits-within (joined t u) target (some-atom t u (sizes-of t (first-read .within) .some-atom)) f)
 
-  joins : Fits (joined t u) target → Joins w v target (record { count = length ws; words = ws })
-  joins f =
-      record {
-        first = t;
-        second = u;
-        read-first = readt;
-        read-second = readu;
-        words = refl;
-        reads = join-reads f;
-        count = refl;
-        long = join-long;
-        fits = f .room;
-      }
-
-  answer-joins : (x : Written) → joinAnswer t u target ≡ finding x → Joins w v target x
-  unfolding joinAnswer ask
-  answer-joins x e =
-      let q = bind-of (askAt 27 0 (joinFits (joined t u) target)) (λ _. finding (record { count = length ws; words = ws })) x e in
-      let f = fits-of (joined t u) target (ask-of 27 0 (joinFits (joined t u) target) (q .0) (q .1)) in
-      subst (λ (z : Written). Joins w v target z) (same-finding (record { count = length ws; words = ws }) x (q .2)) (joins f)
-
 pub join-of : (w v : List ℕ) (target : ℕ) (x : Written) → joinCall w v target ≡ finding x → Joins w v target x
-unfolding joinCall
+unfolding joinCall joinAnswer ask
 join-of w v target x e =
     let q = bind-of (readTask w) _ x e in
     let r = bind-of (readTask v) _ x (q .2) in
-    answer-joins w v target (q .0) (r .0) (q .1) (r .1) x (r .2)
+    let J = joined (q .0) (r .0) in
+    let k = bind-of (askAt 27 0 (joinFits J target)) (λ _. finding (joinWritten (q .0) (r .0))) x (r .2) in
+    record {
+      first = q .0;
+      second = r .0;
+      read-first = q .1;
+      read-second = r .1;
+      fits = fits-of J target (ask-of 27 0 (joinFits J target) (k .0) (k .1));
+      same = same-finding (joinWritten (q .0) (r .0)) x (k .2);
+    }

@@ -1,33 +1,30 @@
 -- A list of numbers runs in the joined task exactly if each task's own part of it runs there. Assumes nothing.
-use mathlib.Core.Bool.{Bool, true, false, _&&_, false≢true}
+use mathlib.Core.Bool.{Bool, true, false, _&&_}
 use mathlib.Core.Logic.{_⊎_, inl, inr}
 use mathlib.Core.Path.{_≡_, refl, sym, _∙_, ap, ap₂, subst}
 use mathlib.Core.List.{List, [], _∷_, _++_, map}
-use Prim.Native.Nat.{ℕ, suc, _+_, _-_, _*_, _<_}
+use Prim.Native.Nat.{ℕ, _+_, _-_, _*_, _<_}
 use native.Mathlib.Omega.{arith}
 use lib.Dec.{ltb}
-use lib.ListN.{length, getD, length-append, length-map, List·getD-append, List·getD-map}
+use lib.ListN.{length, getD, length-append, List·getD-append, List·getD-map}
 use lib.Seq.{ext-getD, getD-append-add}
 use borrow.Author.Tests.{ltb-true, ltb-false, lt-ltb}
 use Rattle.definitions.specs.Lists.{all, keep, member}
-use Rattle.definitions.specs.Answer.{Answer, finding, refused, verdict, outcome, stateAfter, ask, askAt, _>>=_, isFinding}
-use Rattle.definitions.specs.StepLists.{walk, verdicts, runFrom, runs}
+use Rattle.definitions.specs.Answer.{Answer, finding, refused, verdict, stateAfter, ask, askAt, _>>=_, isFinding}
+use Rattle.definitions.specs.StepLists.{walk, verdicts, runs}
 use Rattle.definitions.specs.Literal.{allBelow, allTrue}
 use Rattle.definitions.specs.Image.{Operator, Task, operatorRight}
 use Rattle.definitions.specs.Step.{fires, effects, applicable, after, result, noOperator, operatorAt, step}
 use Rattle.definitions.specs.Join.{shifted, shiftedRow, shiftedOperator, joined, firstPart, secondPart}
-use Rattle.definitions.proofs.ListLaws.{decide, all-at, keep-of, map-of, table-length, getD-mem, and-assoc, keep-agree}
+use Rattle.definitions.proofs.ListLaws.{decide, all-at, keep-of, map-of, getD-mem, and-assoc, keep-agree}
 use Rattle.definitions.proofs.EncodeLaws.{keep-map}
 use Rattle.definitions.proofs.StepsAlike.{map-map}
 use Rattle.definitions.proofs.ReadLaws.{pre-low, effect-low, conditions-low}
-use Rattle.definitions.proofs.StepLaws.{value-at}
+use Rattle.definitions.proofs.StepLaws.{untouched, result-length, value-at}
 use Rattle.definitions.proofs.TaskBack.{RightTask}
+use Rattle.definitions.proofs.JoinRead.{joined-count}
 use Rattle.definitions.proofs.JoinLaws.{ltb-shift, member-shift, member-under, member-over, value-first, value-second, all-first, all-second}
 use Rattle.definitions.proofs.LiteralLaws.{below-all}
-
-pub result-length : (s : List ℕ) (o : Operator) → length (result s o) ≡ length s
-unfolding result
-result-length s o = table-length (after s (effects s o)) (length s)
 
 both-lengths : (a b c d : List ℕ) → length a ≡ length c → length b ≡ length d → length (a ++ b) ≡ length (c ++ d)
 both-lengths a b c d e f = length-append a b ∙ ap₂ (λ x y. x + y) e f ∙ sym (length-append c d)
@@ -45,14 +42,10 @@ same-state n x y e first second = ext-getD 0 x y e (λ a h. go a h (decide (ltb 
         let z : n + (a - n) ≡ a = omega arith in
         subst (λ (b : ℕ). getD x b 0 ≡ getD y b 0) z (second (a - n) (omega arith))
 
--- an atom after effects that do not name it
-after-none : (s es : List ℕ) (a : ℕ) → member (2 * a) es ≡ false → member (2 * a + 1) es ≡ false → after s es a ≡ getD s a 0
-unfolding after
-after-none s es a p q = rw (p, q)
-
 -- an atom after the same effects, shifted, and the same value
 after-alike :
-    (s v es fs : List ℕ) (a b : ℕ) → member (2 * a) es ≡ member (2 * b) fs → member (2 * a + 1) es ≡ member (2 * b + 1) fs → getD s a 0 ≡ getD v b 0
+    (s v es fs : List ℕ) (a b : ℕ) → member (2 * a) es ≡ member (2 * b) fs → member (2 * a + 1) es ≡ member (2 * b + 1) fs
+    → getD s a 0 ≡ getD v b 0
     → after s es a ≡ after v fs b
 unfolding after
 after-alike s v es fs a b p q r = rw (p, q, r)
@@ -87,7 +80,7 @@ module _ (n : ℕ) (s v : List ℕ) (len : length s ≡ n) (o : Operator) (right
       (λ b low. let k = result-length (s ++ v) o in
       value-at (s ++ v) o (n + b) (omega arith)
       ∙ ap (λ es. after (s ++ v) es (n + b)) effects-first
-      ∙ after-none (s ++ v) (effects s o) (n + b)
+      ∙ untouched (s ++ v) (effects s o) (n + b)
       (member-over (2 * n) (2 * (n + b)) (effects s o) effects-low (omega arith))
       (member-over (2 * n) (2 * (n + b) + 1) (effects s o) effects-low (omega arith))
       ∙ value-second n s v len b
@@ -109,7 +102,7 @@ module _ (n : ℕ) (s v : List ℕ) (len : length s ≡ n) (o : Operator) where
       (λ a h low. let k = result-length (s ++ v) (shiftedOperator n o) in
       value-at (s ++ v) (shiftedOperator n o) a (omega arith)
       ∙ ap (λ es. after (s ++ v) es a) effects-second
-      ∙ after-none (s ++ v) (shifted (2 * n) (effects v o)) a
+      ∙ untouched (s ++ v) (shifted (2 * n) (effects v o)) a
       (member-under (2 * n) (2 * a) (effects v o) (omega arith))
       (member-under (2 * n) (2 * a + 1) (effects v o) (omega arith))
       ∙ value-first n s v len a h
@@ -126,7 +119,9 @@ module _ (n : ℕ) (s v : List ℕ) (len : length s ≡ n) (o : Operator) where
       (value-second n s v len b)
       ∙ sym (value-second n s (result v o) len b ∙ value-at v o b (omega arith)))
 
-pre-second : (n : ℕ) (s v : List ℕ) → length s ≡ n → (o : Operator) → allTrue (s ++ v) (shiftedOperator n o .precondition) ≡ allTrue v (o .precondition)
+pre-second :
+    (n : ℕ) (s v : List ℕ) → length s ≡ n → (o : Operator)
+    → allTrue (s ++ v) (shiftedOperator n o .precondition) ≡ allTrue v (o .precondition)
 unfolding shiftedOperator
 pre-second n s v len o = all-second n s v len (o .precondition)
 
@@ -179,12 +174,6 @@ module _ (t u : Task) (right : RightTask t) (s v : List ℕ) (len : length s ≡
   abbrev M : ℕ
   M = length (t .operators)
 
-  joined-count : length (joined t u .operators) ≡ length (t .operators) + length (u .operators)
-  unfolding joined
-  joined-count =
-      length-append (t .operators) (map (shiftedOperator (t .atoms)) (u .operators))
-      ∙ ap (λ k. length (t .operators) + k) (length-map (u .operators) (shiftedOperator (t .atoms)))
-
   operator-first : (i : ℕ) → i < M → operatorAt (joined t u) i ≡ operatorAt t i
   unfolding operatorAt joined
   operator-first i h = List·getD-append (t .operators) (map (shiftedOperator (t .atoms)) (u .operators)) noOperator i h
@@ -214,7 +203,7 @@ module _ (t u : Task) (right : RightTask t) (s v : List ℕ) (len : length s ≡
 
       there : ltb i (length (joined t u .operators)) ≡ ltb i M
       there =
-          let c = joined-count in
+          let c = joined-count t u in
           lt-ltb i (length (joined t u .operators)) (omega arith) ∙ sym (lt-ltb i M h)
 
   -- a number of the second, the first's operators before it: the step of the second, behind the first's state
@@ -231,7 +220,7 @@ module _ (t u : Task) (right : RightTask t) (s v : List ℕ) (len : length s ≡
       o = operatorAt u j
 
       there : ltb (M + j) (length (joined t u .operators)) ≡ ltb j (length (u .operators))
-      there = ap (ltb (M + j)) joined-count ∙ ltb-shift M j (length (u .operators))
+      there = ap (ltb (M + j)) (joined-count t u) ∙ ltb-shift M j (length (u .operators))
 
 -- ---- lists of numbers
 -- an answer b that is a, with f of its state
@@ -345,37 +334,8 @@ module _ (t u : Task) where
       go true e rec = turn-first right s v len i is e (rec (stateAfter s (step t s i)) v (step-length t s i ∙ len))
       go false e rec = turn-second right s v len i is e (rec s (stateAfter v (step u v (i - length (t .operators)))) len)
 
--- ---- from the initial states, by the calls on the images
+-- the states of a list are as long as the first
 pub walk-length : (t : Task) (is s : List ℕ) → length (walk (step t) s is) ≡ length s
 unfolding walk
 walk-length t [] s = refl
 walk-length t (i ∷ is) s = walk-length t is (stateAfter s (step t s i)) ∙ step-length t s i
-
--- a list run, by its steps
-module _ (next : List ℕ → ℕ → Answer (List ℕ)) where
-  pub run-runs : (is s : List ℕ) (k : ℕ) → isFinding (runFrom next s k is .answer) ≡ runs next s is
-  unfolding runs verdicts runFrom all isFinding verdict stateAfter outcome
-  run-runs [] s k = refl
-  run-runs (i ∷ is) s k = go (next s i) refl (λ s k. run-runs is s k)
-    where
-      go :
-          (a : Answer (List ℕ)) → next s i ≡ a → ((s : List ℕ) (k : ℕ) → isFinding (runFrom next s k is .answer) ≡ runs next s is)
-          → isFinding (runFrom next s k (i ∷ is) .answer) ≡ runs next s (i ∷ is)
-      go (finding s′) e rec = rw (e, runFrom) (rec s′ (suc k))
-      go (refused r) e rec = rw (e, runFrom)
-
-  -- a list that runs makes all its steps
-  pub run-all : (is s : List ℕ) (k : ℕ) → runs next s is ≡ true → runFrom next s k is ≡ outcome (finding (k + length is)) (walk next s is)
-  unfolding runs verdicts runFrom all isFinding verdict stateAfter outcome walk
-  run-all [] s k h = ap (λ n. outcome (finding n) s) (omega arith)
-  run-all (i ∷ is) s k h = go (next s i) refl (λ s k h. run-all is s k h)
-    where
-      go :
-          (a : Answer (List ℕ)) → next s i ≡ a
-          → ((s : List ℕ) (k : ℕ) → runs next s is ≡ true → runFrom next s k is ≡ outcome (finding (k + length is)) (walk next s is))
-          → runFrom next s k (i ∷ is) ≡ outcome (finding (k + suc (length is))) (walk next s (i ∷ is))
-      go (finding s′) e rec =
-          let h′ : runs next s′ is ≡ true = sym (ap (λ a. isFinding (verdict a) && runs next (stateAfter s a) is) e) ∙ h in
-          rw (e, runFrom)
-          (rec s′ (suc k) h′ ∙ ap (λ n. outcome (finding n) (walk next s′ is)) (omega arith))
-      go (refused r) e rec = absurd (false≢true (sym (ap (λ a. isFinding (verdict a) && runs next (stateAfter s a) is) e) ∙ h))

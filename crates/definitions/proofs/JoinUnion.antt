@@ -36,7 +36,10 @@ module _ (n L : ℕ) (few : n + L ≤ mostAtoms) where
   word-less : (x y : ℕ) → Word L x → Word L y → x < y → shiftedWord (2 * n) x < shiftedWord (2 * n) y
   unfolding Word fill
   word-less x y (inl a) (inl b) h = let p = word-literal x a in let q = word-literal y b in omega arith
-  word-less x y (inl a) (inr b) h = let p = word-literal x a in let q : shiftedWord (2 * n) y ≡ 65535 = ap (shiftedWord (2 * n)) b ∙ word-fill in omega arith
+  word-less x y (inl a) (inr b) h =
+      let p = word-literal x a in
+      let q : shiftedWord (2 * n) y ≡ 65535 = ap (shiftedWord (2 * n)) b ∙ word-fill in
+      omega arith
   word-less x y (inr a) (inl b) h = absurd (omega arith)
   word-less x y (inr a) (inr b) h = absurd (omega arith)
 
@@ -84,8 +87,8 @@ module _ (n L : ℕ) (few : n + L ≤ mostAtoms) where
       (λ x y m k. word-less x y (row-words f p x m) (row-words g q y k)) (less-of (rowOf f) (rowOf g) h))
 
   from-shift :
-      (f :
-      List ℕ) (D : List (List ℕ)) → allBelow (2 * L) f ≡ true → Lows D → upFrom f D ≡ true → upFrom (shifted (2 * n) f) (shiftedClauses n D) ≡ true
+      (f : List ℕ) (D : List (List ℕ)) → allBelow (2 * L) f ≡ true → Lows D → upFrom f D ≡ true
+      → upFrom (shifted (2 * n) f) (shiftedClauses n D) ≡ true
   unfolding upFrom shiftedClauses
   from-shift f [] p q u = refl
   from-shift f (g ∷ D) p q u =
@@ -150,7 +153,8 @@ module _ (N L : ℕ) (few : N + L ≤ mostAtoms) (C D : List (List ℕ)) (goodC 
           (C D : List (List ℕ)) → AllGood N C → AllGood L D → up C ≡ true
           → up D ≡ true → up (C ++ shiftedClauses N D) ≡ true
       go [] [] p q u v = refl
-      go [] (g ∷ D) p q u v = from-shift N L few g D (list-low L g (q g (List·Memᴰ·head refl) .list)) (λ h m. list-low L h (q h (List·Memᴰ·tail m) .list)) v
+      go [] (g ∷ D) p q u v =
+          from-shift N L few g D (list-low L g (q g (List·Memᴰ·head refl) .list)) (λ h m. list-low L h (q h (List·Memᴰ·tail m) .list)) v
       go (f ∷ C) D p q u v = from-union f C (p f (List·Memᴰ·head refl)) (λ h m. p h (List·Memᴰ·tail m)) D q u v
 
   pub union-good : (f : List ℕ) → List·Memᴰ f (union N C D) → GoodClause (N + L) width f

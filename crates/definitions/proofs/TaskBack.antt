@@ -268,8 +268,8 @@ pair-there w i h =
 
 -- k pairs from pair i stand where the parts' pairs stand
 pairs-there :
-    (w :
-    List ℕ) (k i at : ℕ) → 2 + 2 * (i + k) ≤ length w → chained w i at k ≡ true → take (2 * k) (drop (2 + 2 * i) w) ≡ pairWords at (partsFrom w i k)
+    (w : List ℕ) (k i at : ℕ) → 2 + 2 * (i + k) ≤ length w → chained w i at k ≡ true
+    → take (2 * k) (drop (2 + 2 * i) w) ≡ pairWords at (partsFrom w i k)
 unfolding chained partsFrom range pairWords sumLengths
 pairs-there w zero i at h c = refl
 pairs-there w (suc k) i at h c =
@@ -291,7 +291,8 @@ words-there w (suc k) i at c =
     let c1 = eqb-true (offsetAt w i) at (and-left (eqb (offsetAt w i) at) (chained w (suc i) (at + lengthAt w i) k) c) in
     let c2 = and-right (eqb (offsetAt w i) at) (chained w (suc i) (at + lengthAt w i) k) c in
     sym (take-append-drop (lengthAt w i) (drop at w))
-    ∙ ap₂ (λ p q. p ++ q) (ap (λ j. take (lengthAt w i) (drop j w)) (sym c1)) (drop-drop (lengthAt w i) at w ∙ words-there w k (suc i) (at + lengthAt w i) c2)
+    ∙ ap₂ (λ p q. p ++ q) (ap (λ j. take (lengthAt w i) (drop j w)) (sym c1))
+    (drop-drop (lengthAt w i) at w ∙ words-there w k (suc i) (at + lengthAt w i) c2)
 
 parts-count : (w : List ℕ) (i k : ℕ) → length (partsFrom w i k) ≡ k
 unfolding partsFrom range
@@ -313,8 +314,8 @@ image-packed w k d =
     ∙ ap (λ m. getD w 0 0 ∷ (getD w 1 0 ∷ (pairWords (2 + 2 * m) (partsFrom w 0 k) ++ all-words (partsFrom w 0 k)))) (sym n)
 
 written-back :
-    (w :
-    List ℕ) (os : List Operator) → length os ≡ getD w 1 0 → map operatorWords os ≡ partsFrom w 2 (getD w 1 0) → directory w (getD w 1 0 + 2) ≡ true
+    (w : List ℕ) (os : List Operator) → length os ≡ getD w 1 0 → map operatorWords os ≡ partsFrom w 2 (getD w 1 0)
+    → directory w (getD w 1 0 + 2) ≡ true
     → taskWords (record { atoms = getD w 0 0; initial = part w 0; goal = part w 1; operators = os }) ≡ w
 unfolding partsFrom range taskParts
 written-back w os n b d =

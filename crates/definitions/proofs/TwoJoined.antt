@@ -1,133 +1,26 @@
 -- Request 6 holds: the join of two images is read, accepted and run together. Assumes nothing.
-use mathlib.Core.Bool.{Bool, true, false, _&&_, cond}
+use mathlib.Core.Bool.{true, false, _&&_}
 use mathlib.Core.Path.{_≡_, refl, sym, _∙_, ap, ap₂, subst}
-use mathlib.Core.List.{List, [], _∷_, _++_, map, List·Memᴰ, List·Memᴰ·head, List·Memᴰ·tail}
-use Prim.Native.Nat.{ℕ, zero, suc, _+_, _*_, _<_}
-use native.Mathlib.Omega.{arith}
-use lib.Dec.{eqb, ltb}
-use lib.ListN.{length, getD}
-use borrow.Author.Tests.{eqb-true, eq-eqb}
-use Rattle.definitions.specs.Lists.{all, below, member}
-use Rattle.definitions.specs.Answer.{Refusal, Answer, finding, refused, refuse, Outcome, outcome, ask, askAt, _>>=_, isFinding}
-use Rattle.definitions.specs.StepLists.{walk, runFrom, notRun, runs}
-use Rattle.definitions.specs.Literal.{allBelow, isState, allTrue, stateOf}
-use Rattle.definitions.specs.Image.{Operator, Task, initialState, readTask}
-use Rattle.definitions.specs.Step.{effects, after, result, operatorAt, step, stepTask, goalTask, runTask}
+use mathlib.Core.List.{List, _++_}
+use Prim.Native.Nat.{ℕ, _+_}
+use lib.ListN.{length}
+use Rattle.definitions.specs.Answer.{Refusal, finding, refused, refuse, Outcome, outcome, ask, askAt, _>>=_, isFinding}
+use Rattle.definitions.specs.StepLists.{walk, runs}
+use Rattle.definitions.specs.Literal.{allTrue}
+use Rattle.definitions.specs.Image.{Task, initialState, readTask}
+use Rattle.definitions.specs.Step.{step, stepTask, goalTask, runTask}
 use Rattle.definitions.specs.Groups.{Written}
 use Rattle.definitions.specs.Join.{joined, joinFits, joinAnswer, joinCall, firstPart, secondPart}
 use Rattle.definitions.specs.TwoJoined.{RunsTogether, TwoJoined, Joining}
-use Rattle.definitions.proofs.ListLaws.{and-left, and-right, and-both, map-of}
-use Rattle.definitions.proofs.LiteralLaws.{list-low, below-at, below-all}
-use Rattle.definitions.proofs.StepLists.{Alike, both-found, both-refused, walk-alike, verdicts-alike}
+use Rattle.definitions.proofs.ListLaws.{and-left, and-right}
+use Rattle.definitions.proofs.LiteralLaws.{list-low}
+use Rattle.definitions.proofs.StateLaws.{initial-long}
+use Rattle.definitions.proofs.TaskCalls.{walk-call, walk-state, runs-call, goal-call, run-found, run-made}
 use Rattle.definitions.proofs.TaskBack.{RightTask, right-of, read-of}
 use Rattle.definitions.proofs.JoinLaws.{all-both}
-use Rattle.definitions.proofs.JoinRead.{join-of, initial-long, joined-initial}
+use Rattle.definitions.proofs.JoinRead.{join-of, join-long, join-reads, joined-initial}
 use Rattle.definitions.proofs.JoinAccepted.{joined-accepted}
-use Rattle.definitions.proofs.JoinRuns.{stepBy, step-by, result-length, walk-length, together, run-runs, run-all}
-
--- ---- a step leaves a state a state
-element-low : (n a : ℕ) (s : List ℕ) → 0 < n → allBelow n s ≡ true → getD s a 0 < n
-element-low n a s pos h = go a s (λ x m. below-at n s h x m)
-  where
-    go : (a : ℕ) (s : List ℕ) → ((x : ℕ) → List·Memᴰ x s → x < n) → getD s a 0 < n
-    go a [] h = pos
-    go zero (x ∷ s) h = h x (List·Memᴰ·head refl)
-    go (suc a) (x ∷ s) h = go a s (λ y m. h y (List·Memᴰ·tail m))
-
-after-bit : (s es : List ℕ) (a : ℕ) → getD s a 0 < 2 → after s es a < 2
-unfolding after
-after-bit s es a h = go (member (2 * a) es) (member (2 * a + 1) es)
-  where
-    go : (p q : Bool) → cond p 1 (cond q 0 (getD s a 0)) < 2
-    go true q = omega arith
-    go false true = omega arith
-    go false false = h
-
-result-state : (N : ℕ) (s : List ℕ) (o : Operator) → isState N s ≡ true → isState N (result s o) ≡ true
-unfolding isState result
-result-state N s o h =
-    let long = eqb-true (length s) N (and-left (eqb (length s) N) (allBelow 2 s) h) in
-    let bits = and-right (eqb (length s) N) (allBelow 2 s) h in
-    and-both (eq-eqb (length (result s o)) N (result-length s o ∙ long))
-    (below-all 2 (map (after s (effects s o)) (below (length s)))
-    (λ x m. let q = map-of (after s (effects s o)) (below (length s)) m in
-    subst (λ (y : ℕ). y < 2) (sym (q .same)) (after-bit s (effects s o) (q .it) (element-low 2 (q .it) s (omega arith) bits))))
-
-initial-state : (t : Task) → isState (t .atoms) (initialState t) ≡ true
-unfolding isState initialState stateOf
-initial-state t =
-    and-both (eq-eqb (length (initialState t)) (t .atoms) (initial-long t))
-    (below-all 2 (map (stateOf (t .initial)) (below (t .atoms)))
-    (λ x m. let q = map-of (stateOf (t .initial)) (below (t .atoms)) m in
-    subst (λ (y : ℕ). y < 2) (sym (q .same)) (bit (member (q .it) (t .initial)))))
-  where
-    bit : (b : Bool) → cond b 1 0 < 2
-    bit true = omega arith
-    bit false = omega arith
-
--- ---- the calls on an image that reads as t, from a state
-Same : ℕ → List ℕ → List ℕ → Type 0
-Same N s v = (s ≡ v) × (isState N s ≡ true)
-
-by-alike : (N : ℕ) (there : Bool) (s : List ℕ) (o : Operator) → isState N s ≡ true → Alike (Same N) (stepBy there s o) (stepBy there s o)
-unfolding stepBy ask askAt _>>=_ Same
-by-alike N there s o h = go there (allTrue s (o .precondition))
-  where
-    asks : Bool → Bool → Answer (List ℕ)
-    asks a b = ask 19 a >>= λ _. ask 20 b >>= λ _. finding (result s o)
-
-    go : (a b : Bool) → Alike (Same N) (asks a b) (asks a b)
-    go false b = both-refused (record { number = 19; first = 0; second = 0 })
-    go true false = both-refused (record { number = 20; first = 0; second = 0 })
-    go true true = both-found (refl, result-state N s o h)
-
-module _ (w : List ℕ) (t : Task) (read : readTask w ≡ finding t) where
-  step-call : (s : List ℕ) (i : ℕ) → isState (t .atoms) s ≡ true → stepTask w s i ≡ step t s i
-  unfolding stepTask ask askAt _>>=_
-  step-call s i h = rw (read, h)
-
-  calls-alike : (s v : List ℕ) → Same (t .atoms) s v → (i : ℕ) → Alike (Same (t .atoms)) (stepTask w s i) (step t v i)
-  unfolding Same
-  calls-alike s v x i =
-      let o = operatorAt t i in
-      let there = ltb i (length (t .operators)) in
-      let e : stepTask w s i ≡ stepBy there s o = step-call s i (x .1) ∙ step-by t s i in
-      let f : step t v i ≡ stepBy there s o = ap (λ y. step t y i) (sym (x .0)) ∙ step-by t s i in
-      rw (e, f) (by-alike (t .atoms) there s o (x .1))
-
-  walk-same : (is : List ℕ) → Same (t .atoms) (walk (stepTask w) (initialState t) is) (walk (step t) (initialState t) is)
-  unfolding Same
-  walk-same is = walk-alike (Same (t .atoms)) (stepTask w) (step t) calls-alike is (initialState t) (initialState t) (refl, initial-state t)
-
-  walk-call : (is : List ℕ) → walk (stepTask w) (initialState t) is ≡ walk (step t) (initialState t) is
-  unfolding Same
-  walk-call is = walk-same is .0
-
-  walk-state : (is : List ℕ) → isState (t .atoms) (walk (stepTask w) (initialState t) is) ≡ true
-  unfolding Same
-  walk-state is = walk-same is .1
-
-  runs-call : (is : List ℕ) → runs (stepTask w) (initialState t) is ≡ runs (step t) (initialState t) is
-  unfolding runs Same
-  runs-call is =
-      ap (all isFinding) (verdicts-alike (Same (t .atoms)) (stepTask w) (step t) calls-alike is (initialState t) (initialState t) (refl, initial-state t))
-
-  run-call : (is : List ℕ) → runTask w (initialState t) is ≡ runFrom (step t) (initialState t) 0 is
-  unfolding runTask notRun ask askAt _>>=_
-  run-call is = rw (read, initial-state t)
-
-  goal-call : (s : List ℕ) → isState (t .atoms) s ≡ true → goalTask w s ≡ finding (allTrue s (t .goal))
-  unfolding goalTask ask askAt _>>=_
-  goal-call s h = rw (read, h)
-
-  -- the list run, by its steps
-  run-found : (is : List ℕ) → isFinding (runTask w (initialState t) is .answer) ≡ runs (step t) (initialState t) is
-  run-found is = ap (λ (x : Outcome ℕ). isFinding (x .answer)) (run-call is) ∙ run-runs (step t) is (initialState t) 0
-
-  run-made :
-      (is : List ℕ) → runs (step t) (initialState t) is ≡ true
-      → runTask w (initialState t) is ≡ outcome (finding (length is)) (walk (step t) (initialState t) is)
-  run-made is h = run-call is ∙ run-all (step t) is (initialState t) 0 h ∙ ap (λ n. outcome (finding n) (walk (step t) (initialState t) is)) (omega arith)
+use Rattle.definitions.proofs.JoinRuns.{walk-length, together}
 
 -- ---- the joined image and the two images, from their initial states
 module _ (w v z : List ℕ) (t u : Task) (is : List ℕ) where
@@ -228,24 +121,26 @@ module _ (w v : List ℕ) (target : ℕ) where
   unfolding joinCall joinAnswer ask askAt refuse _>>=_
   passed t u e f h = rw (e, f, h)
 
--- whatever a join wrote
+-- ---- whatever a join wrote
 pub two-joined : (w v : List ℕ) (target : ℕ) (x : Written) → joinCall w v target ≡ finding x → TwoJoined w v target x
 two-joined w v target x e =
     let j = join-of w v target x e in
     let t = j .first in
     let u = j .second in
-    record {
+    let reads = join-reads w v target t u (j .read-first) (j .read-second) (j .fits) in
+    subst (λ (z : Written). TwoJoined w v target z) (j .same)
+    (record {
       first = t;
       second = u;
       read-first = j .read-first;
       read-second = j .read-second;
-      fits = j .fits;
-      count = j .count;
-      long = j .long;
-      reads = j .reads;
-      accepted = λ c d m₁ m₂ marks a b. joined-accepted w v (x .words) c d m₁ m₂ marks t u a b (j .read-first) (j .read-second) (j .reads);
-      lists = λ is. runs-together w v (x .words) t u is (j .read-first) (j .read-second) (j .reads);
-    }
+      fits = j .fits .room;
+      count = refl;
+      long = join-long w v target t u (j .read-first) (j .read-second);
+      reads = reads;
+      accepted = λ c d m₁ m₂ marks a b. joined-accepted w v _ c d m₁ m₂ marks t u a b (j .read-first) (j .read-second) reads;
+      lists = λ is. runs-together w v _ t u is (j .read-first) (j .read-second) reads;
+    })
 
 -- of every two images and every target
 pub joining : Joining

@@ -11,6 +11,7 @@ use Rattle.definitions.specs.Groups.{written}
 use Rattle.definitions.specs.TaskWords.{taskWords}
 use Rattle.definitions.specs.Join.{joined, joinFits, joinAnswer, joinCall}
 use Rattle.definitions.proofs.JoinRead.{fits-of}
+use Rattle.answer.specs.Answer.{refusalAt}
 use Rattle.answer.proofs.Laws.{written-refused, written-found}
 use Rattle.writing.specs.Writing.{Wrote}
 use Rattle.writing.proofs.Target.{asked-not, asked-done}
@@ -18,7 +19,9 @@ use Rattle.task.specs.Reads.{taskOf, Reads}
 
 -- ---- 27
 module _ (t u : Task) (old : List ℕ) where
-  pub join-not : false ≡ joinFits (joined t u) (length old) → outcome (refused (record { number = 27; first = 0; second = 0 })) old ≡ written old (joinAnswer t u (length old))
+  pub join-not :
+      false ≡ joinFits (joined t u) (length old)
+      → outcome (refused (refusalAt 27 0 0)) old ≡ written old (joinAnswer t u (length old))
   unfolding joinAnswer
   join-not h = asked-not 27 (length (taskWords (joined t u))) (taskWords (joined t u)) old (joinFits (joined t u) (length old)) (sym h)
 

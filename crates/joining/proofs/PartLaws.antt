@@ -20,7 +20,7 @@ use Rattle.definitions.proofs.TaskBack.{RightTask, right-of, read-of}
 use Rattle.definitions.proofs.JoinRead.{operator-long, joined-count, join-long, Fits, fits-of}
 use Rattle.task.specs.Reads.{taskOf, Reads}
 use Rattle.writing.specs.Directory.{directoryOf, sizeOf, DirectoryGiven}
-use Rattle.writing.proofs.DirectoryLaws.{directory-is, directory-length, image-size}
+use Rattle.writing.proofs.DirectoryLaws.{directory-is, image-size}
 use Rattle.joining.specs.Behind.{operatorBehind, operatorsBehind, NumbersGiven}
 use Rattle.joining.specs.Parts.{listLengths, lengthsOf, headerOf, listsOf, operatorsOf, Joinable, PartGiven}
 use Rattle.joining.proofs.ShiftLaws.{numbers-given, list-long}
@@ -119,7 +119,7 @@ pub joinable-fits : {w v target : List ℕ} → Joinable w v target → Fits (jo
 joinable-fits {w} {v} {target} j = fits-of (joined (taskOf w) (taskOf v)) (length target) (j .fits)
 
 -- at most a length for each part of an image
-pub lengths-few : {w v target : List ℕ} → Joinable w v target → length (lengthsOf (taskOf w) (taskOf v)) ≤ 1026
+pub lengths-few : {w v target : List ℕ} → Joinable w v target → length (lengthsOf (taskOf w) (taskOf v)) ≤ mostOperators + 2
 lengths-few {w} {v} j =
     omega (arith, lengths-count (taskOf w) (taskOf v), joined-count (taskOf w) (taskOf v), joinable-fits j .operators)
 

@@ -17,7 +17,7 @@ use Rattle.definitions.proofs.ReadLaws.{row-effect, row-conditions}
 use Rattle.definitions.proofs.Walks.{left-here}
 use Rattle.definitions.proofs.JoinLaws.{shifted-length}
 use Rattle.definitions.proofs.JoinRead.{operator-first}
-use Rattle.task.specs.Walk.{row, operatorIn, parsesAt, rowsAt}
+use Rattle.task.specs.Walk.{row, operatorIn, rowsAt}
 use Rattle.task.specs.Reads.{taskOf, Reads}
 use Rattle.task.specs.Post.{BlockGiven, BlockRead}
 use Rattle.task.proofs.BlockSizes.{first-right, rows-same, precondition-few, operator-pre, operator-rows, block-most, block-right}

@@ -8,8 +8,8 @@ ghost use Rattle.task.specs.Reads.{taskOf, Reads};
 ghost use Rattle.writing.specs.Writing.{Wrote};
 ghost use Rattle.joining.specs.Parts.{listLengths, lengthsOf, headerOf, Joinable};
 
-// The most parts of a task image: initial state, goal, operators.
-const MOST_PARTS: usize = 1026;
+// The most parts of a task image: two, and one for each operator.
+const MOST_PARTS: usize = 2 + task::MOST_OPERATORS;
 
 // Writes the lengths of the operators' blocks.
 fn block_lengths(image: &[u16], lengths: &mut [u16], at: usize) -> usize

@@ -79,7 +79,7 @@ pub fn wide(x: u16) -> usize
     x as usize
 }
 
-// Whether the words are strictly ascending atoms below `atoms`.
+// Whether the words are strictly ascending atoms below `atoms`. As they ascend, only the last is compared with `atoms`.
 pub fn is_atom_list(words: &[u16], atoms: usize) -> bool
     ensures { λ r. ⌜ r ≡ (ascending (now (words .entry)) && allBelow atoms (now (words .entry))) ⌝ }
 {
@@ -90,16 +90,13 @@ pub fn is_atom_list(words: &[u16], atoms: usize) -> bool
         if x < from {
             return false;
         }
-        if atoms <= x {
-            return false;
-        }
         from = x + 1;
         i += 1;
     }
-    true
+    from <= atoms
 }
 
-// Whether the words are a literal list over `atoms` atoms.
+// Whether the words are a literal list over `atoms` atoms. As they ascend, only the last is compared with the number of literals.
 pub fn is_literal_list(words: &[u16], atoms: usize) -> bool
     requires { ⌜ atoms ≤ mostAtoms ⌝ }
     ensures { λ r. ⌜ r ≡ literalList atoms (now (words .entry)) ⌝ }
@@ -111,13 +108,10 @@ pub fn is_literal_list(words: &[u16], atoms: usize) -> bool
         if x < from {
             return false;
         }
-        if 2 * atoms <= x {
-            return false;
-        }
         from = x / 2 * 2 + 2;
         i += 1;
     }
-    true
+    from <= 2 * atoms
 }
 
 // Whether a state has `atoms` bytes, each 0 or 1.

@@ -1,7 +1,7 @@
 -- The words of the image by the places of the atoms are those of the definitions. Assumes nothing.
 use mathlib.Core.Bool.{true}
 use mathlib.Core.Path.{_≡_, refl, sym, _∙_, ap, ap₂}
-use mathlib.Core.List.{List, [], _∷_, _++_, map, append-assoc, List·Memᴰ, List·Memᴰ·head, List·Memᴰ·tail}
+use mathlib.Core.List.{List, [], _∷_, _++_, map, append-assoc}
 use Prim.Native.Nat.{ℕ, suc, _+_, _*_, _/_, _≤_, _<_}
 use native.Mathlib.Omega.{arith}
 use lib.Dec.{ltb}
@@ -10,7 +10,7 @@ use lib.Seq.{length-take-le}
 use borrow.Author.Tests.{ltb-true}
 use Rattle.definitions.specs.Lists.{all, each, below, ascending}
 use Rattle.definitions.specs.Answer.{finding, refused, Refusal, outcome, verdict}
-use Rattle.definitions.specs.Literal.{atom, allBelow, literalList}
+use Rattle.definitions.specs.Literal.{atom, allBelow}
 use Rattle.definitions.specs.Image.{Row, Operator, Task, initialState, rowRight, operatorRight}
 use Rattle.definitions.specs.Step.{noOperator, operatorAt}
 use Rattle.definitions.specs.Checker.{Accepted, check}

@@ -73,7 +73,11 @@ enum-told-2 : tie.Need-enum-told-2
 enum-told-2 c = search needs
 
 join-read-requires : tie.Need-join-read-requires
-join-read-requires c κs = let d = c .before in (first-reads (told (second d)), second-reads d)
+join-read-requires c κs =
+    let d = c .before in
+    let a = first-reads (told (second d)) in
+    let b = second-reads d in
+    search needs
 
 same-length : tie.Need-same-length
 same-length c = search needs

@@ -1,13 +1,13 @@
 -- `literal::is_atom_list`: what is left to test from i on is the whole test's answer.
 use Prim.Native.Nat.{_≤_, _-_}
-use mathlib.Core.Path.{_≡_, refl, sym, _∙_}
-use borrow.Author.Needs.{needs}
+use mathlib.Core.Path.{_≡_, sym, _∙_}
+use mathlib.Core.Bool.{_&&_}
 use native.Mathlib.Omega.{arith}
 use lib.ListN.{length, drop}
-use Rattle.definitions.specs.Literal.{allBelow}
 use Rattle.definitions.specs.Lists.{ascending}
-use mathlib.Core.Bool.{_&&_}
-use Rattle.literal.proofs.Ascends.{ascends, nextAtom, ascends-low, ascends-high, ascends-on, ascends-end, atoms-ascend}
+use Rattle.definitions.specs.Literal.{allBelow}
+use Rattle.literal.proofs.Ascends.{ascends, nextAtom, ascends-low, ascends-on, ascends-end, atoms-ascend}
+use borrow.Author.Needs.{needs}
 use Rattle.literal.proofs.is_atom_list.Statement.{statement}
 use Rattle.literal.proofs.is_atom_list.Tie as tie
 
@@ -16,6 +16,10 @@ Inv-loop xs n from₀ i₀ from i = (i ≤ length xs) × ((ascending xs && allBe
 
 abbrev μ-loop : tie.MeasureT-loop
 μ-loop xs n from₀ i₀ from i = length xs - i
+
+-- where a word is read: the turn
+abbrev turn : tie.After-wide Inv-loop μ-loop → tie.In-loop Inv-loop μ-loop
+turn c = c .before .before
 
 loop-holds : tie.Need-loop-holds Inv-loop μ-loop
 loop-holds c = (omega arith, atoms-ascend _ _)
@@ -31,25 +35,9 @@ wide-requires c κs = search needs
 
 returns : tie.Need-returns Inv-loop μ-loop
 returns c =
-    let at-test = c .before .before .before in
-    sym (at-test .before .loop .inv .1 ∙ ascends-low _ _ _ _ _ _ (c .before .wide .ensures .0) (at-test .loop-test .taken) (c .if1 .taken))
-
--- the places of the function
-abbrev in-loop : tie.After-wide Inv-loop μ-loop → tie.In-loop Inv-loop μ-loop
-in-loop c = c .before .before
-
-abbrev after-wide-of-else2 : tie.Else2 Inv-loop μ-loop → tie.After-wide Inv-loop μ-loop
-after-wide-of-else2 c = c .before .before
-
-abbrev after-wide-of-then2 : tie.Then2 Inv-loop μ-loop → tie.After-wide Inv-loop μ-loop
-after-wide-of-then2 c = c .before .before
-
-returns-2 : tie.Need-returns-2 Inv-loop μ-loop
-returns-2 c =
-    let at-test = in-loop (after-wide-of-then2 c) in
-    sym
-    (at-test .before .loop .inv .1
-    ∙ ascends-high _ _ _ _ _ _ (c .before .before .wide .ensures .0) (at-test .loop-test .taken) (c .before .if1 .left) (c .if2 .taken))
+    let w = c .before in
+    let t = turn w in
+    sym (t .before .loop .inv .1 ∙ ascends-low _ _ _ _ _ _ (w .wide .ensures .0) (t .loop-test .taken) (c .if1 .taken))
 
 add-from : tie.Need-add-from Inv-loop μ-loop
 add-from c = search needs
@@ -62,14 +50,12 @@ loop-less c = search needs
 
 loop-again : tie.Need-loop-again Inv-loop μ-loop
 loop-again c =
-    let at-test = in-loop (after-wide-of-else2 c) in (
-      search needs,
-      at-test .before .loop .inv .1
-          ∙ ascends-on _ _ _ _ _ _ (c .before .before .wide .ensures .0) (at-test .loop-test .taken) (c .before .if1 .left) (c .if2 .left),
-    )
+    let w = c .before in
+    let t = turn w in
+    (search needs, t .before .loop .inv .1 ∙ ascends-on _ _ _ _ _ _ (w .wide .ensures .0) (t .loop-test .taken) (c .if1 .left))
 
-returns-3 : tie.Need-returns-3 Inv-loop μ-loop
-returns-3 c = sym (c .before .loop .inv .1 ∙ ascends-end _ _ _ _ _ (c .loop-test .left))
+returns-2 : tie.Need-returns-2 Inv-loop μ-loop
+returns-2 c = sym (c .before .loop .inv .1 ∙ ascends-end _ _ _ _ _ (c .loop-test .left))
 
 pub is-atom-list-spec : {M : Type 1} → statement M
 is-atom-list-spec =
@@ -82,9 +68,8 @@ is-atom-list-spec =
     shared-slice-read-wide
     wide-requires
     returns
-    returns-2
     add-from
     add-i
     loop-less
     loop-again
-    returns-3)
+    returns-2)

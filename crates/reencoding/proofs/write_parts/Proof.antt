@@ -1,11 +1,10 @@
-use Prim.Native.Nat.{ℕ, _+_, _≤_}
-use mathlib.Core.Path.{_≡_, refl, sym, ap}
+use Prim.Native.Nat.{ℕ, _+_}
 use mathlib.Core.List.{List, _++_}
 use native.Mathlib.Omega.{arith}
-use lib.ListN.{length, take}
+use lib.ListN.{take}
 use Rattle.task.specs.Reads.{taskOf}
 use Rattle.writing.specs.Writing.{Wrote, Writing}
-use Rattle.writing.proofs.Writes.{write-start, write-same, write-part, write-last, part-room, write-room}
+use Rattle.writing.proofs.Writes.{write-start, write-part, write-last, part-room, write-room}
 use Rattle.reencoding.specs.Words.{literalsBy}
 use Rattle.reencoding.specs.Parts.{lowered, operatorsBy, taskBy}
 use Rattle.reencoding.proofs.ImageLaws.{atoms-of, values-length, goal-below, initial-below}

@@ -1,8 +1,7 @@
-use Prim.Native.Nat.{_+_, _≤_}
+use Prim.Native.Nat.{_+_}
 use native.Mathlib.Omega.{arith}
 use mathlib.Core.Path.{_≡_, ap}
 use lib.ListN.{length}
-use Rattle.definitions.specs.Image.{mostImage}
 use Rattle.task.specs.Reads.{taskOf}
 use Rattle.task.proofs.BlockSizes.{task-sizes}
 use Rattle.writing.proofs.Writes.{wrote-same}

@@ -1,7 +1,6 @@
 -- `joining::shift::numbers`: the numbers from i on are left to be written.
-use Prim.Native.Nat.{_+_, _-_, _≤_, _<_}
+use Prim.Native.Nat.{_+_, _-_, _<_}
 use native.Mathlib.Omega.{arith}
-use mathlib.Core.Path.{_≡_}
 use mathlib.Core.List.{_∷_}
 use lib.ListN.{length, getD, drop}
 use Rattle.definitions.specs.Join.{shifted}

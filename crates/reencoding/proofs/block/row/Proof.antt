@@ -1,6 +1,6 @@
 -- `reencoding::block::row`: three words, then the conditions.
-use Prim.Native.Nat.{ℕ, _≤_, _+_, _<_, _*_}
-use mathlib.Core.Path.{_≡_, _∙_}
+use Prim.Native.Nat.{_≤_, _+_, _<_, _*_}
+use mathlib.Core.Path.{_∙_}
 use native.Mathlib.Omega.{arith}
 use lib.ListN.{length, length-set}
 use Rattle.writing.proofs.Writes.{wrote-same, wrote-three}
