@@ -19,10 +19,10 @@ use Rattle.definitions.proofs.JoinLaws.{shifted-length}
 use Rattle.definitions.proofs.JoinRead.{operator-first}
 use Rattle.task.specs.Walk.{row, operatorIn, rowsAt}
 use Rattle.task.specs.Reads.{taskOf, Reads}
-use Rattle.task.specs.Post.{BlockGiven, BlockRead}
-use Rattle.task.proofs.BlockSizes.{first-right, rows-same, precondition-few, operator-pre, operator-rows, block-most, block-right}
+use Rattle.task.specs.Post.{BlockGiven, BlockRead, OperatorOver}
+use Rattle.task.proofs.BlockSizes.{first-right, rows-same, precondition-few, operator-pre, block-over}
 use Rattle.task.proofs.BlockSizes.{each-next, each-end}
-use Rattle.joining.specs.Behind.{rowsBehind, operatorBehind, operatorsBehind, NumbersGiven, CountedGiven, RowGiven, RowsGiven, OperatorGiven}
+use Rattle.joining.specs.Behind.{rowsBehind, operatorBehind, operatorsBehind, NumbersGiven, CountedGiven, RowGiven}
 
 -- ---- numbers
 module _ (k : ℕ) (xs : List ℕ) (i : ℕ) where
@@ -132,27 +132,17 @@ module _ (n : ℕ) (b : List ℕ) (o : Operator) (end k : ℕ) (read : BlockRead
       let s = shifted-length (2 * n) pre in
       omega arith
 
--- the block of an operator over the atoms that are left behind n
-module _ {n : ℕ} {b : List ℕ} (g : OperatorGiven n b) {end k : ℕ} (read : BlockRead b (operatorIn b) end k) where
-  pub precondition-given :
-      {target : List ℕ} {at : ℕ} → at + length (operatorBehind n (operatorIn b)) ≤ length target
-      → CountedGiven n (take (end - 1) (drop 1 b)) target at
-  precondition-given room =
-      record {
-        few = g .few;
-        low = operator-pre b (operatorIn b) end k read (mostAtoms - n) (g .right);
-        short = (let a = precondition-few b (operatorIn b) end k read in let s = g .short in omega arith);
-        room = (let a = operator-length n b (operatorIn b) end k read in omega arith);
-      }
-
-  pub rows-given : RowsGiven n b (end + 1) k
-  rows-given =
-      record {
-        few = g .few;
-        parses = read .parses;
-        right = operator-rows b (operatorIn b) end k read (mostAtoms - n) (g .right);
-        short = g .short;
-      }
+-- the precondition of an operator over the atoms that are left behind n
+pub precondition-given :
+    {n : ℕ} {b target : List ℕ} {end k at : ℕ} → n ≤ mostAtoms → OperatorOver (mostAtoms - n) b → BlockRead b (operatorIn b) end k
+    → at + length (operatorBehind n (operatorIn b)) ≤ length target → CountedGiven n (take (end - 1) (drop 1 b)) target at
+precondition-given {n} {b} {target} {end} {k} few over read room =
+    record {
+      few = few;
+      low = operator-pre b (operatorIn b) end k read (mostAtoms - n) (over .right);
+      short = (let a = precondition-few b (operatorIn b) end k read in let s = over .short in omega arith);
+      room = (let a = operator-length n b (operatorIn b) end k read in omega arith);
+    }
 
 -- ---- the operators of an image from i on
 module _ (n : ℕ) (w : List ℕ) (i : ℕ) where
@@ -167,15 +157,17 @@ module _ (n : ℕ) (w : List ℕ) (i : ℕ) where
   unfolding operatorsBehind
   operators-end h = each-end w i (operatorBehind n) h
 
-  pub operator-given :
-      (b : List ℕ) → Reads w → i < length (taskOf w .operators) → BlockGiven b (taskOf w) i → n + taskOf w .atoms ≤ mostAtoms → OperatorGiven n b
-  operator-given b rd h given few =
+  -- it is over the atoms that are left
+  pub operator-left :
+      (b : List ℕ) → Reads w → i < length (taskOf w .operators) → BlockGiven b (taskOf w) i → n + taskOf w .atoms ≤ mostAtoms
+      → OperatorOver (mostAtoms - n) b
+  operator-left b rd h given few =
+      let o = block-over w rd i h b given in
       let N = taskOf w .atoms in
       record {
-        few = omega arith;
-        parses = given .parses;
+        parses = o .parses;
         right =
             subst (λ (k : ℕ). operatorRight k (operatorIn b) ≡ true) (omega arith)
-            (operator-first N (mostAtoms - n - N) (operatorIn b) (block-right w rd i h b given N refl));
-        short = block-most w rd i h b given;
+            (operator-first N (mostAtoms - n - N) (operatorIn b) (o .right));
+        short = o .short;
       }

@@ -4,12 +4,12 @@ use mathlib.Core.Bool.{true}
 use mathlib.Core.List.{List}
 use Prim.Native.Nat.{ℕ, _+_, _-_, _*_, _≤_}
 use lib.ListN.{length}
-use Rattle.definitions.specs.Lists.{all, each}
+use Rattle.definitions.specs.Lists.{each}
 use Rattle.definitions.specs.Literal.{mostAtoms, mostLiterals, allBelow}
-use Rattle.definitions.specs.Image.{mostImage, Row, Operator, rowRight, operatorRight}
+use Rattle.definitions.specs.Image.{mostImage, Row, Operator, rowRight}
 use Rattle.definitions.specs.TaskWords.{rowWords, operatorWords}
 use Rattle.definitions.specs.Join.{shiftedRow, shiftedOperator}
-use Rattle.task.specs.Walk.{row, blockParses, operatorIn, parsesAt, rowsAt}
+use Rattle.task.specs.Walk.{row}
 
 -- behind n atoms
 unfoldable pub rowsBehind : ℕ → List Row → List ℕ
@@ -39,17 +39,3 @@ pub record RowGiven (n effect : ℕ) (conditions target : List ℕ) (at : ℕ) :
   pub right : rowRight (mostAtoms - n) (row effect conditions) ≡ true
   pub short : length conditions ≤ mostImage
   pub room : at + (2 + length conditions) ≤ length target
-
--- the `count` rows of a block that begin at `from` are over those atoms
-pub record RowsGiven (n : ℕ) (block : List ℕ) (from count : ℕ) : Type 0 where
-  pub few : n ≤ mostAtoms
-  pub parses : parsesAt block from count ≡ true
-  pub right : all (rowRight (mostAtoms - n)) (rowsAt block from count) ≡ true
-  pub short : length block ≤ mostImage
-
--- and so is the operator of a block
-pub record OperatorGiven (n : ℕ) (block : List ℕ) : Type 0 where
-  pub few : n ≤ mostAtoms
-  pub parses : blockParses block ≡ true
-  pub right : operatorRight (mostAtoms - n) (operatorIn block) ≡ true
-  pub short : length block ≤ mostImage

@@ -1,15 +1,16 @@
 // Literals, rows and operators of a task whose atoms follow those of another, as words of the joined image. Each function gives the
 // place after the words that it wrote.
 ghost use mathlib.Core.List.{_++_};
-ghost use Prim.Native.Nat.{_+_, _*_, _≤_};
+ghost use Prim.Native.Nat.{_+_, _-_, _*_, _≤_};
 ghost use lib.ListN.{length};
 ghost use Rattle.definitions.specs.Literal.{mostAtoms};
 ghost use Rattle.definitions.specs.TaskWords.{countedLiterals, rowWords};
 ghost use Rattle.definitions.specs.Join.{shifted, shiftedRow};
 ghost use Rattle.task.specs.Walk.{row, operatorIn, rowsAt};
 ghost use Rattle.task.specs.Reads.{taskOf, Reads};
+ghost use Rattle.task.specs.Post.{RowsOver, OperatorOver};
 ghost use Rattle.writing.specs.Writing.{Wrote};
-ghost use Rattle.joining.specs.Behind.{rowsBehind, operatorBehind, operatorsBehind, NumbersGiven, CountedGiven, RowGiven, RowsGiven, OperatorGiven};
+ghost use Rattle.joining.specs.Behind.{rowsBehind, operatorBehind, operatorsBehind, NumbersGiven, CountedGiven, RowGiven};
 
 // Writes numbers, each higher by `by`.
 fn numbers(list: &[u16], by: u16, target: &mut [u16], at: usize) -> usize
@@ -62,7 +63,7 @@ fn rows(
     target: &mut [u16],
     at: usize,
 ) -> usize
-    requires { ⌜ (RowsGiven before (now block) from count) × (at + length (rowsBehind before (rowsAt (now block) from count)) ≤ length (now target)) ⌝ }
+    requires { ⌜ (before ≤ mostAtoms) × (RowsOver (mostAtoms - before) (now block) from count) × (at + length (rowsBehind before (rowsAt (now block) from count)) ≤ length (now target)) ⌝ }
     ensures { λ r. ⌜ Wrote (now (target .entry)) at (rowsBehind before (rowsAt (now (block .entry)) from count)) (now (target .exit)) r ⌝ }
 {
     let mut to = at;
@@ -83,7 +84,7 @@ fn rows(
 
 // Writes the operator of a block, behind `before` atoms.
 fn operator(block: &[u16], before: u16, target: &mut [u16], at: usize) -> usize
-    requires { ⌜ (OperatorGiven before (now block)) × (at + length (operatorBehind before (operatorIn (now block))) ≤ length (now target)) ⌝ }
+    requires { ⌜ (before ≤ mostAtoms) × (OperatorOver (mostAtoms - before) (now block)) × (at + length (operatorBehind before (operatorIn (now block))) ≤ length (now target)) ⌝ }
     ensures { λ r. ⌜ Wrote (now (target .entry)) at (operatorBehind before (operatorIn (now (block .entry)))) (now (target .exit)) r ⌝ }
 {
     let task::block::BlockHead { end, rows: count } = task::block::head(block);

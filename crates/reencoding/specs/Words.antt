@@ -1,13 +1,12 @@
 -- The words of the re-encoded image, by the places of the atoms. Assumes nothing.
 use mathlib.Core.Path.{_≡_}
 use mathlib.Core.Bool.{true}
-use mathlib.Core.List.{List, [], _∷_, _++_, map}
-use Prim.Native.Nat.{ℕ, _+_, _-_, _*_, _/_, _%_, _≤_, _<_, min}
-use lib.ListN.{length, getD, set}
-use Rattle.definitions.specs.Lists.{all, each}
+use mathlib.Core.List.{List, [], _∷_, _++_}
+use Prim.Native.Nat.{ℕ, _+_, _*_, _/_, _%_, _≤_, _<_}
+use lib.ListN.{length, getD}
+use Rattle.definitions.specs.Lists.{each}
 use Rattle.definitions.specs.Literal.{mostAtoms, atom, allBelow}
-use Rattle.definitions.specs.Image.{mostImage, Row, Operator, rowRight, operatorRight}
-use Rattle.task.specs.Walk.{blockParses, operatorIn, parsesAt, rowsAt}
+use Rattle.definitions.specs.Image.{Row, Operator}
 
 -- the number of atoms that have places
 unfoldable pub atomsOf : List ℕ → ℕ
@@ -37,18 +36,6 @@ operatorBy places o = countedBy places (o .precondition) ++ (length (o .rows) �
 pub record Ready (places words target : List ℕ) (at : ℕ) : Type 0 where
   pub low : (i : ℕ) → getD places i 0 < mostAtoms
   pub room : at + length words ≤ length target
-
--- the rows of a block of at most the words of an image, of which `count` begin at `from`, are over atoms that have places
-pub record RowsGiven (places block : List ℕ) (from count : ℕ) : Type 0 where
-  pub parses : parsesAt block from count ≡ true
-  pub right : all (rowRight (atomsOf places)) (rowsAt block from count) ≡ true
-  pub short : length block ≤ mostImage
-
--- and so is the operator of such a block
-pub record OperatorGiven (places block : List ℕ) : Type 0 where
-  pub parses : blockParses block ≡ true
-  pub right : operatorRight (atomsOf places) (operatorIn block) ≡ true
-  pub short : length block ≤ mostImage
 
 -- atoms that have places, with variables below n
 pub record AtomsGiven (places trues : List ℕ) (n : ℕ) : Type 0 where

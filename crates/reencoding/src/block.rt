@@ -7,8 +7,9 @@ ghost use lib.ListN.{length};
 ghost use Rattle.definitions.specs.Literal.{allBelow};
 ghost use Rattle.definitions.specs.Image.{rowRight};
 ghost use Rattle.task.specs.Walk.{row, operatorIn, rowsAt};
+ghost use Rattle.task.specs.Post.{RowsOver, OperatorOver};
 ghost use Rattle.writing.specs.Writing.{Wrote};
-ghost use Rattle.reencoding.specs.Words.{atomsOf, literalBy, literalsBy, countedBy, rowBy, rowsBy, operatorBy, Ready, RowsGiven, OperatorGiven};
+ghost use Rattle.reencoding.specs.Words.{atomsOf, literalBy, literalsBy, countedBy, rowBy, rowsBy, operatorBy, Ready};
 
 // 1 if a literal is negative, else 0.
 fn sign(l: Literal) -> u16
@@ -75,7 +76,7 @@ fn rows(
     target: &mut [u16],
     at: usize,
 ) -> usize
-    requires { ⌜ (Ready (now places) (rowsBy (now places) (rowsAt (now block) from count)) (now target) at) × (RowsGiven (now places) (now block) from count) ⌝ }
+    requires { ⌜ (Ready (now places) (rowsBy (now places) (rowsAt (now block) from count)) (now target) at) × (RowsOver (atomsOf (now places)) (now block) from count) ⌝ }
     ensures { λ r. ⌜ Wrote (now (target .entry)) at (rowsBy (now (places .entry)) (rowsAt (now (block .entry)) from count)) (now (target .exit)) r ⌝ }
 {
     let mut to = at;
@@ -103,7 +104,7 @@ fn rows(
 
 // Writes the operator of a block.
 pub fn operator(block: &[u16], places: &[u16], target: &mut [u16], at: usize) -> usize
-    requires { ⌜ (Ready (now places) (operatorBy (now places) (operatorIn (now block))) (now target) at) × (OperatorGiven (now places) (now block)) ⌝ }
+    requires { ⌜ (Ready (now places) (operatorBy (now places) (operatorIn (now block))) (now target) at) × (OperatorOver (atomsOf (now places)) (now block)) ⌝ }
     ensures { λ r. ⌜ Wrote (now (target .entry)) at (operatorBy (now (places .entry)) (operatorIn (now (block .entry)))) (now (target .exit)) r ⌝ }
 {
     let task::block::BlockHead { end, rows: count } = task::block::head(block);

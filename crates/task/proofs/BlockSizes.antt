@@ -17,7 +17,7 @@ use Rattle.definitions.proofs.TaskBack.{rows-words, operator-words}
 use Rattle.definitions.proofs.ImageSize.{rows-size, block-size, Sizes, read-sizes}
 use Rattle.task.specs.Reads.{taskOf, Reads}
 use Rattle.task.specs.Walk.{someOperator, operatorOr, blockParses, operatorIn, someRows, rowsOr, parsesAt, rowsAt}
-use Rattle.task.specs.Post.{BlockGiven, BlockRead}
+use Rattle.task.specs.Post.{BlockGiven, BlockRead, RowsOver, OperatorOver}
 use Rattle.task.proofs.Questions.{operator-right}
 
 -- ---- the rows of a block
@@ -119,8 +119,13 @@ module _ (w : List ℕ) (rd : Reads w) (i : ℕ) (h : i < length (taskOf w .oper
       let d = task-sizes w rd .words in
       omega arith
 
-  pub block-right : (n : ℕ) → taskOf w .atoms ≡ n → operatorRight n (operatorIn b) ≡ true
-  block-right n e = rw (given .operator, ← e) (operator-right w rd i h)
+  pub block-over : OperatorOver (taskOf w .atoms) b
+  block-over = record { parses = given .parses; right = rw (given .operator) (operator-right w rd i h); short = block-most }
+
+-- its rows, after its head
+pub rows-over : {N : ℕ} {b : List ℕ} → OperatorOver N b → {end k : ℕ} → BlockRead b (operatorIn b) end k → RowsOver N b (end + 1) k
+rows-over {N} {b} o {end} {k} read =
+    record { parses = read .parses; right = operator-rows b (operatorIn b) end k read N (o .right); short = o .short }
 
 -- ---- all operators: what is left at i
 module _ (w : List ℕ) (i : ℕ) where

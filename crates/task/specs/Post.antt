@@ -5,7 +5,8 @@ use mathlib.Core.Bool.{true}
 use mathlib.Core.List.{List, _∷_}
 use lib.ListN.{length, take, drop}
 use Rattle.definitions.specs.Literal.{mostAtoms}
-use Rattle.definitions.specs.Image.{mostOperators, Operator, Task, directory}
+use Rattle.definitions.specs.Lists.{all}
+use Rattle.definitions.specs.Image.{mostImage, mostOperators, Operator, Task, directory, rowRight, operatorRight}
 use Rattle.definitions.specs.Step.{operatorAt}
 use Rattle.task.specs.Walk.{row, blockParses, operatorIn, parsesAt, rowsAt}
 
@@ -36,3 +37,15 @@ pub record RowRead (b : List ℕ) (p k effect from end : ℕ) : Type 0 where
   pub word : effect < 65536
   pub next : parsesAt b end (k - 1) ≡ true
   pub row : rowsAt b p k ≡ row effect (take (end - from) (drop from b)) ∷ rowsAt b end (k - 1)
+
+-- the `count` rows that begin at `from` in a block, which is no longer than an image, are over N atoms
+pub record RowsOver (N : ℕ) (b : List ℕ) (from count : ℕ) : Type 0 where
+  pub parses : parsesAt b from count ≡ true
+  pub right : all (rowRight N) (rowsAt b from count) ≡ true
+  pub short : length b ≤ mostImage
+
+-- and so is the operator of such a block
+pub record OperatorOver (N : ℕ) (b : List ℕ) : Type 0 where
+  pub parses : blockParses b ≡ true
+  pub right : operatorRight N (operatorIn b) ≡ true
+  pub short : length b ≤ mostImage

@@ -7,11 +7,11 @@ use lib.ListN.{length, take, drop}
 use Rattle.definitions.specs.TaskWords.{countedLiterals}
 use Rattle.definitions.specs.Join.{shifted}
 use Rattle.task.specs.Walk.{operatorIn, rowsAt}
-use Rattle.task.proofs.BlockSizes.{block-few}
+use Rattle.task.proofs.BlockSizes.{block-few, rows-over}
 use Rattle.writing.specs.Writing.{Writing}
 use Rattle.writing.proofs.Writes.{write-start, write-same, write-word, write-part, write-last, word-room, write-room}
 use Rattle.joining.specs.Behind.{rowsBehind, operatorBehind}
-use Rattle.joining.proofs.ShiftLaws.{operator-words, precondition-given, rows-given}
+use Rattle.joining.proofs.ShiftLaws.{operator-words, precondition-given}
 use borrow.Author.Needs.{needs}
 use Rattle.joining.proofs.shift.operator.Statement.{statement}
 use Rattle.joining.proofs.shift.operator.Tie as tie
@@ -51,7 +51,7 @@ rows-left :
 rows-left c = write-part (all-left (head c)) (c .counted .ensures)
 
 room : (c : tie.After-counted) → c .counted .result < length (c .counted .last .1 .1 .0)
-room c = word-room (rows-left c) (start (head c) .pre .1)
+room c = word-room (rows-left c) (start (head c) .pre .2)
 
 head-requires : tie.Need-head-requires
 head-requires c κs = search needs
@@ -68,12 +68,12 @@ part-counted-end c = search needs
 counted-requires : tie.Need-counted-requires
 counted-requires c κs =
     let h = c .before .before in
-    precondition-given (start h .pre .0) (h .head .ensures) (start h .pre .1)
+    precondition-given (start h .pre .0) (start h .pre .1) (h .head .ensures) (start h .pre .2)
 
 cast-target : tie.Need-cast-target
 cast-target c =
     let h = head (counted c) in
-    omega (arith, block-few _ _ _ _ (h .head .ensures), start h .pre .0 .short)
+    omega (arith, block-few _ _ _ _ (h .head .ensures), start h .pre .1 .short)
 
 mul-target : tie.Need-mul-target
 mul-target c = omega (arith, room (counted c), rows-left (counted c) .size)
@@ -91,7 +91,8 @@ rows-requires : tie.Need-rows-requires
 rows-requires c κs =
     let d = given c in
     let h = head d in
-    (rows-given (start h .pre .0) (h .head .ensures), write-room (write-word (rows-left d)) (start h .pre .1))
+    let p = start h .pre in
+    (p .0, rows-over (p .1) (h .head .ensures), write-room (write-word (rows-left d)) (p .2))
 
 -- where the rows are written
 abbrev made : tie.After-slice-known3 → tie.After-rows

@@ -8,7 +8,7 @@ use Rattle.task.specs.Reads.{taskOf}
 use Rattle.writing.specs.Writing.{Writing}
 use Rattle.writing.proofs.Writes.{write-start, write-same, write-part, write-end, part-room}
 use Rattle.joining.specs.Behind.{operatorBehind, operatorsBehind}
-use Rattle.joining.proofs.ShiftLaws.{operators-next, operators-end, operator-given}
+use Rattle.joining.proofs.ShiftLaws.{operators-next, operators-end, operator-left}
 use borrow.Author.Needs.{needs}
 use Rattle.joining.proofs.shift.operators.Statement.{statement}
 use Rattle.joining.proofs.shift.operators.Tie as tie
@@ -71,7 +71,8 @@ operator-requires c κs =
     let l = at c in
     let s = start l in
     let g = block c .operator-block .ensures in (
-      operator-given (s .args .before) _ (l .loop .i) _ (s .pre .0) (inside (turn c)) g (s .pre .1),
+      omega (arith, s .pre .1),
+      operator-left (s .args .before) _ (l .loop .i) _ (s .pre .0) (inside (turn c)) g (s .pre .1),
       rw (g .operator) (part-room (first (turn c)) (others (turn c)) (next (turn c)) (s .pre .2)),
     )
 

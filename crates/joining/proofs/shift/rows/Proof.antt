@@ -38,7 +38,7 @@ abbrev taken : tie.After-row-arg2 Inv-loop μ-loop → tie.After-row Inv-loop μ
 taken c = c .before .before
 
 loop-holds : tie.Need-loop-holds Inv-loop μ-loop
-loop-holds c = let g = c .before .before .pre .0 in (g .parses, g .right, write-start)
+loop-holds c = let g = c .before .before .pre .1 in (g .parses, g .right, write-start)
 
 row-requires : tie.Need-row-requires Inv-loop μ-loop
 row-requires c κs = (c .before .loop .inv .0, c .loop-test .taken)
@@ -65,8 +65,8 @@ row-requires-2 c κs =
     let v = at d .loop .inv in
     let r = d .row in
     let short = part-short (s .args .block .now) (r .result .end - r .result .from) (r .result .from) in
-    row-given (s .args .before) _ _ _ (r .ensures .row) (s .pre .0 .few) (v .1) (omega (arith, s .pre .0 .short))
-    (write-room (v .2) (s .pre .1))
+    row-given (s .args .before) _ _ _ (r .ensures .row) (s .pre .0) (v .1) (omega (arith, s .pre .1 .short))
+    (write-room (v .2) (s .pre .2))
 
 sub-left : tie.Need-sub-left Inv-loop μ-loop
 sub-left c = search needs

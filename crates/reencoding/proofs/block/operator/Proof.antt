@@ -3,7 +3,7 @@ use mathlib.Core.Path.{_≡_, _∙_, ap}
 use Prim.Native.Nat.{_≤_, _-_, _+_}
 use native.Mathlib.Omega.{arith}
 use lib.ListN.{length, take, drop, length-append, length-set}
-use Rattle.task.proofs.BlockSizes.{block-few, precondition-few, operator-pre, operator-rows}
+use Rattle.task.proofs.BlockSizes.{block-few, precondition-few, operator-pre, rows-over}
 use Rattle.writing.proofs.Writes.{wrote-word, wrote-both}
 use Rattle.reencoding.specs.Words.{countedBy, rowsBy}
 use Rattle.reencoding.proofs.SizeLaws.{operator-words}
@@ -127,7 +127,7 @@ rows-requires c κs =
     let e = after d in
     let k = d .counted .kept .1 .1 .0 in (
       record { low = s .pre .0 .low; room = simp length-set (omega arith) },
-      record { parses = h .parses; right = operator-rows _ _ _ _ h _ (s .pre .1 .right); short = s .pre .1 .short },
+      rows-over (s .pre .1) h,
     )
 
 same-length : tie.Need-same-length

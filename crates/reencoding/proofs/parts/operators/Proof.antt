@@ -1,12 +1,14 @@
 -- `reencoding::parts::operators`: the words of the operators from i on are left to be written.
+use mathlib.Core.Path.{subst}
 use mathlib.Core.List.{_++_}
-use Prim.Native.Nat.{_<_, _-_, _+_}
+use Prim.Native.Nat.{ℕ, _<_, _-_, _+_}
 use native.Mathlib.Omega.{arith}
 use lib.ListN.{length, drop}
 use Rattle.definitions.specs.Lists.{each}
 use Rattle.definitions.specs.Step.{operatorAt}
 use Rattle.task.specs.Reads.{taskOf}
-use Rattle.task.proofs.BlockSizes.{block-most, block-right, each-next, each-end}
+use Rattle.task.specs.Post.{OperatorOver}
+use Rattle.task.proofs.BlockSizes.{block-over, each-next, each-end}
 use Rattle.writing.specs.Writing.{Writing}
 use Rattle.writing.proofs.Writes.{write-start, write-same, write-part, write-end, part-room}
 use Rattle.reencoding.specs.Words.{operatorBy}
@@ -75,9 +77,8 @@ operator-requires c κs =
     let s = start (t .before) in
     let g = read c .operator-block .ensures in
     let room = part-room (operatorBy (s .args .places .now) (operatorAt (taskOf (s .args .image .now)) i)) _ (left t) (s .pre .2 .room) in
-    let right = block-right _ (s .pre .0) i (inside t) _ g _ (s .pre .1) in
-    let short = block-most _ (s .pre .0) i (inside t) _ g in
-    (record { low = s .pre .2 .low; room = rw (g .operator) room }, record { parses = g .parses; right = right; short = short })
+    let over = block-over _ (s .pre .0) i (inside t) _ g in
+    (record { low = s .pre .2 .low; room = rw (g .operator) room }, subst (λ (n : ℕ). OperatorOver n (read c .operator-block .result .now)) (s .pre .1) over)
 
 add-i : tie.Need-add-i Inv-loop μ-loop
 add-i c = search needs
