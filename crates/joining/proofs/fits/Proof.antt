@@ -1,3 +1,4 @@
+-- `joining::fits`: the limits one after the other, the image's length by those of both images.
 use native.Mathlib.Omega.{arith}
 use Prim.Native.Nat.{_+_, _≤_}
 use lib.ListN.{length}

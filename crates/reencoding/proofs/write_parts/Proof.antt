@@ -1,3 +1,4 @@
+-- `reencoding::write_parts`: the initial values, the goal, the operators.
 use Prim.Native.Nat.{ℕ, _+_}
 use mathlib.Core.List.{List, _++_}
 use native.Mathlib.Omega.{arith}

@@ -1,3 +1,4 @@
+-- `joining::parts::directory`: the numbers of both added, and the pairs by the lengths.
 use Prim.Native.Nat.{_+_}
 use native.Mathlib.Omega.{arith}
 use mathlib.Core.Path.{_≡_}

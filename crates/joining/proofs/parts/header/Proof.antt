@@ -1,3 +1,4 @@
+-- `joining::parts::header`: the lengths are written into a local array, and the directory from its part that is filled.
 use Prim.Native.Nat.{_≤_}
 use native.Mathlib.Omega.{arith}
 use mathlib.Core.Path.{_≡_, sym}

@@ -1,3 +1,4 @@
+-- `joining::parts::list_lengths`: the lengths of both initial lists, and of both goals, added.
 use Prim.Native.Nat.{_+_}
 use native.Mathlib.Omega.{arith}
 use mathlib.Core.Path.{_≡_, ap}

@@ -1,3 +1,4 @@
+-- `joining::parts::part_lengths`: the lengths of the lists, of the first's operators, of the second's.
 use Prim.Native.Nat.{ℕ, _+_, _≤_}
 use native.Mathlib.Omega.{arith}
 use mathlib.Core.List.{List, _++_, map}

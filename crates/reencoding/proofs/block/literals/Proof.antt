@@ -1,3 +1,4 @@
+-- `reencoding::block::literals`: the literals from i on are left to be written.
 use Prim.Native.Nat.{_+_, _-_, _≤_}
 use native.Mathlib.Omega.{arith}
 use mathlib.Core.List.{_++_}

@@ -1,87 +1,65 @@
-use Rattle.task.specs.Walk.{rowsAt}
-use mathlib.Core.Path.{_≡_, _∙_, ap}
-use Prim.Native.Nat.{_≤_, _-_, _+_}
+-- `reencoding::block::operator`: the precondition, the number of rows, the rows.
+use mathlib.Core.Path.{_∙_}
+use mathlib.Core.List.{List, _∷_, _++_}
+use Prim.Native.Nat.{ℕ, _-_, _+_, _<_}
 use native.Mathlib.Omega.{arith}
-use lib.ListN.{length, take, drop, length-append, length-set}
+use lib.ListN.{length, take, drop}
+use Rattle.task.specs.Walk.{operatorIn, rowsAt}
 use Rattle.task.proofs.BlockSizes.{block-few, precondition-few, operator-pre, rows-over}
-use Rattle.writing.proofs.Writes.{wrote-word, wrote-both}
-use Rattle.reencoding.specs.Words.{countedBy, rowsBy}
+use Rattle.writing.specs.Writing.{Writing}
+use Rattle.writing.proofs.Writes.{write-start, write-same, write-word, write-part, write-last, part-room, word-room, write-room}
+use Rattle.reencoding.specs.Words.{countedBy, rowsBy, operatorBy}
 use Rattle.reencoding.proofs.SizeLaws.{operator-words}
 use borrow.Author.Needs.{needs}
 use Rattle.reencoding.proofs.block.operator.Statement.{statement}
 use Rattle.reencoding.proofs.block.operator.Tie as tie
 
--- the places of the function
-abbrev at-start : tie.After-shared-slice-known → tie.Start
-at-start c = c .before
+-- where the block's head is known: the start
+abbrev lent : tie.After-head → tie.After-shared-slice-known
+lent c = c .before .before .before
 
-abbrev after-shared-slice-known : tie.After-head → tie.After-shared-slice-known
-after-shared-slice-known c = c .before .before .before
+abbrev start : tie.After-head → tie.Start
+start c = lent c .before
 
-abbrev after-head : tie.After-counted-arg2 → tie.After-head
-after-head c = c .before .before
+-- where the precondition is written: the head
+abbrev head : tie.After-counted → tie.After-head
+head c = c .before .before .before
 
-abbrev at-start-from-counted-arg2 : tie.After-counted-arg2 → tie.Start
-at-start-from-counted-arg2 c = at-start (after-shared-slice-known (after-head c))
+-- where the number of rows is stored
+abbrev counted : tie.After-slice-known2 → tie.After-counted
+counted c = c .before .before
 
-abbrev after-counted-arg2 : tie.After-counted → tie.After-counted-arg2
-after-counted-arg2 c = c .before
+abbrev given : tie.After-rows-arg → tie.After-counted
+given c = counted (c .before)
 
-abbrev at-start-from-counted : tie.After-counted → tie.Start
-at-start-from-counted c = at-start (after-shared-slice-known (after-head (after-counted-arg2 c)))
+-- where the rows are written
+abbrev made : tie.After-slice-known3 → tie.After-rows
+made c = c .before .before
 
-abbrev after-counted : tie.After-slice-known2 → tie.After-counted
-after-counted c = c .before .before
+-- the words of the precondition, and of the number of rows and the rows
+abbrev precondition : tie.After-head → List ℕ
+precondition c = let a = start c .args in countedBy (a .places .now) (take (c .head .result .end - 1) (drop 1 (a .block .now)))
 
-abbrev after-head-from-slice-known2 : tie.After-slice-known2 → tie.After-head
-after-head-from-slice-known2 c = after-head (after-counted-arg2 (after-counted c))
+abbrev rows : tie.After-head → List ℕ
+rows c =
+    let a = start c .args in
+    let h = c .head .result in
+    h .rows ∷ rowsBy (a .places .now) (rowsAt (a .block .now) (h .end + 1) (h .rows))
 
-abbrev at-start-from-slice-known2 : tie.After-slice-known2 → tie.Start
-at-start-from-slice-known2 c = at-start (after-shared-slice-known (after-head (after-counted-arg2 (after-counted c))))
+-- words that are left to be written
+abbrev Left : tie.After-head → List ℕ → ℕ → List ℕ → Type 0
+Left c target to left =
+    let a = start c .args in
+    Writing (a .target .now) (a .at) (operatorBy (a .places .now) (operatorIn (a .block .now))) target to left
 
-abbrev after-slice-known2 : tie.After-rows-arg → tie.After-slice-known2
-after-slice-known2 c = c .before
+all-left : (c : tie.After-head) → let a = start c .args in Left c (a .target .now) (a .at) (precondition c ++ rows c)
+all-left c = write-same (operator-words _ _ _ _ (c .head .ensures) (start c .args .places .now)) write-start
 
-abbrev after-head-from-rows-arg : tie.After-rows-arg → tie.After-head
-after-head-from-rows-arg c = after-head (after-counted-arg2 (after-counted (after-slice-known2 c)))
+rows-left : (c : tie.After-counted) → Left (head c) (c .counted .last .1 .1 .0) (c .counted .result) (rows (head c))
+rows-left c = write-part (all-left (head c)) (c .counted .ensures)
 
-abbrev at-start-from-rows-arg : tie.After-rows-arg → tie.Start
-at-start-from-rows-arg c = at-start (after-shared-slice-known (after-head (after-counted-arg2 (after-counted (after-slice-known2 c)))))
-
-abbrev after-rows-arg : tie.After-slice-known3 → tie.After-rows-arg
-after-rows-arg c = c .before .before .before
-
-abbrev after-counted-from-slice-known3 : tie.After-slice-known3 → tie.After-counted
-after-counted-from-slice-known3 c = after-counted (after-slice-known2 (after-rows-arg c))
-
-abbrev after-head-from-slice-known3 : tie.After-slice-known3 → tie.After-head
-after-head-from-slice-known3 c = after-head (after-counted-arg2 (after-counted (after-slice-known2 (after-rows-arg c))))
-
-abbrev at-start-from-slice-known3 : tie.After-slice-known3 → tie.Start
-at-start-from-slice-known3 c =
-    at-start (after-shared-slice-known (after-head (after-counted-arg2 (after-counted (after-slice-known2 (after-rows-arg c))))))
-
--- the words of the precondition, the count of rows and the rows find room
-room :
-    (c : tie.After-head) → at-start (after-shared-slice-known c) .args .at + length
-    (countedBy (at-start (after-shared-slice-known c) .args .places .now)
-    (take (c .head .result .end - 1) (drop 1 (at-start (after-shared-slice-known c) .args .block .now))))
-    +
-    (1 + length
-    (rowsBy (at-start (after-shared-slice-known c) .args .places .now)
-    (rowsAt (at-start (after-shared-slice-known c) .args .block .now) (c .head .result .end + 1) (c .head .result .rows))))
-    ≤ length (at-start (after-shared-slice-known c) .args .target .now)
-room c =
-    let s = at-start (after-shared-slice-known c) in
-    let r = s .pre .0 .room in
-    let e = ap length (operator-words _ _ _ _ (c .head .ensures) (s .args .places .now)) in
-    omega (arith, simp length-append at e)
-
-after :
-    (c : tie.After-counted) → c .counted .result ≡ at-start-from-counted c .args .at + length
-    (countedBy (at-start-from-counted c .args .places .now)
-    (take (c .before .before .before .head .result .end - 1) (drop 1 (at-start-from-counted c .args .block .now))))
-after c = c .counted .ensures .next
+room : (c : tie.After-counted) → c .counted .result < length (c .counted .last .1 .1 .0)
+room c = word-room (rows-left c) (start (head c) .pre .0 .room)
 
 head-requires : tie.Need-head-requires
 head-requires c κs = search needs
@@ -97,47 +75,43 @@ part-counted-end c = search needs
 
 counted-requires : tie.Need-counted-requires
 counted-requires c κs =
-    let s = at-start-from-counted-arg2 c in
-    let h = c .before .before .head .ensures in
-    let short = precondition-few _ _ _ _ h in
-    let few = s .pre .1 .short in
-    (record { low = s .pre .0 .low; room = omega (arith, room (c .before .before)) }, operator-pre _ _ _ _ h _ (s .pre .1 .right), omega arith)
+    let d = c .before .before in
+    let p = start d .pre in
+    let h = d .head .ensures in (
+      record { low = p .0 .low; room = part-room (precondition d) (rows d) (all-left d) (p .0 .room) },
+      operator-pre _ _ _ _ h _ (p .1 .right),
+      omega (arith, precondition-few _ _ _ _ h, p .1 .short),
+    )
 
 cast-target : tie.Need-cast-target
-cast-target c = omega (arith, block-few _ _ _ _ (after-head-from-slice-known2 c .head .ensures), at-start-from-slice-known2 c .pre .1 .short)
+cast-target c =
+    let h = head (counted c) in
+    omega (arith, block-few _ _ _ _ (h .head .ensures), start h .pre .1 .short)
 
 mul-target : tie.Need-mul-target
-mul-target c = omega (arith, room (after-head-from-slice-known2 c), after (c .before .before))
+mul-target c = omega (arith, room (counted c), rows-left (counted c) .size)
 
 slice-write-target : tie.Need-slice-write-target
-slice-write-target c = omega (arith, room (after-head-from-slice-known2 c), after (c .before .before), c .before .before .counted .kept .1 .1 .0)
+slice-write-target c = room (counted c)
 
 add-rows : tie.Need-add-rows
 add-rows c = search needs
 
 add-rows-2 : tie.Need-add-rows-2
-add-rows-2 c = omega (arith, room (after-head-from-rows-arg c), after (c .before .before .before))
+add-rows-2 c = omega (arith, room (given c), rows-left (given c) .size)
 
 rows-requires : tie.Need-rows-requires
 rows-requires c κs =
-    let s = at-start-from-rows-arg c in
-    let d = c .before .before .before in
-    let h = after-head-from-rows-arg c .head .ensures in
-    let r = room (after-head-from-rows-arg c) in
-    let e = after d in
-    let k = d .counted .kept .1 .1 .0 in (
-      record { low = s .pre .0 .low; room = simp length-set (omega arith) },
-      rows-over (s .pre .1) h,
-    )
+    let d = given c in
+    let h = head d in
+    let p = start h .pre in
+    (record { low = p .0 .low; room = write-room (write-word (rows-left d)) (p .0 .room) }, rows-over (p .1) (h .head .ensures))
 
 same-length : tie.Need-same-length
-same-length c = c .before .before .rows .kept .1 .1 .1 .1 .0 ∙ simp length-set (after-counted-from-slice-known3 c .counted .kept .1 .1 .0)
+same-length c = let d = given (made c .before) in made c .rows .kept .1 .1 .1 .1 .0 ∙ write-word (rows-left d) .size
 
 returns : tie.Need-returns
-returns c =
-    let s = at-start-from-slice-known3 c in
-    let e = operator-words _ _ _ _ (after-head-from-slice-known3 c .head .ensures) (s .args .places .now) in
-    rw e (wrote-both (after-counted-from-slice-known3 c .counted .ensures) (wrote-word (c .before .before .rows .ensures)))
+returns c = let d = given (made c .before) in write-last (write-word (rows-left d)) (made c .rows .ensures)
 
 pub operator-spec : {M : Type 1} → statement M
 operator-spec =

@@ -1,3 +1,4 @@
+-- `reencoding::block::rows`: the rows that are left parse, are right, and are left to be written.
 use Prim.Native.Nat.{_-_}
 use mathlib.Core.Path.{_≡_}
 use mathlib.Core.Bool.{true}

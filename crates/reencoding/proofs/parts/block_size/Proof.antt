@@ -1,3 +1,4 @@
+-- `reencoding::parts::block_size`: an operator has the size of its block.
 use native.Mathlib.Omega.{arith}
 use Rattle.task.proofs.BlockSizes.{block-some, block-most}
 use Rattle.reencoding.proofs.PartLaws.{block-words}
