@@ -16,8 +16,9 @@ use Rattle.definitions.specs.Image.{Task, readTask}
 use Rattle.definitions.specs.Clauses.{width, mostRows, clauseWords, readClauses}
 use Rattle.definitions.specs.Checker.{check, accept, Accepted}
 use Rattle.definitions.specs.Synthesis.{Found, Made, synthesis, synthesisCall, madeOf, bufferAfter}
-use Rattle.definitions.specs.Literal.{mostAtoms, mostLiterals}
+use Rattle.definitions.specs.Literal.{mostAtoms}
 use Rattle.definitions.specs.Card.{wordsOf, mostInput, cardAnswer, card, foundText, refusedText}
+use Rattle.definitions.specs.Marks.{markBytes}
 use Rattle.definitions.proofs.AnswerLaws.{bind-of, same-finding, not-finding}
 use Rattle.definitions.proofs.ReadLaws.{read-right}
 use Rattle.definitions.proofs.Accepts.{Finish, synthesis-accepted}
@@ -84,7 +85,7 @@ module _ (img : List ℕ) (n limit words work marks : ℕ) where
       let a : Accepted = record { task = t; clauses = x .clauses } in
       let q1 = bind-of (readTask img) _ a (f .accepted) in
       let q2 = bind-of (readClauses (q1 .0 .atoms) (clauseWords (x .clauses))) _ a (q1 .2) in
-      let q3 = bind-of (askAt 13 0 (leb (2 * q1 .0 .atoms) marks)) _ a (q2 .2) in
+      let q3 = bind-of (askAt 13 0 (leb (markBytes (q1 .0 .atoms)) marks)) _ a (q2 .2) in
       let q4 = bind-of (accept (q1 .0) (q2 .0)) (λ _. finding (record { task = q1 .0; clauses = q2 .0 })) a (q3 .2) in
       let s : record { task = q1 .0; clauses = q2 .0 } ≡ a = same-finding (record { task = q1 .0; clauses = q2 .0 }) a (q4 .2) in
       let k = ap (λ (z : Accepted). z .clauses) s in
@@ -161,7 +162,7 @@ answer-size : (w : List ℕ) (x : Found) → inputAnswer w ≡ finding x → len
 answer-size w x e =
     let N = getD w 2 0 in
     let cw = clauseWords (x .clauses) in
-    let r = rw (getD-drop 2 w 0 0) at (clauses-read (drop 2 w) (getD w 0 0) (getD w 1 0) (width * mostRows) (width * mostRows) mostLiterals x e) in
+    let r = rw (getD-drop 2 w 0 0) at (clauses-read (drop 2 w) (getD w 0 0) (getD w 1 0) (width * mostRows) (width * mostRows) (markBytes mostAtoms) x e) in
     let s = read-size N cw (x .rounds) (read-of N cw (x .clauses) (r .0)) (r .1) in
     rw (found-is x (clausesOf cw) (x .rounds) (read-are N cw (x .clauses) (r .0)) refl) s
 
@@ -198,7 +199,7 @@ pub record WordsFound (w : List ℕ) (n : ℕ) (buf : List ℕ) (k r : ℕ) : Ty
 -- the words of an input, the number of atoms in them, and the buffers that the synthesis is lent
 module _
     (w old : List ℕ) (n work marks : ℕ) (atoms : n ≡ getD w 2 0) (rows : length old ≡ width * mostRows) (worked : work ≡ width * mostRows)
-    (marked : marks ≡ mostLiterals) where
+    (marked : marks ≡ markBytes mostAtoms) where
   same-image : take (length w - 2) (drop 2 w) ≡ drop 2 w
   same-image = let d = length-drop 2 w in take-all (length w - 2) (drop 2 w) (omega arith)
 

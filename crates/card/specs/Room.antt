@@ -3,7 +3,8 @@ use mathlib.Core.Path.{_≡_}
 use mathlib.Core.List.{List}
 use Prim.Native.Nat.{ℕ, _+_, _*_, _≤_}
 use lib.ListN.{length}
-use Rattle.definitions.specs.Literal.{mostAtoms, mostLiterals}
+use Rattle.definitions.specs.Literal.{mostAtoms}
+use Rattle.definitions.specs.Marks.{markBytes}
 use Rattle.definitions.specs.Image.{mostImage}
 use Rattle.definitions.specs.Clauses.{width, mostRows}
 
@@ -20,5 +21,5 @@ mostWords = 2 + mostImage
 pub record Buffers (cs ws ms out : List ℕ) : Type 0 where
   pub rows : length cs ≡ width * mostRows
   pub work : length ws ≡ width * mostRows
-  pub marks : length ms ≡ mostLiterals
+  pub marks : length ms ≡ markBytes mostAtoms
   pub text : mostText ≤ length out

@@ -5,7 +5,8 @@ use Prim.Native.Nat.{ℕ, _+_, _*_, _/_, _%_}
 use lib.Dec.{eqb, leb}
 use lib.ListN.{length, getD, drop}
 use Rattle.definitions.specs.Lists.{each, below}
-use Rattle.definitions.specs.Literal.{mostLiterals, positive}
+use Rattle.definitions.specs.Literal.{mostAtoms, positive}
+use Rattle.definitions.specs.Marks.{markBytes}
 use Rattle.definitions.specs.Answer.{Answer, finding, refused}
 use Rattle.definitions.specs.Clauses.{width, mostRows}
 use Rattle.definitions.specs.Synthesis.{Found, synthesis}
@@ -58,7 +59,7 @@ isInput bs = leb 4 (length bs) && eqb (length bs % 2) 0 && leb (length bs) mostI
 
 -- the synthesis for the words of an input: n, limit, image
 abbrev pub inputAnswer : List ℕ → Answer Found
-inputAnswer w = synthesis (drop 2 w) (getD w 0 0) (getD w 1 0) (width * mostRows) (width * mostRows) mostLiterals
+inputAnswer w = synthesis (drop 2 w) (getD w 0 0) (getD w 1 0) (width * mostRows) (width * mostRows) (markBytes mostAtoms)
 
 -- the text of the words of an input
 unfoldable pub wordsText : List ℕ → List ℕ

@@ -102,7 +102,7 @@ fn write_card(words: &[u16], out: &mut [u8]) -> usize
 {
     let mut clauses = row_room();
     let mut work = row_room();
-    let mut marks = literal::room::marks();
+    let mut marks = propagation::marks::room();
     write_words(words, &mut clauses, &mut work, &mut marks, out)
 }
 

@@ -2,8 +2,8 @@
 // A case is little-endian words: the call, two numbers, for each of four lists its length and how many of its first values are
 // stored, then the stored values of the lists. The lists are an image, two more lists of words, and a list of bytes (a word for
 // each byte). A value that is not stored is 7. The calls and their numbers stand in `task_call` (0 to 4), `clause_call` (5 to 9),
-// `fdr_call` (10 to 16), `dimacs_call` (17 and 18) and `call` (19). A line has the returned number, both values or places, and the
-// list that was lent to be changed (not marks and work, which may hold anything), after a bar.
+// `fdr_call` (10 to 16), `dimacs_call` (17 and 18) and `call` (19 and 20). A line has the returned number, both values or places, and
+// the list that was lent to be changed, after a bar (not marks and work, which may hold anything, but the marks of 20).
 //
 // Only `run` is public. The other functions of this file call the C interface, whose contracts stand in `exports`, and write:
 // no contract of the kit can name what C's `write` puts out, so they have no `ensures`, and are proved to be safe and to end.
@@ -60,7 +60,7 @@ fn write_bytes(list: &[u8]) {
 // The list that call `which` was lent to be changed.
 fn write_lent(which: u16, list: &[u16], other: &[u16], small: &[u8]) {
     match which {
-        1 | 2 | 4 | 15 | 17 => write_bytes(small),
+        1 | 2 | 4 | 15 | 17 | 20 => write_bytes(small),
         7 | 10 | 11 | 13 | 14 | 18 => write_words(list),
         8 | 9 | 19 => write_words(other),
         _ => {}
@@ -148,7 +148,8 @@ fn dimacs_call(
     }
 }
 
-// The calls by number; 19 joins the tasks of `image` and `list` into `other`.
+// The calls by number; 19 joins the tasks of `image` and `list` into `other`, 20 shows the closure of the clauses `list` and of operator
+// `x` in the marks `small`.
 fn call(
     which: u16,
     x: u16,
@@ -172,7 +173,10 @@ fn call(
     if which < 19 {
         return dimacs_call(which, image, list, small, first, second);
     }
-    exports::kb_join(image, list, other, first, second)
+    if which < 20 {
+        return exports::kb_join(image, list, other, first, second);
+    }
+    exports::kb_closure(image, list, x, small, first, second)
 }
 
 // ---- The cases

@@ -7,6 +7,7 @@ use Rattle.definitions.specs.Answer.{finding, verdict, ask}
 use Rattle.definitions.specs.Image.{Task, readTask}
 use Rattle.definitions.specs.Clauses.{readClauses}
 use Rattle.definitions.specs.Checker.{accept, check}
+use Rattle.definitions.specs.Marks.{markBytes}
 use Rattle.definitions.proofs.AnswerLaws.{same-finding, bind-of}
 use Rattle.task.specs.Reads.{taskIn, taskOf}
 use Rattle.clause.specs.Rows.{clausesOf, ClausesRead}
@@ -26,7 +27,7 @@ module _ (w c : List ℕ) (marks : ℕ) where
       let p = bind-of (readTask w) _ (a .0) (a .1) in
       let t = p .0 in
       let q = bind-of (readClauses (t .atoms) c) _ (a .0) (p .2) in
-      let r = bind-of (ask 13 (leb (2 * t .atoms) marks)) _ (a .0) (q .2) in
+      let r = bind-of (ask 13 (leb (markBytes (t .atoms)) marks)) _ (a .0) (q .2) in
       let s = bind-of (accept t (q .0)) (λ _. finding (record { task = t; clauses = q .0 })) (a .0) (r .2) in
       let is-task : t ≡ taskOf w = found-task t (p .1) in
       let is-set : q .0 ≡ clausesOf c = read-are (t .atoms) c (q .0) (q .1) in

@@ -12,6 +12,7 @@ use Rattle.definitions.specs.Answer.{Refusal, Answer, finding, refused, refuse,
 use Rattle.definitions.specs.Literal.{mostAtoms, holdsIn}
 use Rattle.definitions.specs.Image.{Task, initialState}
 use Rattle.definitions.specs.Checker.{askTrue, askKept, accept, Accepted, check}
+use Rattle.definitions.specs.Marks.{markBytes}
 use Rattle.definitions.proofs.Walks.{left-here}
 use Rattle.definitions.proofs.AnswerLaws.{not-finding}
 use Rattle.definitions.proofs.LowestPlaces.{check-read}
@@ -63,11 +64,11 @@ module _ (w c : List ℕ) (marks : ℕ) where
   check-both r h = sym (ap verdict (both-refused w c _ r h))
 
   module _ (task : Reads w) (clauses : ClausesRead (taskOf w .atoms) c) where
-    check-marks : marks < 2 * taskOf w .atoms → refused (refusalAt 13 0 0) ≡ verdict (check w c marks)
+    check-marks : marks < markBytes (taskOf w .atoms) → refused (refusalAt 13 0 0) ≡ verdict (check w c marks)
     unfolding check _>>=_ ask askAt verdict
-    check-marks h = rw (task .found, clauses .read, lt-leb (2 * taskOf w .atoms) marks h)
+    check-marks h = rw (task .found, clauses .read, lt-leb (markBytes (taskOf w .atoms)) marks h)
 
-    pub input-marks : (r : Verdict) → verdictAnswer r ≡ refused (refusalAt 13 0 0) → marks < 2 * taskOf w .atoms → Input w c marks r
+    pub input-marks : (r : Verdict) → verdictAnswer r ≡ refused (refusalAt 13 0 0) → marks < markBytes (taskOf w .atoms) → Input w c marks r
     input-marks Fine e h = absurd (not-finding (sym e))
     input-marks (Refused f) e h = e ∙ check-marks h
 

@@ -10,6 +10,7 @@ use Rattle.definitions.specs.Image.{Task}
 use Rattle.definitions.specs.Step.{operatorAt}
 use Rattle.definitions.specs.Kept.{kept}
 use Rattle.definitions.specs.Checker.{failsUnder, check}
+use Rattle.definitions.specs.Marks.{markBytes}
 use Rattle.answer.specs.Answer.{placed}
 use Rattle.answer.specs.declared.Verdict as verdicts
 use Rattle.task.specs.Reads.{taskOf, Reads}
@@ -37,14 +38,14 @@ falseAnswer (some i) = refuse 10 i 0
 pub record Judging (w c : List ℕ) (atoms operator marks flags : ℕ) : Type 0 where
   pub read : Read w c atoms
   pub operator-of : operator < length (taskOf w .operators)
-  pub marked : 2 * atoms ≤ marks
+  pub marked : markBytes atoms ≤ marks
   pub inside : flags ≤ rowCount c
 
 -- questions 1 to 9 and 13 are answered yes
 pub record Reading (w c : List ℕ) (marks : ℕ) : Type 0 where
   pub task : Reads w
   pub clauses : ClausesRead (taskOf w .atoms) c
-  pub marked : 2 * taskOf w .atoms ≤ marks
+  pub marked : markBytes (taskOf w .atoms) ≤ marks
 
 -- what the answer to these questions says
 abbrev pub Input : List ℕ → List ℕ → ℕ → verdicts.Verdict → Type 0

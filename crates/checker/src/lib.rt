@@ -7,6 +7,7 @@ ghost use Rattle.definitions.specs.Answer.{refused, verdict};
 ghost use Rattle.definitions.specs.Literal.{holdsIn};
 ghost use Rattle.definitions.specs.Step.{operatorAt};
 ghost use Rattle.definitions.specs.Checker.{askTrue, askKept, check};
+ghost use Rattle.definitions.specs.Marks.{markBytes};
 ghost use Rattle.answer.specs.Answer.{refusalAt, verdictAnswer};
 ghost use Rattle.task.specs.Reads.{taskOf};
 ghost use Rattle.clause.specs.Rows.{rowCount, clausesOf};
@@ -94,7 +95,7 @@ fn check_kept(
     marks: &mut [u8],
     fails: &mut [u8],
 ) -> Verdict
-    requires { ⌜ Read (now image) (now clauses) atoms × (2 * atoms ≤ length (now marks)) × (rowCount (now clauses) ≤ length (now fails)) ⌝ }
+    requires { ⌜ Read (now image) (now clauses) atoms × (markBytes atoms ≤ length (now marks)) × (rowCount (now clauses) ≤ length (now fails)) ⌝ }
     ensures { λ r. ⌜ verdictAnswer r ≡ askKept (taskOf (now (image .entry))) (clausesOf (now (clauses .entry))) 0 (clausesOf (now (clauses .entry))) ⌝ }
 {
     let count = clause::rows(clauses);
@@ -126,7 +127,7 @@ fn check_input(image: &[u16], clauses: &[u16], marks: usize) -> Verdict
     if let Verdict::Refused(f) = read {
         return Verdict::Refused(f);
     }
-    if marks < 2 * task::atoms(image) {
+    if marks < propagation::marks::bytes(task::atoms(image)) {
         return answer::refuse(Refusal::BUFFERS);
     }
     Verdict::Fine

@@ -26,12 +26,12 @@ use Rattle.definitions.proofs.StepLists.{walk-alike, verdicts-alike, vi
 use Rattle.definitions.proofs.ReadLaws.{Right}
 use Rattle.definitions.proofs.Simulation.{Coded, coded-state}
 use Rattle.definitions.proofs.LiteralLaws.{list-low}
-use Rattle.definitions.proofs.ListLaws.{getD-map-low}
+use Rattle.definitions.proofs.ListLaws.{below-count, getD-map-low}
 use Rattle.definitions.proofs.StepsAlike.{domains-count, steps-alike, starts-coded, goals-alike, to-atoms}
 use Rattle.definitions.proofs.AnswerLaws.{same-finding}
 use Rattle.definitions.proofs.ReadLaws.{ReadRight, read-right}
 use Rattle.definitions.proofs.ImageSize.{read-sizes}
-use Rattle.definitions.proofs.FdrValid.{values-right, image-read, below-count}
+use Rattle.definitions.proofs.FdrValid.{values-right, image-read}
 use Rattle.definitions.proofs.FromAtoms.{from-atoms}
 
 -- image w reads as task t

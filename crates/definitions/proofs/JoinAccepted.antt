@@ -17,6 +17,7 @@ use Rattle.definitions.specs.Clauses.{width, mostRows, clauseWords}
 use Rattle.definitions.specs.Kept.{kept}
 use Rattle.definitions.specs.Checker.{accept, Accepted, check}
 use Rattle.definitions.specs.Join.{shifted, shiftedRow, shiftedOperator, shiftedClauses, joined, union, unionWords}
+use Rattle.definitions.specs.Marks.{markBytes}
 use Rattle.definitions.proofs.ListLaws.{and-both, map-of, map-in, all-append, all-map, all-agree, in-left, in-right}
 use Rattle.definitions.proofs.LiteralLaws.{complement-low, below-at}
 use Rattle.definitions.proofs.ReadLaws.{effect-low, read-right}
@@ -142,7 +143,7 @@ pub union-accepted :
     → check v d m₂ ≡ finding b
     → readTask z ≡ finding (joined (a .task) (b .task))
     → length (unionWords (a .task .atoms) c d) ≤ width * mostRows
-    → 2 * (a .task .atoms + b .task .atoms) ≤ marks
+    → markBytes (a .task .atoms + b .task .atoms) ≤ marks
     → check z (unionWords (a .task .atoms) c d) marks
     ≡ finding (record { task = joined (a .task) (b .task); clauses = union (a .task .atoms) (a .clauses) (b .clauses) })
 unfolding joined
@@ -152,7 +153,7 @@ union-accepted w v z c d m₁ m₂ marks a b ea eb reads short enough =
     good
     (union-up (t .atoms) (u .atoms) few C D (rC .0 .clauses) (rD .0 .clauses) (rC .0 .order) (rD .0 .order))
     rows
-    (le-leb (2 * (t .atoms + u .atoms)) marks enough)
+    (le-leb (markBytes (t .atoms + u .atoms)) marks enough)
     (union-accept t u C D
     (right-of t (read-of w t (pa .read) .right))
     (right-of u (read-of v u (pb .read) .right))
@@ -212,7 +213,7 @@ pub joined-accepted :
     → check w c m₁ ≡ finding a
     → check v d m₂ ≡ finding b
     → length (unionWords (t .atoms) c d) ≤ width * mostRows
-    → 2 * (t .atoms + u .atoms) ≤ marks
+    → markBytes (t .atoms + u .atoms) ≤ marks
     → check z (unionWords (t .atoms) c d) marks ≡ finding (record { task = joined t u; clauses = union (t .atoms) (a .clauses) (b .clauses) })
 joined-accepted w v z c d m₁ m₂ marks t u a b rw′ rv rz ea eb short enough =
     subst (λ (x : Task). Claim x u)
@@ -226,5 +227,5 @@ joined-accepted w v z c d m₁ m₂ marks t u a b rw′ rv rz ea eb short enough
     Claim x y =
         readTask z ≡ finding (joined x y)
         → length (unionWords (x .atoms) c d) ≤ width * mostRows
-        → 2 * (x .atoms + y .atoms) ≤ marks
+        → markBytes (x .atoms + y .atoms) ≤ marks
         → check z (unionWords (x .atoms) c d) marks ≡ finding (record { task = joined x y; clauses = union (x .atoms) (a .clauses) (b .clauses) })

@@ -21,6 +21,7 @@ use Rattle.definitions.specs.Encoding.{encodeCall}
 use Rattle.definitions.specs.LowestPlaces.{trueAt, keptAt, LowestFalse, LowestNotKept, AllTrue, ReadAs, Refuses, AllRefuse}
 use Rattle.definitions.specs.LowestPlaces.{Refused10, Refused11, LowestPlaces}
 use Rattle.definitions.specs.LowestPlaces.Refuses.{by-checker, by-groups, by-reencoding}
+use Rattle.definitions.specs.Marks.{markBytes}
 use Rattle.definitions.proofs.ListLaws.{all-at, getD-mem}
 use Rattle.definitions.proofs.FirstFail.{First, first-none, none-first, first-some, some-first}
 use Rattle.definitions.proofs.AnswerLaws.{not-finding, same-refusal, refused-after, refused-by, ask-refused}
@@ -43,7 +44,7 @@ module _ (w c : List ℕ) (r : Refusal) (from-10 : 10 ≤ r .number) (to-11 : r 
       let t = q1 .0 in
       let q2 = refused-after _ r (readClauses (t .atoms) c) (q1 .2) (λ h. let few = clauses-numbers (t .atoms) c r h in omega arith) in
       let C = q2 .0 in
-      let room = leb (2 * t .atoms) marks in
+      let room = leb (markBytes (t .atoms)) marks in
       let q3 = refused-after _ r (askAt 13 0 room) (q2 .2) (λ h. let same = ask-refused 13 0 room r h in omega arith) in
       record {
         task = t;
@@ -211,13 +212,13 @@ names-11 w c i j e =
 
 -- the checker's answer, of a task and clauses that are read
 pub check-read :
-    (w c : List ℕ) (marks : ℕ) (t : Task) (C : List (List ℕ)) → ReadAs w c t C → 2 * t .atoms ≤ marks
+    (w c : List ℕ) (marks : ℕ) (t : Task) (C : List (List ℕ)) → ReadAs w c t C → markBytes (t .atoms) ≤ marks
     → check w c marks ≡ (accept t C >>= λ _. finding (record { task = t; clauses = C }))
 unfolding check ask askAt _>>=_
-check-read w c marks t C read room = rw (read .task, read .clauses, le-leb (2 * t .atoms) marks room)
+check-read w c marks t C read room = rw (read .task, read .clauses, le-leb (markBytes (t .atoms)) marks room)
 
 -- what `accept` refuses with is what the calls refuse with
-module _ (w c : List ℕ) (marks : ℕ) (t : Task) (C : List (List ℕ)) (read : ReadAs w c t C) (room : 2 * t .atoms ≤ marks) (q i j : ℕ) where
+module _ (w c : List ℕ) (marks : ℕ) (t : Task) (C : List (List ℕ)) (read : ReadAs w c t C) (room : markBytes (t .atoms) ≤ marks) (q i j : ℕ) where
   check-refuses : accept t C ≡ refuse q i j → check w c marks ≡ refuse q i j
   unfolding refuse _>>=_
   check-refuses e = rw (check-read w c marks t C read room, e)

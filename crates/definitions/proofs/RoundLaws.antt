@@ -14,6 +14,7 @@ use Rattle.definitions.specs.Answer.{Answer, finding, refuse, ask, askAt
 use Rattle.definitions.specs.Image.{Task, readTask}
 use Rattle.definitions.specs.Clauses.{width}
 use Rattle.definitions.specs.Synthesis.{firstSet, tested, passes, next, setAt, Found, fits, rounds, rowsIn, synthesis}
+use Rattle.definitions.specs.Marks.{markBytes}
 use Rattle.definitions.proofs.ListLaws.{decide, and-left, and-right}
 use Rattle.definitions.proofs.AnswerLaws.{not-finding, same-finding, ask-of, up-ask, OnlyAbove, bind-above}
 use Rattle.definitions.proofs.QuestionNumbers.{task-numbers}
@@ -134,7 +135,7 @@ pub record QuestionsPassed (w : List ℕ) (n limit words marks : ℕ) (a : Answe
   pub some-literal : 1 ≤ n
   pub narrow : n ≤ width
   pub some-round : 1 ≤ limit
-  pub marked : leb (2 * task .atoms) marks ≡ true
+  pub marked : leb (markBytes (task .atoms)) marks ≡ true
   pub ended : EndOfRounds task n (rowsIn words) (limit - 1) a
 
 -- every finding, and every refusal with a number above 14
@@ -146,7 +147,7 @@ questions-passed w n limit words work marks a high e =
     let q1 = bind-above 14 (readTask w) _ a (λ r h. let k = task-numbers w r h in omega arith) high e in
     let t = q1 .0 in
     let b12 = leb 1 n && leb n width && leb 1 limit && leb limit 65535 in
-    let b13 = leb (2 * t .atoms) marks && leb words work in
+    let b13 = leb (markBytes (t .atoms)) marks && leb words work in
     let b14 = fits (rowsIn words) (firstSet t) in
     let q2 = bind-above 14 (askAt 12 0 b12) _ a (up-ask 14 12 0 b12 (omega arith)) high (q1 .2) in
     let q3 = bind-above 14 (askAt 13 0 b13) _ a (up-ask 14 13 0 b13 (omega arith)) high (q2 .2) in
@@ -159,7 +160,7 @@ questions-passed w n limit words work marks a high e =
       some-literal = leb-true 1 n (and-left (leb 1 n) (leb n width) literals);
       narrow = leb-true n width (and-right (leb 1 n) (leb n width) literals);
       some-round = leb-true 1 limit (and-right (leb 1 n && leb n width) (leb 1 limit) limits);
-      marked = and-left (leb (2 * t .atoms) marks) (leb words work) (ask-of 13 0 b13 (q3 .0) (q3 .1));
+      marked = and-left (leb (markBytes (t .atoms)) marks) (leb words work) (ask-of 13 0 b13 (q3 .0) (q3 .1));
       ended =
           subst (λ (a : Answer Found). EndOfRounds t n (rowsIn words) (limit - 1) a) (q4 .2)
           (end-from-first t n (rowsIn words) (limit - 1) (ask-of 14 0 b14 (q4 .0) (q4 .1)));

@@ -13,6 +13,7 @@ use Rattle.definitions.specs.Kept.{kept}
 use Rattle.definitions.specs.Checker.{check}
 use Rattle.definitions.specs.Groups.{groupsCall}
 use Rattle.definitions.specs.Encoding.{encodeCall}
+use Rattle.definitions.specs.Marks.{markBytes}
 
 module _ (t : Task) (C : List (List ℕ)) where
   -- clause i holds initially
@@ -79,8 +80,8 @@ pub record LowestPlaces : Type 0 where
   pub at-10 : (w c : List ℕ) (i j : ℕ) → Refuses w c 10 i j → Refused10 w c i j
   pub at-11 : (w c : List ℕ) (i j : ℕ) → Refuses w c 11 i j → Refused11 w c i j
   pub finds-false :
-      (w c : List ℕ) (marks : ℕ) (t : Task) (C : List (List ℕ)) → ReadAs w c t C → 2 * t .atoms ≤ marks → (i : ℕ) → LowestFalse t C i
+      (w c : List ℕ) (marks : ℕ) (t : Task) (C : List (List ℕ)) → ReadAs w c t C → markBytes (t .atoms) ≤ marks → (i : ℕ) → LowestFalse t C i
       → AllRefuse w c marks 10 i 0
   pub finds-not-kept :
-      (w c : List ℕ) (marks : ℕ) (t : Task) (C : List (List ℕ)) → ReadAs w c t C → 2 * t .atoms ≤ marks → AllTrue t C → (i j : ℕ)
+      (w c : List ℕ) (marks : ℕ) (t : Task) (C : List (List ℕ)) → ReadAs w c t C → markBytes (t .atoms) ≤ marks → AllTrue t C → (i j : ℕ)
       → LowestNotKept t C i j → AllRefuse w c marks 11 i j

@@ -12,6 +12,7 @@ use Rattle.definitions.specs.Clauses.{width, mostRows}
 use Rattle.definitions.specs.Checker.{Accepted, check}
 use Rattle.definitions.specs.Groups.{Written}
 use Rattle.definitions.specs.Join.{joined, joinFits, joinCall, union, unionWords, firstPart, secondPart}
+use Rattle.definitions.specs.Marks.{markBytes}
 
 -- a list of numbers, whatever they are, from the initial states of the joined image z and of the two images
 module _ (w v z : List ℕ) (t u : Task) (is : List ℕ) where
@@ -68,7 +69,7 @@ pub record TwoJoined (w v : List ℕ) (target : ℕ) (x : Written) : Type 0 wher
   pub accepted :
       (c d : List ℕ) (m₁ m₂ marks : ℕ) (a b : Accepted) → check w c m₁ ≡ finding a → check v d m₂ ≡ finding b
       → length (unionWords (first .atoms) c d) ≤ width * mostRows
-      → 2 * (first .atoms + second .atoms) ≤ marks
+      → markBytes (first .atoms + second .atoms) ≤ marks
       → check (x .words) (unionWords (first .atoms) c d) marks
       ≡ finding (record { task = joined first second; clauses = union (first .atoms) (a .clauses) (b .clauses) })
   -- every list of numbers

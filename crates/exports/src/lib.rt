@@ -5,6 +5,7 @@ ghost use lib.ListN.{length};
 ghost use Rattle.definitions.specs.Answer.{verdict, stateAfter};
 ghost use Rattle.definitions.specs.Image.{readTask};
 ghost use Rattle.definitions.specs.Step.{stepTask, goalTask, startTask, runTask};
+ghost use Rattle.definitions.specs.ClosureCall.{closureCall};
 ghost use Rattle.definitions.specs.Checker.{check, keeps};
 ghost use Rattle.definitions.specs.Synthesis.{synthesisCall};
 ghost use Rattle.definitions.specs.Groups.{written, groupsCall};
@@ -78,6 +79,25 @@ pub extern "C" fn kb_task_run(
     ensures { λ r. ⌜ (returned r (now (first .exit)) (now (second .exit)) ≡ returnedCount (runTask (now (image .entry)) (now (state .entry)) (now (list .entry)) .answer)) × (now (state .exit) ≡ runTask (now (image .entry)) (now (state .entry)) (now (list .entry)) .lent) ⌝ }
 {
     numbers::count(state::run(image, state, list), first, second)
+}
+
+// The closure of the clauses and an operator's precondition, in the marks: 1 to 9, 19, 13. `first` is the number of its literals.
+#[no_mangle]
+pub extern "C" fn kb_closure(
+    image: &[u16],
+    clauses: &[u16],
+    operator: u16,
+    marks: &mut [u8],
+    first: &mut u64,
+    second: &mut u64,
+) -> u32
+    ensures { λ r. ⌜ (returned r (now (first .exit)) (now (second .exit)) ≡ returnedCount (written (now (marks .entry)) (closureCall (now (image .entry)) (now (clauses .entry)) operator (now (marks .entry))) .answer)) × (now (marks .exit) ≡ written (now (marks .entry)) (closureCall (now (image .entry)) (now (clauses .entry)) operator (now (marks .entry))) .lent) ⌝ }
+{
+    numbers::count(
+        closure::closure(image, clauses, operator, marks),
+        first,
+        second,
+    )
 }
 
 // Whether the clauses keep a clause under an operator: 1 to 9, then 8 and 9 for the clause alone, 19, 13. `first` is 1 if kept, 0 if not.

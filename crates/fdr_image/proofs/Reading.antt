@@ -18,9 +18,8 @@ use Rattle.definitions.specs.FdrImage.{mostFdrImage, domainsIn, placesIn, liter
 use Rattle.definitions.specs.FdrImage.{fdrLiteralRight, fdrOperatorRight, eachGivenOnce, readFdrOperators, valuesRight, readFdr}
 use Rattle.definitions.specs.FdrStep.{noFdrOperator}
 use Rattle.definitions.proofs.ListLaws.{never, and-left, and-right, all-at}
-use Rattle.definitions.proofs.ListLaws.{getD-mem, getD-map-low}
+use Rattle.definitions.proofs.ListLaws.{below-count, below-getD, getD-mem, getD-map-low}
 use Rattle.definitions.proofs.Walks.{range-all-off, range-all-on}
-use Rattle.definitions.proofs.FdrValid.{below-count}
 use Rattle.directory.specs.Directory.{Lies}
 use Rattle.directory.proofs.Laws.{directory-lies, directory-short}
 use Rattle.definitions.proofs.AnswerLaws.{not-finding}
@@ -29,7 +28,7 @@ use Rattle.fdr_image.specs.Walk.{place, blockRight, someOperator, operat
 use Rattle.fdr_image.specs.Walk.{atomsRight, goalRight, operatorsRight, rulesRight, restRight, partsRight, fdrRight}
 use Rattle.fdr_image.specs.Post.{Laid, BlockGiven}
 use Rattle.fdr_image.proofs.Pairs.{domains-length}
-use Rattle.fdr_image.proofs.Below.{below-at, below-getD}
+use Rattle.fdr_image.proofs.Below.{below-at}
 
 -- ---- the questions in order, all of them 17
 orRefuse : {A : Type 0} → Bool → Answer A → Answer A

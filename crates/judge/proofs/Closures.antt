@@ -6,11 +6,12 @@ use Prim.Native.Nat.{ℕ, _*_, _≤_, _<_}
 use lib.ListN.{length}
 use Rattle.definitions.specs.Closure.{closure, contradictory}
 use Rattle.definitions.specs.Kept.{allIn}
+use Rattle.definitions.specs.Marks.{markBytes}
 use Rattle.clause.specs.Rows.{clausesOf, ClausesRead}
 use Rattle.clause.proofs.ReadLaws.{read-right}
 use Rattle.clause.proofs.ClauseLaws.{clause-below}
 use Rattle.propagation.specs.Marks.{Marked, ConsistentMarks}
-use Rattle.propagation.proofs.Marks.{consistent-by, marked-room}
+use Rattle.propagation.proofs.MarkedSets.{consistent-by, marked-room}
 use Rattle.judge.specs.Judging.{canFire}
 use Rattle.judge.specs.Promise.{ConsistentClosure}
 use Rattle.judge.proofs.Firing.{closure-held, held-fires}
@@ -66,5 +67,5 @@ pub consistent-copied :
     → Marked atoms ms′ S) → ConsistentMarks atoms ms′
 consistent-copied atoms ms ms′ c copied = consistent-by atoms ms′ (c .set) (copied (c .set) (c .marked)) (c .consistent)
 
-pub consistent-room : (atoms : ℕ) (ms : List ℕ) → ConsistentMarks atoms ms → 2 * atoms ≤ length ms
+pub consistent-room : (atoms : ℕ) (ms : List ℕ) → ConsistentMarks atoms ms → markBytes atoms ≤ length ms
 consistent-room atoms ms c = marked-room atoms ms (c .set) (c .marked)

@@ -15,7 +15,7 @@ use Rattle.definitions.specs.Closure.{has, bit, closure, contradictory}
 use Rattle.definitions.specs.Kept.{rowsWith, allIn, surelyFires, neverFires, madeTrue, staysTrue, guaranteed}
 use Rattle.definitions.proofs.ListLaws.{decide, all-agree, table-at, table-length}
 use Rattle.propagation.proofs.Sets.{complement-back}
-use Rattle.propagation.proofs.Marks.{bit-back}
+use Rattle.propagation.proofs.MarkedSets.{bit-back}
 use Rattle.literal.specs.Literal.{hasSign}
 use Rattle.literal.proofs.Mark.{put-at, put-length}
 use Rattle.judge.specs.Judging.{flagsOf, flagEffects, canFire, dropChanged, guaranteedFlags}

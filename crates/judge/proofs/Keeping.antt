@@ -17,6 +17,7 @@ use Rattle.definitions.specs.Closure.{has}
 use Rattle.definitions.specs.Kept.{kept}
 use Rattle.definitions.specs.Checker.{keeps}
 use Rattle.definitions.specs.Literal.{mostAtoms}
+use Rattle.definitions.specs.Marks.{markBytes}
 use Rattle.definitions.proofs.AnswerLaws.{not-finding}
 use Rattle.answer.specs.Answer.{refusalAt, placed, verdictAnswer}
 use Rattle.answer.specs.declared.Verdict.{Verdict}
@@ -30,7 +31,7 @@ use Rattle.reading.specs.Reading.{readBoth, BothRead}
 use Rattle.reading.proofs.Questions.{both-refused}
 use Rattle.judge.specs.Judging.{failFlags}
 use Rattle.judge.specs.Promise.{Given, Judged, BulkGiven, Asks, InputAnswer, AllRead, ReadAnswer}
-use Rattle.propagation.proofs.Marks.{bit-back}
+use Rattle.propagation.proofs.MarkedSets.{bit-back}
 use Rattle.answer.proofs.Laws.{verdict-refused}
 
 -- what judging asks, of an operator of a task
@@ -98,10 +99,10 @@ module _ (w c f : List ℕ) where
     unfolding keeps _>>=_ ask askAt
     keeps-operator h = rw (read .task .found, read .clauses .read, read .clause .read, le-ltb i (length (taskOf w .operators)) h)
 
-    keeps-marks : i < length (taskOf w .operators) → marks < 2 * taskOf w .atoms → refused (refusalAt 13 0 0) ≡ keeps w c f i marks
+    keeps-marks : i < length (taskOf w .operators) → marks < markBytes (taskOf w .atoms) → refused (refusalAt 13 0 0) ≡ keeps w c f i marks
     unfolding keeps _>>=_ ask askAt
     keeps-marks inside h =
-        rw (read .task .found, read .clauses .read, read .clause .read, lt-ltb i (length (taskOf w .operators)) inside, lt-leb (2 * taskOf w .atoms) marks h)
+        rw (read .task .found, read .clauses .read, read .clause .read, lt-ltb i (length (taskOf w .operators)) inside, lt-leb (markBytes (taskOf w .atoms)) marks h)
 
     pub input-operator :
         length (taskOf w .operators) ≤ i → (v : Verdict) → verdictAnswer v ≡ refused (refusalAt 19 0 0) → InputAnswer w c f i marks v
@@ -109,7 +110,7 @@ module _ (w c f : List ℕ) where
     input-operator h (Refused r) e = let q : placed r ≡ refusalAt 19 0 0 = cc in ap refused q ∙ keeps-operator h
 
     pub input-marks :
-        i < length (taskOf w .operators) → marks < 2 * taskOf w .atoms → (v : Verdict) → verdictAnswer v ≡ refused (refusalAt 13 0 0)
+        i < length (taskOf w .operators) → marks < markBytes (taskOf w .atoms) → (v : Verdict) → verdictAnswer v ≡ refused (refusalAt 13 0 0)
         → InputAnswer w c f i marks v
     input-marks inside h Fine e = absurd (not-finding (sym e))
     input-marks inside h (Refused r) e = let q : placed r ≡ refusalAt 13 0 0 = cc in ap refused q ∙ keeps-marks inside h
@@ -124,7 +125,7 @@ module _ (w c f : List ℕ) where
         a .clauses .read,
         a .clause .read,
         lt-ltb i (length (taskOf w .operators)) (a .operator),
-        le-leb (2 * taskOf w .atoms) marks (a .marked),
+        le-leb (markBytes (taskOf w .atoms)) marks (a .marked),
       )
 
 -- ---- the test of one clause under operator i

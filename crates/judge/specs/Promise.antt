@@ -2,12 +2,13 @@
 use mathlib.Core.Path.{_≡_}
 use mathlib.Core.Bool.{true, false}
 use mathlib.Core.List.{List}
-use Prim.Native.Nat.{ℕ, _*_, _≤_, _<_}
+use Prim.Native.Nat.{ℕ, _≤_, _<_}
 use lib.ListN.{length}
 use Rattle.definitions.specs.Answer.{refused}
 use Rattle.definitions.specs.Literal.{mostAtoms}
 use Rattle.definitions.specs.Image.{operatorRight}
 use Rattle.definitions.specs.Closure.{closure, contradictory}
+use Rattle.definitions.specs.Marks.{markBytes}
 use Rattle.definitions.specs.Clauses.{clauseRight, rowAt}
 use Rattle.definitions.specs.Checker.{keeps}
 use Rattle.answer.specs.Answer.{placed}
@@ -33,7 +34,7 @@ pub record Judged (atoms : ℕ) (ws : List ℕ) : Type 0 where
 pub record BulkGiven (atoms : ℕ) (ws js b marks fails : List ℕ) : Type 0 where
   pub given : Given atoms ws b
   pub judged : Judged atoms js
-  pub room : 2 * atoms ≤ length marks
+  pub room : markBytes atoms ≤ length marks
   pub flagged : length fails ≡ rowCount js
 
 -- the marks are those of the closure of the clauses and ls, which is not contradictory
@@ -66,7 +67,7 @@ pub record Asks (w c f : List ℕ) (i marks : ℕ) : Type 0 where
   pub clauses : ClausesRead (taskOf w .atoms) c
   pub clause : ClauseRead (taskOf w .atoms) f
   pub operator : i < length (taskOf w .operators)
-  pub marked : 2 * taskOf w .atoms ≤ marks
+  pub marked : markBytes (taskOf w .atoms) ≤ marks
 
 -- what the answer to these questions says
 abbrev pub InputAnswer : List ℕ → List ℕ → List ℕ → ℕ → ℕ → verdicts.Verdict → Type 0

@@ -7,6 +7,7 @@ ghost use Rattle.definitions.specs.Lists.{any, member};
 ghost use Rattle.definitions.specs.Literal.{complement};
 ghost use Rattle.definitions.specs.Closure.{has};
 ghost use Rattle.definitions.specs.Clauses.{clauseOf};
+ghost use Rattle.definitions.specs.Marks.{markBytes};
 ghost use Rattle.clause.specs.Rows.{rowCount, clausesOf};
 ghost use Rattle.judge.specs.Judging.{lacksFlag, flagMore, guaranteedFlags, violates, someViolates, failFlags, Guarantees};
 ghost use Rattle.judge.specs.Promise.{Given, BulkGiven, ConsistentClosure, ClosedGiven, FlagsGuaranteed};
@@ -14,6 +15,7 @@ ghost use Rattle.propagation.specs.Marks.{Asked, ConsistentMarks};
 ghost use Rattle.task.specs.Walk.{row, operatorIn};
 use clause::place::RowPlace;
 use propagation::Closing;
+use propagation::marks::MOST_BYTES;
 use task::block::BlockHead;
 use task::block::RowPart;
 
@@ -87,7 +89,7 @@ fn flag_violated(
         ≡ flagMore (lacksFlag l (guaranteedFlags atoms (clausesOf (now (clauses .entry))) (operatorIn (now (block .entry))) ls))
         (clausesOf (now (judged .entry))) (now (fails .entry))) ⌝ }
 {
-    let mut flags = literal::room::marks();
+    let mut flags = literal::room::literal_flags();
     let size = 2 * atoms;
     super::guarantee::flag_guaranteed(clauses, block, marks, atoms, &mut flags[..size]);
     flag_lacking(judged, l, &flags[..size], fails);
@@ -117,11 +119,11 @@ fn judge_row(
         (violates atoms (clausesOf (now (clauses .entry))) (operatorIn (now (block .entry))) (row e (now (conditions .entry))))
         (clausesOf (now (judged .entry))) (now (fails .entry))) ⌝ }
 {
-    if propagation::holds_all(base, conditions) {
+    if propagation::marks::holds_all(base, conditions) {
         flag_lacking(judged, l, flags, fails);
         return;
     }
-    propagation::copy(base, marks, atoms);
+    propagation::marks::copy(base, marks, atoms);
     let closed = propagation::extend(clauses, conditions, marks, atoms);
     match closed {
         Closing::Contradictory => {}
@@ -144,7 +146,7 @@ fn judge_rows(
     fails: &mut [u8],
 )
     requires { ⌜ ClosedGiven atoms (now clauses) (now judged) (now block) (now base) (now fails)
-        × FlagsGuaranteed atoms (now clauses) (now block) (now base) (now flags) × (2 * atoms ≤ length (now marks)) ⌝ }
+        × FlagsGuaranteed atoms (now clauses) (now block) (now base) (now flags) × (markBytes atoms ≤ length (now marks)) ⌝ }
     ensures { λ _. ⌜ now (fails .exit)
         ≡ flagMore
         (someViolates atoms (clausesOf (now (clauses .entry))) (operatorIn (now (block .entry))) (operatorIn (now (block .entry)) .rows))
@@ -188,7 +190,7 @@ fn judge_closed(
     fails: &mut [u8],
     flags: &mut [u8],
 )
-    requires { ⌜ ClosedGiven atoms (now clauses) (now judged) (now block) (now base) (now fails) × (2 * atoms ≤ length (now marks))
+    requires { ⌜ ClosedGiven atoms (now clauses) (now judged) (now block) (now base) (now fails) × (markBytes atoms ≤ length (now marks))
         × (length (now flags) ≡ 2 * atoms) ⌝ }
     ensures { λ _. ⌜ (now (fails .exit)
         ≡ flagMore
@@ -220,14 +222,13 @@ fn judge_consistent(
         × (now (flags .exit)
         ≡ guaranteedFlags atoms (clausesOf (now (clauses .entry))) (operatorIn (now (block .entry))) (operatorIn (now (block .entry)) .precondition)) ⌝ }
 {
-    let mut base = literal::room::marks();
-    let size = 2 * atoms;
-    propagation::copy(marks, &mut base[..size], atoms);
+    let mut base = propagation::marks::room();
+    propagation::marks::copy(marks, &mut base[..MOST_BYTES], atoms);
     judge_closed(
         clauses,
         judged,
         block,
-        &base[..size],
+        &base[..MOST_BYTES],
         marks,
         atoms,
         fails,
@@ -278,7 +279,7 @@ pub fn judge(
     ensures { λ _. ⌜ now (fails .exit)
         ≡ failFlags atoms (clausesOf (now (clauses .entry))) (operatorIn (now (block .entry))) (clausesOf (now (judged .entry))) ⌝ }
 {
-    let mut flags = literal::room::marks();
+    let mut flags = literal::room::literal_flags();
     let size = 2 * atoms;
     judge_guaranteed(
         clauses,

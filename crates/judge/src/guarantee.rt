@@ -6,6 +6,7 @@ ghost use Prim.Native.Nat.{ℕ, _*_, _<_, _≤_};
 ghost use lib.ListN.{length};
 ghost use Rattle.definitions.specs.Literal.{mostAtoms, complement};
 ghost use Rattle.definitions.specs.Image.{operatorRight};
+ghost use Rattle.definitions.specs.Marks.{markBytes};
 ghost use Rattle.clause.specs.Rows.{clausesOf};
 ghost use Rattle.task.specs.Walk.{blockParses, operatorIn};
 ghost use Rattle.propagation.specs.Marks.{Marked, ConsistentMarks, Asked};
@@ -13,6 +14,7 @@ ghost use Rattle.judge.specs.Promise.{Given, ConsistentClosure, FlagsGua
 ghost use Rattle.judge.specs.Judging.{flagsOf, canFire, flagEffects, dropChanged};
 use literal::Literal;
 use propagation::Closing;
+use propagation::marks::MOST_BYTES;
 use task::block::BlockHead;
 use task::block::RowPart;
 
@@ -36,7 +38,7 @@ fn flag_marked(marks: &[u8], atoms: usize, flags: &mut [u8])
     let end = 2 * atoms;
     let mut l: usize = 0;
     while l < end {
-        flags[l] = literal::flags::byte(propagation::holds(marks, l));
+        flags[l] = literal::flags::byte(propagation::marks::holds(marks, l));
         l += 1;
     }
 }
@@ -53,10 +55,10 @@ fn can_fire(
     ensures { λ r. ⌜ ((ls : List ℕ) → ConsistentClosure atoms (now (clauses .entry)) ls (now (marks .entry)) → r
         ≡ canFire atoms (clausesOf (now (clauses .entry))) ls (now (conditions .entry))) ⌝ }
 {
-    if propagation::holds_all(marks, conditions) {
+    if propagation::marks::holds_all(marks, conditions) {
         return true;
     }
-    propagation::copy(marks, work, atoms);
+    propagation::marks::copy(marks, work, atoms);
     let closed = propagation::extend(clauses, conditions, work, atoms);
     match closed {
         Closing::Consistent => true,
@@ -73,7 +75,7 @@ fn drop_changed(
     work: &mut [u8],
     flags: &mut [u8],
 )
-    requires { ⌜ Given atoms (now clauses) (now block) × ConsistentMarks atoms (now marks) × (2 * atoms ≤ length (now work)) ⌝ }
+    requires { ⌜ Given atoms (now clauses) (now block) × ConsistentMarks atoms (now marks) × (markBytes atoms ≤ length (now work)) ⌝ }
     ensures { λ _. ⌜ ((ls : List ℕ) → ConsistentClosure atoms (now (clauses .entry)) ls (now (marks .entry)) → now (flags .exit)
         ≡ dropChanged atoms (clausesOf (now (clauses .entry))) ls (operatorIn (now (block .entry)) .rows) (now (flags .entry))) ⌝ }
 {
@@ -115,7 +117,7 @@ fn flag_effects(block: &[u16], marks: &[u8], adds: bool, flags: &mut [u8])
         if !l.has_sign(adds) {
             continue;
         }
-        if !propagation::holds_all(marks, &block[from..end]) {
+        if !propagation::marks::holds_all(marks, &block[from..end]) {
             continue;
         }
         literal::flags::put(flags, effect, 1);
@@ -128,10 +130,9 @@ pub fn flag_guaranteed(clauses: &[u16], block: &[u16], marks: &[u8], atoms: usiz
     requires { ⌜ Given atoms (now clauses) (now block) × ConsistentMarks atoms (now marks) × (length (now flags) ≡ 2 * atoms) ⌝ }
     ensures { λ _. ⌜ FlagsGuaranteed atoms (now (clauses .entry)) (now (block .entry)) (now (marks .entry)) (now (flags .exit)) ⌝ }
 {
-    let mut work = literal::room::marks();
-    let end = 2 * atoms;
+    let mut work = propagation::marks::room();
     flag_marked(marks, atoms, flags);
     flag_effects(block, marks, task::block::DELETES, flags);
-    drop_changed(clauses, block, marks, atoms, &mut work[..end], flags);
+    drop_changed(clauses, block, marks, atoms, &mut work[..MOST_BYTES], flags);
     flag_effects(block, marks, task::block::ADDS, flags);
 }

@@ -58,7 +58,7 @@ fn check_input(
     if task::operators(image) <= operator {
         return answer::refuse(Refusal::OPERATOR_NUMBER);
     }
-    if marks < 2 * task::atoms(image) {
+    if marks < propagation::marks::bytes(task::atoms(image)) {
         return answer::refuse(Refusal::BUFFERS);
     }
     Verdict::Fine

@@ -10,8 +10,8 @@ pub fn state() -> [u8; super::MOST_ATOMS]
     [0u8; super::MOST_ATOMS]
 }
 
-// A byte for each literal: marks or flags.
-pub fn marks() -> [u8; super::MOST_LITERALS]
+// A byte for each literal: flags. Marks, a bit for each, have their room in `propagation`.
+pub fn literal_flags() -> [u8; super::MOST_LITERALS]
     ensures { λ r. ⌜ length r ≡ mostLiterals ⌝ }
 {
     [0u8; super::MOST_LITERALS]

@@ -11,7 +11,7 @@ use borrow.Author.Tests.{eq-eqb, ne-eqb}
 use Rattle.definitions.specs.Lists.{keep, range, below}
 use Rattle.definitions.specs.Closure.{has, bit}
 use Rattle.judge.specs.Judging.{flagMore}
-use Rattle.propagation.proofs.Marks.{bit-back}
+use Rattle.propagation.proofs.MarkedSets.{bit-back}
 use Rattle.next_set.specs.Post.{Listed}
 use Rattle.definitions.proofs.ListLaws.{keep-yes, keep-no}
 

@@ -26,7 +26,7 @@ use Rattle.task.specs.Post.{BlockGiven}
 use Rattle.judge.specs.Judging.{flagMore}
 use Rattle.judge.specs.Promise.{Judged, BulkGiven, Read}
 use Rattle.judge.proofs.Keeping.{given-operator}
-use Rattle.propagation.proofs.Marks.{bit-back}
+use Rattle.propagation.proofs.MarkedSets.{bit-back}
 use Rattle.next_set.specs.Build.{failsBelow, survivors}
 use Rattle.next_set.specs.Post.{ReadWithRoom, TestedWithRoom, WeakensAt}
 use Rattle.next_set.proofs.Flags.{flag-map}

@@ -12,6 +12,7 @@ use Rattle.definitions.specs.Image.{Operator, Task}
 use Rattle.definitions.specs.Clauses.{width, mostRows}
 use Rattle.definitions.specs.Step.{operatorAt}
 use Rattle.definitions.specs.Synthesis.{guarantees, setAt}
+use Rattle.definitions.specs.Marks.{markBytes}
 use Rattle.clause.specs.Rows.{rowCount, clausesOf, RightRows}
 use Rattle.task.specs.Reads.{taskOf}
 use Rattle.judge.specs.Judging.{flagMore}
@@ -21,7 +22,7 @@ use Rattle.next_set.specs.Build.{failsBelow, someFails, wordsWithout}
 -- the image and the clauses are read, and there is room to judge the clauses
 pub record ReadWithRoom (w c : List ℕ) (atoms : ℕ) (marks fails : List ℕ) : Type 0 where
   pub read : Read w c atoms
-  pub room : 2 * atoms ≤ length marks
+  pub room : markBytes atoms ≤ length marks
   pub flagged : length fails ≡ rowCount c
 
 -- the literals that have their flag are the first k words
@@ -92,6 +93,6 @@ pub record TestedRound (w c : List ℕ) (atoms most rows : ℕ) (failing due mar
   pub round : Round w c atoms most rows
   pub flags : failing ≡ map (λ f. bit (failsBelow (taskOf w) (clausesOf c) (length (taskOf w .operators)) f)) (clausesOf c)
   pub noted : FailuresNoted (taskOf w) (clausesOf c) due
-  pub room : 2 * atoms ≤ length marks
+  pub room : markBytes atoms ≤ length marks
   pub flagged : length fails ≡ rowCount c
   pub fits : width * rows ≤ length work

@@ -54,7 +54,7 @@ fn judge_listed(
     requires { ⌜ BulkGiven atoms (now clauses) (now clauses) (now block) (now marks) (now fails) × (length (now list) ≡ mostLiterals) ⌝ }
     ensures { λ r. ⌜ (now (fails .exit) ≡ failFlags atoms (clausesOf (now (clauses .entry))) (operatorIn (now (block .entry))) (clausesOf (now (clauses .entry)))) × ListedGuarantees atoms (clausesOf (now (clauses .entry))) (operatorIn (now (block .entry))) (now (list .exit)) r ⌝ }
 {
-    let mut flags = literal::room::marks();
+    let mut flags = literal::room::literal_flags();
     let size = 2 * atoms;
     if !judge::bulk::judge_guaranteed(
         clauses,

@@ -1,7 +1,9 @@
 pub mod Sets
+pub mod MarkedSets
+pub mod View
+pub mod Seeds
 pub mod Scans
 pub mod Steps
-pub mod Marks
-pub mod Seeds
 pub mod ClosureLaws
+pub mod Copies
 pub mod Closed

@@ -1,21 +1,26 @@
 -- The scan of a row for its open literals, and what it says of the row's clause. Assumes nothing.
 use mathlib.Core.Path.{_≡_, refl, sym, _∙_}
-use mathlib.Core.Bool.{true, false}
+use mathlib.Core.Bool.{Bool, true, false}
 use mathlib.Core.Logic.{_⊎_, inl, inr, ⊎-elim}
 use mathlib.Core.List.{List, [], _∷_, List·Memᴰ, List·Memᴰ·head, List·Memᴰ·tail}
-use Prim.Native.Nat.{ℕ, _+_, _≤_, _<_}
+use Prim.Native.Nat.{ℕ, _+_, _*_, _≤_, _<_}
+use native.Mathlib.Omega.{arith}
 use native.Mathlib.Decide.{ℕ-discrete}
+use lib.Dec.{ltb}
 use lib.ListN.{length, getD, take, drop}
-use Rattle.definitions.specs.Literal.{fill, complement}
+use borrow.Author.Tests.{eq-eqb, ne-eqb, lt-ltb}
+use Rattle.definitions.specs.Lists.{all, member, ascending}
+use Rattle.definitions.specs.Literal.{fill, complement, allBelow}
 use Rattle.definitions.specs.Clauses.{width, rowOf, clauseOf}
 use Rattle.definitions.specs.Closure.{has, forces}
-use Rattle.definitions.proofs.ListLaws.{never}
+use Rattle.definitions.proofs.ListLaws.{never, and-both, all-of, member-in, member-of, above-low, later-ascends}
 use Rattle.clause.specs.Rows.{clauseAt}
 use Rattle.clause.proofs.Words.{clause-fill, clause-cons, clause-none}
 use Rattle.clause.proofs.Rest.{restAt, rest-start, rest-end, rest-next, rest-fill}
+use Rattle.propagation.specs.declared.Scan.{Scan}
 use Rattle.propagation.specs.declared.Scan.the-variants as scan
-use Rattle.propagation.specs.Walk.{In, ClosedAt, Scanned}
-use Rattle.propagation.proofs.Sets.{forces-others, forces-by}
+use Rattle.propagation.specs.Walk.{In, ClosedAt, Scanned, forcedOf, Forcing}
+use Rattle.propagation.proofs.Sets.{forces-in, forces-others, forces-by}
 
 -- no literal of a clause is fill
 no-fill : (row : List ℕ) (l : ℕ) → List·Memᴰ l (clauseOf row) → l ≡ fill → ⊥
@@ -34,21 +39,42 @@ clause-fills : (w : List ℕ) (at l : ℕ) → List·Memᴰ l (clauseAt w at) �
 unfolding clauseAt
 clause-fills w at l m = no-fill (take width (drop at w)) l m
 
+-- the complement, said otherwise
+pub scanned-on : (off off′ : Bool) (w u : ℕ) (v : Scan) → ((w ≡ fill → ⊥) → off′ ≡ off) → Scanned off w u v → Scanned off′ w u v
+scanned-on off off′ w u scan.Same same p = λ ne. same ne ∙ p ne
+scanned-on off off′ w u scan.First same p = (p .0, same (p .0) ∙ p .1, p .2)
+scanned-on off off′ w u scan.Second same p = (p .0, same (p .0) ∙ p .1, p .2)
+
+-- the literals that follow from a row
+pub forced-all : (row : List ℕ) (u : ℕ) → u ≡ fill → forcedOf row u ≡ clauseOf row
+unfolding forcedOf
+forced-all row u e = rw (eq-eqb u fill e)
+
+pub forced-one : (row : List ℕ) (u : ℕ) → (u ≡ fill → ⊥) → forcedOf row u ≡ u ∷ []
+unfolding forcedOf
+forced-one row u ne = rw (ne-eqb u fill ne)
+
 -- The scan of the row that starts at a word, up to its word k: u is the open literal found, or fill.
 pub record Scanning (w s : List ℕ) (at k u : ℕ) : Type 0 where
   pub inside : at + width ≤ length w
   pub same : rowOf (clauseOf (take width (drop at w))) ≡ take width (drop at w)
   pub part : (l : ℕ) → List·Memᴰ l (restAt w at k) → List·Memᴰ l (clauseAt w at)
   pub found : (u ≡ fill → ⊥) → List·Memᴰ u (clauseAt w at) × (has s (complement u) ≡ false) × (u < length s)
+  pub rising : ascending (restAt w at k) ≡ true
+  pub before : (u ≡ fill → ⊥) → (l : ℕ) → List·Memᴰ l (restAt w at k) → u < l
   pub seen : (l : ℕ) → List·Memᴰ l (clauseAt w at) → List·Memᴰ l (restAt w at k) ⊎ ((l ≡ u) ⊎ In s (complement l))
 
-pub scan-start : (w s : List ℕ) (at : ℕ) → at + width ≤ length w → rowOf (clauseOf (take width (drop at w))) ≡ take width (drop at w) → Scanning w s at 0 fill
-scan-start w s at h same =
+pub scan-start :
+    (w s : List ℕ) (at : ℕ) → at + width ≤ length w → rowOf (clauseOf (take width (drop at w))) ≡ take width (drop at w)
+    → ascending (clauseAt w at) ≡ true → Scanning w s at 0 fill
+scan-start w s at h same up =
     record {
       inside = h;
       same = same;
       part = λ l m. rw rest-start at m;
       found = λ ne. absurd (ne refl);
+      rising = rw rest-start up;
+      before = λ ne. absurd (ne refl);
       seen = λ l m. inl (rw rest-start m);
     }
 
@@ -82,24 +108,51 @@ module _ (w s : List ℕ) (at k u : ℕ) (r : Scanning w s at k u) where
         go (yes e) = inl (rw (rest-fill w at k h (r .inside) (r .same) e) at m)
         go (no ne) = split ne (rw (rest-next w at k h (r .inside) ne) at m)
 
-    pub scan-same : Scanned s word u scan.Same → Scanning w s at (k + 1) u
-    scan-same v = record { inside = r .inside; same = r .same; part = part-next; found = r .found; seen = λ l m. next l (r .seen l m) }
+    -- the literals after the word ascend, from the word on
+    rising-next : ascending (restAt w at (k + 1)) ≡ true
+    unfolding ascending
+    rising-next = go (ℕ-discrete word fill)
       where
-        here : (l : ℕ) → l ≡ word → (word ≡ fill → ⊥) → Dec (word ≡ u) → Seen (k + 1) u l
-        here l e ne (yes q) = inr (inl (e ∙ q))
-        here l e ne (no nq) = inr (inr (rw e (v ne nq)))
+        go : Dec (word ≡ fill) → ascending (restAt w at (k + 1)) ≡ true
+        go (yes e) = rw (rest-fill w at k h (r .inside) (r .same) e) at (r .rising)
+        go (no ne) = later-ascends word (restAt w at (k + 1)) (rw (rest-next w at k h (r .inside) ne) at (r .rising))
 
+    word-first : (word ≡ fill → ⊥) → (l : ℕ) → List·Memᴰ l (restAt w at (k + 1)) → word < l
+    unfolding ascending
+    word-first ne l m = above-low word (restAt w at (k + 1)) (rw (rest-next w at k h (r .inside) ne) at (r .rising)) l m
+
+    left-next : (l : ℕ) → List·Memᴰ l (restAt w at (k + 1)) → List·Memᴰ l (restAt w at k)
+    left-next l m = go (ℕ-discrete word fill)
+      where
+        go : Dec (word ≡ fill) → List·Memᴰ l (restAt w at k)
+        go (yes e) = rw (rest-fill w at k h (r .inside) (r .same) e) m
+        go (no ne) = rw (rest-next w at k h (r .inside) ne) (List·Memᴰ·tail m)
+
+    pub scan-same : Scanned (has s (complement word)) word u scan.Same → Scanning w s at (k + 1) u
+    scan-same v =
+        record {
+          inside = r .inside;
+          same = r .same;
+          part = part-next;
+          found = r .found;
+          rising = rising-next;
+          before = λ ne l m. r .before ne l (left-next l m);
+          seen = λ l m. next l (r .seen l m);
+        }
+      where
         next : (l : ℕ) → Seen k u l → Seen (k + 1) u l
-        next l (inl m) = ⊎-elim (λ q. inl q) (λ q. here l (q .0) (q .1) (ℕ-discrete word u)) (come l m)
+        next l (inl m) = ⊎-elim (λ q. inl q) (λ q. inr (inr (rw (q .0) (v (q .1))))) (come l m)
         next l (inr q) = inr q
 
-    pub scan-first : word < length s → Scanned s word u scan.First → Scanning w s at (k + 1) word
+    pub scan-first : word < length s → Scanned (has s (complement word)) word u scan.First → Scanning w s at (k + 1) word
     scan-first b v =
         record {
           inside = r .inside;
           same = r .same;
           part = part-next;
           found = λ ne. (word-in (v .0), v .1, b);
+          rising = rising-next;
+          before = λ ne. word-first (v .0);
           seen = λ l m. next l m (r .seen l m);
         }
       where
@@ -109,38 +162,62 @@ module _ (w s : List ℕ) (at k u : ℕ) (r : Scanning w s at k u) where
         next l ml (inr (inr p)) = inr (inr p)
 
     -- two open literals: nothing is forced
-    pub scan-second : Scanned s word u scan.Second → ClosedAt s (clauseAt w at)
+    pub scan-second : Scanned (has s (complement word)) word u scan.Second → ClosedAt s (clauseAt w at)
     scan-second v l fo = absurd (go (ℕ-discrete u l))
       where
+        later : u < word
+        later = r .before (v .2) word (rw (rest-next w at k h (r .inside) (v .0)) (List·Memᴰ·head refl))
+
         go : Dec (u ≡ l) → ⊥
-        go (yes e) = never {A = ⊥} (forces-others s l (clauseAt w at) fo word (word-in (v .0)) (λ q. v .3 (q ∙ sym e))) (v .1)
+        go (yes e) = never {A = ⊥} (forces-others s l (clauseAt w at) fo word (word-in (v .0)) (λ q. (let z = later in omega arith))) (v .1)
         go (no ne) = never {A = ⊥} (forces-others s l (clauseAt w at) fo u (r .found (v .2) .0) ne) (r .found (v .2) .1)
 
   module _ (h : width ≤ k) where
     none-left : (l : ℕ) → List·Memᴰ l (restAt w at k) → ⊥
     none-left l m = elim (rw (rest-end w at k h) at m) [ ]
 
-    -- no open literal: each literal's complement is in the set
-    pub scan-none : u ≡ fill → (l : ℕ) → List·Memᴰ l (clauseAt w at) → In s (complement l)
-    scan-none e l ml = go (r .seen l ml)
+    -- what the clause forces is the open literal, or, without one, all literals
+    off : (l : ℕ) → List·Memᴰ l (clauseAt w at) → (l ≡ u → ⊥) → In s (complement l)
+    off l m ne = go (r .seen l m)
       where
         go : Seen k u l → In s (complement l)
         go (inl m) = absurd (none-left l m)
-        go (inr (inl q)) = absurd (clause-fills w at l ml (q ∙ e))
+        go (inr (inl q)) = absurd (ne q)
         go (inr (inr p)) = p
 
-    -- one open literal: it is forced, and no other is
-    pub scan-one : (u ≡ fill → ⊥) → forces s u (clauseAt w at) ≡ true
-    scan-one ne = forces-by s u (clauseAt w at) (r .found ne .0) (λ m mm q. go m q (r .seen m mm))
+    pub scan-forced : (l : ℕ) → member l (forcedOf (take width (drop at w)) u) ≡ true → forces s l (clauseAt w at) ≡ true
+    unfolding clauseAt
+    scan-forced l m = go (ℕ-discrete u fill)
       where
-        go : (m : ℕ) → (m ≡ u → ⊥) → Seen k u m → In s (complement m)
-        go m ne (inl q) = absurd (none-left m q)
-        go m ne (inr (inl q)) = absurd (ne q)
-        go m ne (inr (inr p)) = p
+        one : List·Memᴰ l (u ∷ []) → (u ≡ fill → ⊥) → forces s l (clauseAt w at) ≡ true
+        one (List·Memᴰ·head e) ne = forces-by s l (clauseAt w at) (rw e (r .found ne .0)) (λ x mx d. off x mx (λ q. d (q ∙ sym e)))
+        one (List·Memᴰ·tail z) ne = elim z [ ]
 
-    pub scan-only : (u ≡ fill → ⊥) → In s u → ClosedAt s (clauseAt w at)
-    scan-only ne p l fo = go (ℕ-discrete u l)
+        go : Dec (u ≡ fill) → forces s l (clauseAt w at) ≡ true
+        go (yes e) =
+            forces-by s l (clauseAt w at) (member-of l (clauseAt w at) (rw (forced-all (take width (drop at w)) u e) at m))
+            (λ x mx d. off x mx (λ q. clause-fills w at x mx (q ∙ e)))
+        go (no ne) = one (member-of l (u ∷ []) (rw (forced-one (take width (drop at w)) u ne) at m)) ne
+
+    pub scan-all : (l : ℕ) → forces s l (clauseAt w at) ≡ true → member l (forcedOf (take width (drop at w)) u) ≡ true
+    unfolding clauseAt
+    scan-all l fo = go (ℕ-discrete u fill)
       where
-        go : Dec (u ≡ l) → In s l
-        go (yes e) = rw (← e) p
-        go (no d) = absurd (never {A = ⊥} (forces-others s l (clauseAt w at) fo u (r .found ne .0) d) (r .found ne .1))
+        same : (u ≡ fill → ⊥) → Dec (u ≡ l) → List·Memᴰ l (u ∷ [])
+        same ne (yes e) = List·Memᴰ·head (sym e)
+        same ne (no d) = absurd (never {A = ⊥} (forces-others s l (clauseAt w at) fo u (r .found ne .0) d) (r .found ne .1))
+
+        go : Dec (u ≡ fill) → member l (forcedOf (take width (drop at w)) u) ≡ true
+        go (yes e) = rw (forced-all (take width (drop at w)) u e) (member-in (forces-in s l (clauseAt w at) fo))
+        go (no ne) = rw (forced-one (take width (drop at w)) u ne) (member-in (same ne (ℕ-discrete u l)))
+
+    pub scan-forcing : (N : ℕ) → length s ≡ 2 * N → ((l : ℕ) → List·Memᴰ l (clauseAt w at) → l < 2 * N) → Forcing N s (take width (drop at w)) u
+    unfolding clauseAt allBelow all
+    scan-forcing N size low = record { low = go (ℕ-discrete u fill); opened = λ ne. r .found ne .1 }
+      where
+        go : Dec (u ≡ fill) → allBelow (2 * N) (forcedOf (take width (drop at w)) u) ≡ true
+        go (yes e) =
+            rw (forced-all (take width (drop at w)) u e)
+            (all-of (λ x. ltb x (2 * N)) (clauseOf (take width (drop at w))) (λ x m. lt-ltb x (2 * N) (low x m)))
+        go (no ne) =
+            rw (forced-one (take width (drop at w)) u ne) (and-both (lt-ltb u (2 * N) (let z = r .found ne .2 in omega arith)) refl)

@@ -1,6 +1,6 @@
--- Sets of literals as bytes: a literal set, what a clause forces, contradictions. Assumes nothing.
+-- Sets of literals: a literal added, what a clause forces, contradictions. Assumes nothing.
 use mathlib.Core.Path.{_≡_, sym, _∙_, ap}
-use mathlib.Core.Bool.{true, false, _&&_, _||_}
+use mathlib.Core.Bool.{Bool, true, false, _&&_, _||_}
 use mathlib.Core.Logic.{_⊎_, inl, inr, ⊎-elim}
 use mathlib.Core.List.{List, [], _∷_, List·Memᴰ}
 use Prim.Native.Nat.{ℕ, zero, suc, _*_, _%_, _≤_, _<_}
@@ -17,7 +17,7 @@ use Rattle.definitions.proofs.ListLaws.{decide, never, and-left, and-right, and
 use Rattle.definitions.proofs.ListLaws.{any-of, member-in, member-of}
 use Rattle.definitions.proofs.LiteralLaws.{Shape, is, isnt, shape}
 use Rattle.definitions.proofs.Walks.{below-in}
-use Rattle.propagation.specs.Walk.{In, Part, Clash, Bits, zeros, Even}
+use Rattle.propagation.specs.Walk.{In, Part, Clash, Sound, zeros}
 
 -- ---- complements
 pub complement-back : (l : ℕ) → complement (complement l) ≡ l
@@ -94,14 +94,7 @@ module _ (s : List ℕ) (w : ℕ) (h : w < length s) where
   pub set-least : (T : List ℕ) → Part s T → In T w → Part (set s w 1) T
   set-least T p q l e = ⊎-elim (λ z. rw z q) (λ z. p l z) (in-set l e)
 
-  pub set-bits : Bits s → Bits (set s w 1)
-  set-bits b i = go (ℕ-discrete i w)
-    where
-      go : Dec (i ≡ w) → getD (set s w 1) i 0 ≤ 1
-      go (yes q) = rw (q, getD-set-same s w 1 0 h) (omega arith)
-      go (no ne) = rw (getD-set-other s w i 1 0 ne) (b i)
-
-  pub set-consistent : (Clash s → ⊥) → has s (complement w) ≡ false → Clash (set s w 1) → ⊥
+  set-consistent : (Clash s → ⊥) → has s (complement w) ≡ false → Clash (set s w 1) → ⊥
   set-consistent consistent e c = both (c .it) (in-set (c .it) (c .here)) (in-set (complement (c .it)) (c .there))
     where
       both : (l : ℕ) → (l ≡ w) ⊎ In s l → (complement l ≡ w) ⊎ In s (complement l) → ⊥
@@ -110,14 +103,15 @@ module _ (s : List ℕ) (w : ℕ) (h : w < length s) where
       both l (inr p) (inl q) = never {A = ⊥} (rw (sym (complement-back l) ∙ ap complement q) at p) e
       both l (inr p) (inr q) = consistent (record { it = l; here = p; there = q })
 
+  -- where propagation stops at a complement, none is there
+  pub set-sound : (stops : Bool) → Sound stops s → (stops ≡ true → has s (complement w) ≡ false) → Sound stops (set s w 1)
+  set-sound stops sound off e = set-consistent (sound e) (off e)
+
 pub zeros-set : (s : List ℕ) (w : ℕ) → w < length s → getD s w 0 ≡ 0 → zeros (set s w 1) < zeros s
 unfolding zeros
 zeros-set [] w h e = absurd (omega arith)
 zeros-set (b ∷ bs) zero h e = omega arith
 zeros-set (b ∷ bs) (suc w) h e = omega (arith, zeros-set bs w (omega arith) e)
-
-pub no-bit : (s : List ℕ) (w : ℕ) → Bits s → has s w ≡ false → getD s w 0 ≡ 0
-no-bit s w b e = omega (arith, b w, byte-out s w e)
 
 -- ---- what a clause forces
 module _ (s : List ℕ) (l : ℕ) (f : List ℕ) where
@@ -158,11 +152,3 @@ clash-of N S e =
 pub clash-any : (N : ℕ) (S : List ℕ) (c : Clash S) → c .it < 2 * N → contradictory N S ≡ true
 unfolding contradictory
 clash-any N S c h = any-in (λ l. has S l && has S (complement l)) (below-in (2 * N) (c .it) h) (and-both (c .here) (c .there))
-
--- ---- the byte at an index
-pub byte-has : (s : List ℕ) (i l : ℕ) → i ≡ l → eqb (getD s i 0) 1 ≡ has s l
-unfolding has
-byte-has s i l e = rw e
-
-pub even-on : (s₀ s : List ℕ) → length s ≡ length s₀ → Even s₀ → Even s
-even-on s₀ s e v = record { even = rw e (v .even); few = rw e (v .few) }

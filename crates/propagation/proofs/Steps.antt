@@ -1,69 +1,70 @@
 -- The state of the walk over the clauses, with one lemma for each way that the code takes. Assumes nothing.
-use mathlib.Core.Path.{_≡_, refl, ap, _∙_}
-use mathlib.Core.Bool.{true, false}
+use mathlib.Core.Path.{_≡_, refl, sym, subst}
+use mathlib.Core.Bool.{Bool, true}
 use mathlib.Core.Logic.{_⊎_, inl, inr, ⊎-elim}
-use mathlib.Core.List.{List, [], _∷_, List·Memᴰ, List·Memᴰ·head, List·Memᴰ·tail}
+use mathlib.Core.List.{List, _∷_, List·Memᴰ, List·Memᴰ·head, List·Memᴰ·tail}
 use Prim.Native.Nat.{ℕ, _+_, _≤_, _<_}
-use native.Mathlib.Omega.{arith}
-use lib.ListN.{length, take, drop, set, length-set}
-use Rattle.definitions.specs.Literal.{complement}
-use Rattle.definitions.specs.Clauses.{width, clauseOf, clauseRight}
-use Rattle.definitions.specs.Closure.{has, forces}
+use lib.ListN.{length}
+use Rattle.definitions.specs.Lists.{member}
+use Rattle.definitions.specs.Clauses.{width}
+use Rattle.definitions.specs.Closure.{forces}
 use Rattle.clause.specs.Rows.{clauseAt, clausesOf, clausesFrom}
 use Rattle.clause.proofs.RowLaws.{from-start, from-next, from-end}
-use Rattle.definitions.proofs.RowsRead.{right-some}
 use Rattle.propagation.specs.declared.Pass.{Pass}
 use Rattle.propagation.specs.declared.Pass.the-variants.{Same, Grown, Contradictory}
-use Rattle.propagation.specs.Walk.{In, ClosedAt, Clash, zeros, Sound, Reached, Passed}
-use Rattle.propagation.proofs.Sets.{set-in, set-least, set-bits, set-consistent, zeros-set, no-bit, forces-more, forces-by}
+use Rattle.propagation.specs.Walk.{Part, Lists, ClosedAt, ClosedUnder, Sound, Seeded, Reached, Passed}
+use Rattle.propagation.proofs.Sets.{forces-more}
+use Rattle.propagation.proofs.Seeds.{Growth, grows}
+
+-- where nothing was marked: each clause is still to come, or forces nothing new
+abbrev pub Behind : List ℕ → List ℕ → ℕ → Pass → Type 0
+Behind w s₀ at Same = (f : List ℕ) → List·Memᴰ f (clausesOf w) → List·Memᴰ f (clausesFrom w at) ⊎ ClosedAt s₀ f
+Behind w s₀ at Grown = Unit {0}
+Behind w s₀ at Contradictory = ⊥
 
 -- the set s₀ at the walk's start, the set s now, the position of the next row, and the answer so far
-abbrev pub Progress : List ℕ → List ℕ → List ℕ → ℕ → Pass → Type 0
-Progress w s₀ s at Same = (s ≡ s₀) × ((f : List ℕ) → List·Memᴰ f (clausesOf w) → List·Memᴰ f (clausesFrom w at) ⊎ ClosedAt s₀ f)
-Progress w s₀ s at Grown = zeros s < zeros s₀
-Progress w s₀ s at Contradictory = ⊥
-
-pub record Walk (w s₀ s : List ℕ) (at : ℕ) (answer : Pass) : Type 0 where
-  pub reached : Reached (clausesOf w) s₀ s
+pub record Walk (stops : Bool) (w s₀ s : List ℕ) (at : ℕ) (answer : Pass) : Type 0 where
+  pub reached : Reached stops (clausesOf w) s₀ s
   pub ahead : (f : List ℕ) → List·Memᴰ f (clausesFrom w at) → List·Memᴰ f (clausesOf w)
-  pub progress : Progress w s₀ s at answer
+  pub growth : Growth s₀ s answer
+  pub behind : Behind w s₀ at answer
 
-pub reached-self : (C : List (List ℕ)) (s : List ℕ) → Sound s → Reached C s s
-reached-self C s o = record { same-length = refl; bits = o .bits; consistent = o .consistent; above = λ l p. p; least = λ T c p. p }
+pub reached-self : (stops : Bool) (C : List (List ℕ)) (s : List ℕ) → Sound stops s → Reached stops C s s
+reached-self stops C s sound = record { sound = sound; above = λ l p. p; least = λ T c p. p }
 
-pub walk-start : (w s : List ℕ) → Sound s → Walk w s s 0 Same
-walk-start w s o =
+pub walk-start : (stops : Bool) (w s : List ℕ) → Sound stops s → Walk stops w s s 0 Same
+walk-start stops w s sound =
     record {
-      reached = reached-self (clausesOf w) s o;
+      reached = reached-self stops (clausesOf w) s sound;
       ahead = λ f m. rw from-start at m;
-      progress = (refl, λ f m. inl (rw from-start m));
+      growth = refl;
+      behind = λ f m. inl (rw from-start m);
     }
 
-pub walk-end : (w s₀ s : List ℕ) (at : ℕ) (answer : Pass) → length w < at + width → Walk w s₀ s at answer → Passed w s₀ s answer
-walk-end w s₀ s at Same h k =
-    (k .progress .0, λ f m. ⊎-elim (λ z. absurd (elim (rw (from-end w at h) at z) [ ])) (λ d. d) (k .progress .1 f m))
-walk-end w s₀ s at Grown h k = (k .reached, k .progress)
-walk-end w s₀ s at Contradictory h k = absurd (k .progress)
+pub walk-end : (stops : Bool) (w s₀ s : List ℕ) (at : ℕ) (answer : Pass) → length w < at + width → Walk stops w s₀ s at answer → Passed stops w s₀ s answer
+walk-end stops w s₀ s at Same h k =
+    (k .growth, λ f m. ⊎-elim (λ z. absurd (elim (rw (from-end w at h) at z) [ ])) (λ d. d) (k .behind f m))
+walk-end stops w s₀ s at Grown h k = (k .reached, k .growth)
+walk-end stops w s₀ s at Contradictory h k = absurd (k .growth)
 
 -- the row at `at` is passed
-module _ (w s₀ s : List ℕ) (at : ℕ) (h : at + width ≤ length w) (answer : Pass) (k : Walk w s₀ s at answer) where
-  pass-progress : (a : Pass) → ClosedAt s (clauseAt w at) → Progress w s₀ s at a → Progress w s₀ s (at + width) a
-  pass-progress Same cl p = (p .0, λ f m. next f (p .1 f m))
+module _ (stops : Bool) (w s₀ s : List ℕ) (at : ℕ) (h : at + width ≤ length w) (answer : Pass) (k : Walk stops w s₀ s at answer) where
+  behind-next : (a : Pass) → ClosedAt s (clauseAt w at) → Growth s₀ s a → Behind w s₀ at a → Behind w s₀ (at + width) a
+  behind-next Same cl e p = λ f m. next f (p f m)
     where
-      cl₀ : ClosedAt s₀ (clauseAt w at)
-      cl₀ = rw (p .0) at cl
+      closed : ClosedAt s₀ (clauseAt w at)
+      closed = rw e at cl
 
       split :
-          (f : List ℕ) → List·Memᴰ f (clauseAt w at ∷ clausesFrom w (at + width))
-          → List·Memᴰ f (clausesFrom w (at + width)) ⊎ ClosedAt s₀ f
-      split f (List·Memᴰ·head e) = inr (rw e cl₀)
+          (f : List ℕ) → List·Memᴰ f (clauseAt w at ∷ clausesFrom w (at + width)) → List·Memᴰ f (clausesFrom w (at + width)) ⊎ ClosedAt s₀ f
+      split f (List·Memᴰ·head e) = inr (rw e closed)
       split f (List·Memᴰ·tail m) = inl m
 
       next : (f : List ℕ) → List·Memᴰ f (clausesFrom w at) ⊎ ClosedAt s₀ f → List·Memᴰ f (clausesFrom w (at + width)) ⊎ ClosedAt s₀ f
       next f (inl m) = split f (rw (from-next w at h) at m)
       next f (inr d) = inr d
-  pass-progress Grown cl p = p
-  pass-progress Contradictory cl p = p
+  behind-next Grown cl z p = tt
+  behind-next Contradictory cl z p = p
 
   ahead-next : (f : List ℕ) → List·Memᴰ f (clausesFrom w (at + width)) → List·Memᴰ f (clausesOf w)
   ahead-next f m = k .ahead f (rw (from-next w at h) (List·Memᴰ·tail m))
@@ -72,59 +73,39 @@ module _ (w s₀ s : List ℕ) (at : ℕ) (h : at + width ≤ length w) (answer 
   this = k .ahead (clauseAt w at) (rw (from-next w at h) (List·Memᴰ·head refl))
 
   -- it forces nothing new
-  pub pass-row : ClosedAt s (clauseAt w at) → Walk w s₀ s (at + width) answer
-  pass-row cl = record { reached = k .reached; ahead = ahead-next; progress = pass-progress answer cl (k .progress) }
+  pub pass-row : ClosedAt s (clauseAt w at) → Walk stops w s₀ s (at + width) answer
+  pass-row cl =
+      record { reached = k .reached; ahead = ahead-next; growth = k .growth; behind = behind-next answer cl (k .growth) (k .behind) }
 
-  -- all of its literals have their complement in the set
-  pub clash-row :
-      (N : ℕ) → clauseRight N (take width (drop at w)) ≡ true → ((l : ℕ) → List·Memᴰ l (clauseAt w at) → In s (complement l))
-      → Passed w s₀ s Contradictory
-  unfolding clauseAt
-  clash-row N right no-open T closed sub = go (clauseOf (take width (drop at w))) refl (right-some N (take width (drop at w)) right)
-    where
-      go : (f : List ℕ) → clauseOf (take width (drop at w)) ≡ f → 1 ≤ length f → Clash T
-      go [] e some = absurd (omega arith)
-      go (u ∷ f) e some =
-          let m : List·Memᴰ u (clauseOf (take width (drop at w))) = rw e (List·Memᴰ·head refl) in
-          let forced = forces-by s u (clauseOf (take width (drop at w))) m (λ x mx q. no-open x mx) in
-          record {
-            it = u;
-            here =
-                closed (clauseOf (take width (drop at w))) this u
-                (forces-more s T u (clauseOf (take width (drop at w))) (k .reached .least T closed sub) forced);
-            there = k .reached .least T closed sub (complement u) (no-open u m);
-          }
+  -- the literals of a list are those that it forces, and adding them ended with s′
+  module _ (ls s′ : List ℕ) (forced : (l : ℕ) → member l ls ≡ true → forces s l (clauseAt w at) ≡ true)
+      (all : (l : ℕ) → forces s l (clauseAt w at) ≡ true → member l ls ≡ true) where
+    -- they are in every closed set that holds s
+    in-closed : (T : List ℕ) → ClosedUnder (clausesOf w) T → Part s T → Lists ls T
+    in-closed T closed sub l m = closed (clauseAt w at) this l (forces-more s T l (clauseAt w at) sub (forced l m))
 
-  fewer : (a : Pass) (t : List ℕ) → Progress w s₀ s at a → zeros t < zeros s → zeros t < zeros s₀
-  fewer Same t p z = omega (arith, ap zeros (p .0))
-  fewer Grown t p z = omega arith
-  fewer Contradictory t p z = absurd p
+    pub force-same : Seeded stops s ls s′ Same → Walk stops w s₀ s′ (at + width) answer
+    force-same p = subst (λ (x : List ℕ). Walk stops w s₀ x (at + width) answer) (sym (p .0)) (pass-row (λ l e. p .1 l (all l e)))
 
-  -- it forces u, which is not marked
-  pub set-row :
-      (u : ℕ) → u < length s → forces s u (clauseAt w at) ≡ true → has s u ≡ false → has s (complement u) ≡ false
-      → Walk w s₀ (set s u 1) (at + width) Grown
-  set-row u b fo off off′ =
-      let q = k .reached in
-      record {
-        reached = record {
-          same-length = length-set s u 1 ∙ q .same-length;
-          bits = set-bits s u b (q .bits);
-          consistent = set-consistent s u b (q .consistent) off′;
-          above = λ l p. set-in s u b l (q .above l p);
-          least = λ T c p. set-least s u b T (q .least T c p) (c (clauseAt w at) this u (forces-more s T u (clauseAt w at) (q .least T c p) fo));
-        };
-        ahead = ahead-next;
-        progress = fewer answer (set s u 1) (k .progress) (zeros-set s u b (no-bit s u (q .bits) off));
-      }
+    pub force-more : Seeded stops s ls s′ Grown → Walk stops w s₀ s′ (at + width) Grown
+    force-more p =
+        let q = k .reached in
+        let a = p .0 in
+        record {
+          reached = record {
+            sound = a .sound;
+            above = λ l z. a .above l (q .above l z);
+            least = λ T c z. a .least T (q .least T c z) (in-closed T c (q .least T c z));
+          };
+          ahead = ahead-next;
+          growth = grows s₀ s s′ answer (k .growth) (p .1);
+          behind = tt;
+        }
+
+    pub force-clash : Seeded stops s ls s′ Contradictory → Passed stops w s₀ s′ Contradictory
+    force-clash p = (p .0, λ T c z. p .1 T (k .reached .least T c z) (in-closed T c (k .reached .least T c z)))
 
 -- ---- from walk to walk
-pub reached-on : (C : List (List ℕ)) (s₀ s s′ : List ℕ) → Reached C s₀ s → Reached C s s′ → Reached C s₀ s′
-reached-on C s₀ s s′ r r′ =
-    record {
-      same-length = r′ .same-length ∙ r .same-length;
-      bits = r′ .bits;
-      consistent = r′ .consistent;
-      above = λ l p. r′ .above l (r .above l p);
-      least = λ T c p. r′ .least T c (r .least T c p);
-    }
+pub reached-on : (stops : Bool) (C : List (List ℕ)) (s₀ s s′ : List ℕ) → Reached stops C s₀ s → Reached stops C s s′ → Reached stops C s₀ s′
+reached-on stops C s₀ s s′ r r′ =
+    record { sound = r′ .sound; above = λ l p. r′ .above l (r .above l p); least = λ T c p. r′ .least T c (r .least T c p) }

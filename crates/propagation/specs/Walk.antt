@@ -1,19 +1,25 @@
--- What the functions of this crate ask and promise of one another. They work on the marks of the literals alone, a byte for each. Assumes nothing.
+-- What the functions of this crate ask and promise of one another. They speak of the set that the marks stand for; `stops` tells whether
+-- propagation stops at the first complement met. Assumes nothing.
 use mathlib.Core.Path.{_≡_}
-use mathlib.Core.Bool.{true, false}
-use mathlib.Core.List.{List, [], _∷_, List·Memᴰ}
-use Prim.Native.Nat.{ℕ, _+_, _-_, _*_, _%_, _≤_, _<_}
-use lib.ListN.{length, getD}
-use Rattle.definitions.specs.Lists.{member}
-use Rattle.definitions.specs.Literal.{mostLiterals, fill, complement}
-use Rattle.definitions.specs.Closure.{has, forces}
+use mathlib.Core.Bool.{Bool, true, false, cond}
+use mathlib.Core.List.{List, [], _∷_, map, List·Memᴰ}
+use Prim.Native.Nat.{ℕ, _+_, _-_, _*_, _≤_, _<_}
+use lib.Dec.{eqb}
+use lib.ListN.{length}
+use Rattle.definitions.specs.Lists.{below, member}
+use Rattle.definitions.specs.Literal.{mostAtoms, fill, complement, allBelow}
+use Rattle.definitions.specs.Clauses.{clauseOf}
+use Rattle.definitions.specs.Closure.{has, bit, forces}
+use Rattle.definitions.specs.Marks.{markBytes, marked}
 use Rattle.clause.specs.Rows.{clausesOf, ClausesRead}
-use Rattle.propagation.specs.declared.Closing.{Closing}
-use Rattle.propagation.specs.declared.Closing.the-variants as closing
 use Rattle.propagation.specs.declared.Scan.{Scan}
 use Rattle.propagation.specs.declared.Scan.the-variants as scan
 use Rattle.propagation.specs.declared.Pass.{Pass}
 use Rattle.propagation.specs.declared.Pass.the-variants as pass
+
+-- the set that the marks stand for, over so many atoms
+unfoldable pub setOf : ℕ → List ℕ → List ℕ
+setOf atoms ms = map (λ l. bit (marked ms l)) (below (2 * atoms))
 
 -- literal l is in the set s
 abbrev pub In : List ℕ → ℕ → Type 0
@@ -39,81 +45,101 @@ pub record Clash (T : List ℕ) : Type 0 where
   pub here : In T it
   pub there : In T (complement it)
 
--- every byte is 0 or 1
-abbrev pub Bits : List ℕ → Type 0
-Bits s = (i : ℕ) → getD s i 0 ≤ 1
+-- a set that has no contradiction, where propagation stops at one
+abbrev pub Sound : Bool → List ℕ → Type 0
+Sound stops s = stops ≡ true → Clash s → ⊥
 
--- the marks that are not set
+-- the literals that are not in the set
 unfoldable pub zeros : List ℕ → ℕ
 zeros [] = 0
 zeros (b ∷ bs) = 1 - b + zeros bs
 
--- bytes of an even number of literals
-pub record Even (s : List ℕ) : Type 0 where
-  pub even : length s % 2 ≡ 0
-  pub few : length s ≤ mostLiterals
+-- marks that differ in literals of so many atoms alone
+pub record RestKept (atoms : ℕ) (ms ms′ : List ℕ) : Type 0 where
+  pub same-length : length ms′ ≡ length ms
+  pub beyond : (l : ℕ) → 2 * atoms ≤ l → marked ms′ l ≡ marked ms l
 
--- a set that is not contradictory
-pub record Sound (s : List ℕ) : Type 0 where
-  pub even : Even s
-  pub bits : Bits s
-  pub consistent : Clash s → ⊥
+-- the literals of so many atoms are unmarked
+pub record Cleared (atoms : ℕ) (ms ms′ : List ℕ) : Type 0 where
+  pub rest : RestKept atoms ms ms′
+  pub none : (l : ℕ) → l < 2 * atoms → marked ms′ l ≡ false
 
--- with clauses over its literals
-pub record Ready (ws s : List ℕ) : Type 0 where
-  pub sound : Sound s
-  pub atoms : ℕ
-  pub exact : length s ≡ 2 * atoms
+-- literal l, which was not marked, is marked, and no other mark differs
+pub record OneMore (ms : List ℕ) (l : ℕ) (ms′ : List ℕ) : Type 0 where
+  pub same-length : length ms′ ≡ length ms
+  pub was-not : marked ms l ≡ false
+  pub here : marked ms′ l ≡ true
+  pub others : (j : ℕ) → (j ≡ l → ⊥) → marked ms′ j ≡ marked ms j
+
+-- literal l is marked: whether it was not
+abbrev pub Adds : List ℕ → ℕ → List ℕ → Bool → Type 0
+Adds ms l ms′ true = OneMore ms l ms′
+Adds ms l ms′ false = (ms′ ≡ ms) × (marked ms l ≡ true)
+
+-- what is asked of marks to add literals
+pub record Room (stops : Bool) (atoms : ℕ) (ms : List ℕ) : Type 0 where
+  pub few : atoms ≤ mostAtoms
+  pub room : markBytes atoms ≤ length ms
+  pub sound : Sound stops (setOf atoms ms)
+
+-- with clauses over the literals
+pub record Ready (stops : Bool) (atoms : ℕ) (ws ms : List ℕ) : Type 0 where
+  pub marks : Room stops atoms ms
   pub rows : ClausesRead atoms ws
 
--- what a word adds to the scan of a row whose open literal so far is u, or fill if there is none
-abbrev pub Scanned : List ℕ → ℕ → ℕ → Scan → Type 0
-Scanned s w u scan.Same = (w ≡ fill → ⊥) → (w ≡ u → ⊥) → In s (complement w)
-Scanned s w u scan.First = (w ≡ fill → ⊥) × (has s (complement w) ≡ false) × (u ≡ fill)
-Scanned s w u scan.Second = (w ≡ fill → ⊥) × (has s (complement w) ≡ false) × (u ≡ fill → ⊥) × (w ≡ u → ⊥)
+-- what a word w, whose complement is marked or not, adds to the scan of a row whose open literal so far is u, or fill if there is none
+abbrev pub Scanned : Bool → ℕ → ℕ → Scan → Type 0
+Scanned off w u scan.Same = (w ≡ fill → ⊥) → off ≡ true
+Scanned off w u scan.First = (w ≡ fill → ⊥) × (off ≡ false) × (u ≡ fill)
+Scanned off w u scan.Second = (w ≡ fill → ⊥) × (off ≡ false) × (u ≡ fill → ⊥)
 
--- the set s is between s₀ and every set that holds s₀ and is closed
-pub record Reached (C : List (List ℕ)) (s₀ s : List ℕ) : Type 0 where
-  pub same-length : length s ≡ length s₀
-  pub bits : Bits s
-  pub consistent : Clash s → ⊥
-  pub above : Part s₀ s
-  pub least : (T : List ℕ) → ClosedUnder C T → Part s₀ T → Part s T
+-- the literals that follow from a row: its only open literal u, or, where that is fill, all
+unfoldable pub forcedOf : List ℕ → ℕ → List ℕ
+forcedOf row u = cond (eqb u fill) (clauseOf row) (u ∷ [])
 
--- what one walk over the clauses did
-abbrev pub Passed : List ℕ → List ℕ → List ℕ → Pass → Type 0
-Passed ws s₀ s pass.Same = (s ≡ s₀) × ClosedUnder (clausesOf ws) s₀
-Passed ws s₀ s pass.Grown = Reached (clausesOf ws) s₀ s × (zeros s < zeros s₀)
-Passed ws s₀ s pass.Contradictory = (T : List ℕ) → ClosedUnder (clausesOf ws) T → Part s₀ T → Clash T
+-- they are literals of so many atoms, and an open literal's complement is not in the set
+pub record Forcing (atoms : ℕ) (s row : List ℕ) (u : ℕ) : Type 0 where
+  pub low : allBelow (2 * atoms) (forcedOf row u) ≡ true
+  pub opened : (u ≡ fill → ⊥) → has s (complement u) ≡ false
 
--- all walks
-abbrev pub Saturated : List ℕ → List ℕ → List ℕ → Closing → Type 0
-Saturated ws s₀ s closing.Consistent = Reached (clausesOf ws) s₀ s × ClosedUnder (clausesOf ws) s
-Saturated ws s₀ s closing.Contradictory = (T : List ℕ) → ClosedUnder (clausesOf ws) T → Part s₀ T → Clash T
-
--- the literals of a list are added
-pub record Added (s₀ ls s : List ℕ) : Type 0 where
-  pub same-length : length s ≡ length s₀
-  pub bits : Bits s
-  pub consistent : Clash s → ⊥
+-- the literals of a list are added to the set s₀
+pub record Added (stops : Bool) (s₀ ls s : List ℕ) : Type 0 where
+  pub sound : Sound stops s
   pub above : Part s₀ s
   pub holds : Lists ls s
   pub least : (T : List ℕ) → Part s₀ T → Lists ls T → Part s T
 
-abbrev pub Seeded : List ℕ → List ℕ → List ℕ → Closing → Type 0
-Seeded s₀ ls s closing.Consistent = Added s₀ ls s
-Seeded s₀ ls s closing.Contradictory = (T : List ℕ) → Part s₀ T → Lists ls T → Clash T
+-- what adding the literals of a list did
+abbrev pub Seeded : Bool → List ℕ → List ℕ → List ℕ → Pass → Type 0
+Seeded stops s₀ ls s pass.Same = (s ≡ s₀) × Lists ls s₀
+Seeded stops s₀ ls s pass.Grown = Added stops s₀ ls s × (zeros s < zeros s₀)
+Seeded stops s₀ ls s pass.Contradictory = (stops ≡ true) × ((T : List ℕ) → Part s₀ T → Lists ls T → Clash T)
+
+-- the set s is between s₀ and every set that holds s₀ and is closed
+pub record Reached (stops : Bool) (C : List (List ℕ)) (s₀ s : List ℕ) : Type 0 where
+  pub sound : Sound stops s
+  pub above : Part s₀ s
+  pub least : (T : List ℕ) → ClosedUnder C T → Part s₀ T → Part s T
+
+-- what one walk over the clauses did
+abbrev pub Passed : Bool → List ℕ → List ℕ → List ℕ → Pass → Type 0
+Passed stops ws s₀ s pass.Same = (s ≡ s₀) × ClosedUnder (clausesOf ws) s₀
+Passed stops ws s₀ s pass.Grown = Reached stops (clausesOf ws) s₀ s × (zeros s < zeros s₀)
+Passed stops ws s₀ s pass.Contradictory = (stops ≡ true) × ((T : List ℕ) → ClosedUnder (clausesOf ws) T → Part s₀ T → Clash T)
+
+-- all walks: whether nothing more follows, and where something does, a contradiction was met
+abbrev pub Saturated : Bool → List ℕ → List ℕ → List ℕ → Bool → Type 0
+Saturated stops ws s₀ s true = Reached stops (clausesOf ws) s₀ s × ClosedUnder (clausesOf ws) s
+Saturated stops ws s₀ s false = (stops ≡ true) × ((T : List ℕ) → ClosedUnder (clausesOf ws) T → Part s₀ T → Clash T)
 
 -- the literals of a list are added, and what follows
-pub record Closure (C : List (List ℕ)) (s₀ ls s : List ℕ) : Type 0 where
-  pub same-length : length s ≡ length s₀
-  pub bits : Bits s
-  pub consistent : Clash s → ⊥
+pub record Closure (stops : Bool) (C : List (List ℕ)) (s₀ ls s : List ℕ) : Type 0 where
+  pub sound : Sound stops s
   pub above : Part s₀ s
   pub holds : Lists ls s
   pub closed : ClosedUnder C s
   pub least : (T : List ℕ) → ClosedUnder C T → Part s₀ T → Lists ls T → Part s T
 
-abbrev pub Propagated : List ℕ → List ℕ → List ℕ → List ℕ → Closing → Type 0
-Propagated ws s₀ ls s closing.Consistent = Closure (clausesOf ws) s₀ ls s
-Propagated ws s₀ ls s closing.Contradictory = (T : List ℕ) → ClosedUnder (clausesOf ws) T → Part s₀ T → Lists ls T → Clash T
+abbrev pub Propagated : Bool → List ℕ → List ℕ → List ℕ → List ℕ → Bool → Type 0
+Propagated stops ws s₀ ls s true = Closure stops (clausesOf ws) s₀ ls s
+Propagated stops ws s₀ ls s false = (stops ≡ true) × ((T : List ℕ) → ClosedUnder (clausesOf ws) T → Part s₀ T → Lists ls T → Clash T)

@@ -14,6 +14,7 @@ use Rattle.definitions.specs.Literal.{mostAtoms}
 use Rattle.definitions.specs.Image.{Task, readTask}
 use Rattle.definitions.specs.Clauses.{width, mostRows, clauseWords}
 use Rattle.definitions.specs.Synthesis.{firstSet, Found, Made, fits, rounds, rowsIn, synthesis, bufferAfter, madeOf, synthesisCall}
+use Rattle.definitions.specs.Marks.{markBytes}
 use Rattle.definitions.proofs.ListLaws.{and-left, and-right}
 use Rattle.definitions.proofs.AnswerLaws.{not-finding, same-refusal}
 use Rattle.definitions.proofs.QuestionNumbers.{task-numbers}
@@ -158,7 +159,9 @@ module _ (w : List ℕ) (n limit : ℕ) (old : List ℕ) (work marks : ℕ) (ask
             size = inside;
             few-rows = few;
             room = (let h = room in omega arith);
-            work = (let h = leb-true (length old) work (and-right (leb (2 * t .atoms) marks) (leb (length old) work) (asked .buffers)) in omega arith);
-            marked = (let h = leb-true (2 * t .atoms) marks (and-left (leb (2 * t .atoms) marks) (leb (length old) work) (asked .buffers)) in omega arith);
+            work = (let h = leb-true (length old) work (and-right (leb (markBytes (t .atoms)) marks) (leb (length old) work) (asked .buffers)) in omega arith);
+            marked =
+                (let h = leb-true (markBytes (t .atoms)) marks (and-left (leb (markBytes (t .atoms)) marks) (leb (length old) work) (asked .buffers)) in
+                omega (arith, ap markBytes counted));
             words = ap (take (width * atoms)) e ∙ take-at (clauseWords (firstSet t)) (drop (width * t .atoms) old) (width * atoms) words;
           }

@@ -7,6 +7,7 @@ use lib.Dec.{leb}
 use borrow.Author.Tests.{le-leb, lt-leb}
 use Rattle.definitions.specs.Clauses.{width, mostRows}
 use Rattle.definitions.specs.Synthesis.{rowsIn}
+use Rattle.definitions.specs.Marks.{markBytes}
 use Rattle.synthesis.specs.Asked.{limitsRight, buffersRight}
 
 module _ (n limit : ℕ) where
@@ -25,11 +26,11 @@ module _ (n limit : ℕ) where
       limits-rest h = rw (le-leb 1 n some-literal, le-leb n width narrow, le-leb 1 limit h)
 
 module _ (atoms words work marks : ℕ) where
-  pub buffers-marks : marks < 2 * atoms → false ≡ buffersRight atoms words work marks
-  buffers-marks h = rw (lt-leb (2 * atoms) marks h)
+  pub buffers-marks : marks < markBytes atoms → false ≡ buffersRight atoms words work marks
+  buffers-marks h = rw (lt-leb (markBytes atoms) marks h)
 
-  pub buffers-work : 2 * atoms ≤ marks → leb words work ≡ buffersRight atoms words work marks
-  buffers-work h = rw (le-leb (2 * atoms) marks h)
+  pub buffers-work : markBytes atoms ≤ marks → leb words work ≡ buffersRight atoms words work marks
+  buffers-work h = rw (le-leb (markBytes atoms) marks h)
 
 pub rows-few : (words : ℕ) → words / width < mostRows → words / width ≡ rowsIn words
 unfolding rowsIn

@@ -8,6 +8,7 @@ use lib.ListN.{length}
 use Rattle.definitions.specs.Answer.{outcome, refused}
 use Rattle.definitions.specs.Clauses.{width}
 use Rattle.definitions.specs.Synthesis.{synthesisCall}
+use Rattle.definitions.specs.Marks.{markBytes}
 use Rattle.answer.specs.Answer.{placed}
 use Rattle.answer.specs.declared.Verdict as verdicts
 use Rattle.task.specs.Reads.{taskOf, Reads}
@@ -18,7 +19,7 @@ limitsRight n limit = leb 1 n && leb n width && leb 1 limit && leb limit 65535
 
 -- question 13
 abbrev pub buffersRight : ℕ → ℕ → ℕ → ℕ → Bool
-buffersRight atoms words work marks = leb (2 * atoms) marks && leb words work
+buffersRight atoms words work marks = leb (markBytes atoms) marks && leb words work
 
 -- questions 1 to 7, 12 and 13 are answered yes
 pub record Asked (w : List ℕ) (n limit words work marks : ℕ) : Type 0 where

@@ -10,6 +10,7 @@ use Rattle.definitions.specs.Literal.{mostAtoms}
 use Rattle.definitions.specs.Image.{Task}
 use Rattle.definitions.specs.Clauses.{width, mostRows, clauseWords}
 use Rattle.definitions.specs.Synthesis.{firstSet, tested, passes, next, fits, Made}
+use Rattle.definitions.specs.Marks.{markBytes}
 use Rattle.answer.specs.Answer.{refusalAt}
 use Rattle.task.specs.Reads.{taskOf, Reads}
 use Rattle.clause_set.specs.Held.{held, Room}
@@ -25,7 +26,7 @@ unitsFrom s a k = map (λ a. (2 * a + (1 - getD s a 0)) ∷ []) (range a k)
 -- what is asked of a round on clauses c, with so many marks and words of the work buffer
 pub record Ready (w c : List ℕ) (atoms n rows marks work : ℕ) : Type 0 where
   pub round : Round w c atoms n rows
-  pub marked : 2 * atoms ≤ marks
+  pub marked : markBytes atoms ≤ marks
   pub room : width * rows ≤ work
 
 -- the next set of C stands in the first k rows
@@ -68,5 +69,5 @@ pub record Begun (w c v : List ℕ) (atoms n limit rows marks : ℕ) : Type 0 wh
   pub few-rows : rows ≤ mostRows
   pub room : width * rows ≤ length c
   pub work : length c ≤ length v
-  pub marked : 2 * atoms ≤ marks
+  pub marked : markBytes atoms ≤ marks
   pub words : take (width * atoms) c ≡ clauseWords (firstSet (taskOf w))

@@ -247,7 +247,7 @@ fn are_buffers(atoms: usize, words: usize, work: usize, marks: usize) -> bool
     requires { ⌜ atoms ≤ mostAtoms ⌝ }
     ensures { λ r. ⌜ r ≡ buffersRight atoms words work marks ⌝ }
 {
-    if marks < 2 * atoms {
+    if marks < propagation::marks::bytes(atoms) {
         return false;
     }
     words <= work

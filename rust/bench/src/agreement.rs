@@ -2,6 +2,7 @@
 
 use inputs::{structured, Rng};
 use reference::agreement;
+use reference::marks::MOST_MARK_BYTES;
 use sources::Synthesized;
 
 use crate::fdr::random_list;
@@ -17,7 +18,7 @@ pub fn run(bench: &Bench) {
     bench.compare(
         "1000 steps, gripper 14, by one kb_agree",
         list.len(),
-        &vec![0; 2048],
+        &vec![0; MOST_MARK_BYTES],
         |marks| exports::agree(&source.image, &rows, &list, marks),
         |marks| agreement::agree(&source.image, &rows, &list, marks).into(),
     );

@@ -2,6 +2,7 @@
 
 use exports::Reply;
 use inputs::{structured, Rng};
+use reference::marks::MOST_MARK_BYTES;
 use reference::{fdr as model, reencoding};
 use sources::Synthesized;
 
@@ -36,7 +37,7 @@ fn reencode(bench: &Bench, name: &str, source: &Synthesized) {
     bench.compare(
         name,
         1,
-        &(vec![0; 2048], vec![0; 32_768]),
+        &(vec![0; MOST_MARK_BYTES], vec![0; 32_768]),
         |(marks, target)| {
             let reply = exports::reencode(&source.image, &rows, marks, target);
             (reply, target.clone())

@@ -7,6 +7,7 @@
 
 mod agreement;
 mod checker;
+mod closure;
 mod dimacs;
 mod fdr;
 mod join;
@@ -25,4 +26,5 @@ fn main() {
     agreement::run(&bench);
     dimacs::run(&bench);
     join::run(&bench);
+    closure::run(&bench);
 }

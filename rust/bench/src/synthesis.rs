@@ -3,6 +3,7 @@
 use exports::Reply;
 use inputs::structured;
 use inputs::task::TaskSpec;
+use reference::marks::MOST_MARK_BYTES;
 use reference::synthesis::{synthesize, MOST_ROWS};
 use sources::Synthesized;
 
@@ -33,7 +34,7 @@ fn one(bench: &Bench, name: &str, task: &TaskSpec) {
     let lent: Lent = (
         vec![0; 3 * MOST_ROWS],
         vec![0; 3 * MOST_ROWS],
-        vec![0; 2048],
+        vec![0; MOST_MARK_BYTES],
     );
     bench.compare(
         &format!("synthesis {name} n=3, {found} rows found"),

@@ -4,9 +4,9 @@ use crate::arguments::Arguments;
 use crate::Failure;
 use exports::Reply;
 
-/// Room for as many clause rows, marks and words as a call can ask for.
+/// Room for as many clause words, mark bytes and image words as a call can ask for.
 const CLAUSE_WORDS: usize = 30_000;
-const MARKS: usize = 2_048;
+const MARKS: usize = 256;
 const IMAGE_WORDS: usize = 32_768;
 
 /// The image made from the clauses that synthesis finds.

@@ -1,5 +1,6 @@
 //! One case: a call with what it is given, and the line that belongs to it.
 
+use reference::operator_closure::operator_closure;
 use reference::{agreement, checker, coding, dimacs, fdr, groups, join, kept, reencoding};
 use reference::{state, synthesis, task, Reply};
 use std::fmt::Write;
@@ -65,6 +66,7 @@ impl Case {
             17 => dimacs::write(image, list, small).into(),
             18 => dimacs::read(image, small, list).into(),
             19 => join::join(image, list, other).into(),
+            20 => operator_closure(image, list, x, small).into(),
             call => unreachable!("no call has the number {call}"),
         }
     }
@@ -75,7 +77,7 @@ impl Case {
         let reply = after.answer();
         let mut line = format!("{} {} {} ", reply.number, reply.first, reply.second);
         match self.call {
-            1 | 2 | 4 | 15 | 17 => add_list(&mut line, &after.small),
+            1 | 2 | 4 | 15 | 17 | 20 => add_list(&mut line, &after.small),
             7 | 10 | 11 | 13 | 14 | 18 => add_list(&mut line, &after.list),
             8 | 9 | 19 => add_list(&mut line, &after.other),
             _ => {}

@@ -8,6 +8,7 @@ use inputs::clauses::{self, FILL as NONE};
 use inputs::fixed::kept_cases;
 use inputs::task::{OperatorSpec, TaskSpec};
 use inputs::{damage, state, structured, Rng};
+use reference::marks::mark_bytes;
 use reference::{synthesis, task};
 use sources::{marks_length, target_length, Synthesized};
 
@@ -49,7 +50,7 @@ pub fn case(call: u16, image: &[u16], clauses: &[u16], other: &[u16]) -> Case {
         image: image.to_vec(),
         list: clauses.to_vec(),
         other: other.to_vec(),
-        small: vec![FILL as u8; 2 * usize::from(image[0])],
+        small: vec![FILL as u8; mark_bytes(usize::from(image[0]))],
     }
 }
 

@@ -71,7 +71,9 @@ impl Collection {
         assert_eq!(seen, numbers, "numbers returned by call {call}");
     }
 
+    /// Writes the files; the folder of a new program is made.
     pub fn write(&self, folder: &Path) {
+        fs::create_dir_all(folder).expect("the folder is there");
         fs::write(folder.join("stdin"), &self.input).expect("stdin is written");
         fs::write(folder.join("stdout"), &self.output).expect("stdout is written");
     }

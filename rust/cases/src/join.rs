@@ -25,7 +25,7 @@ const ADD: &[u16] = &[1, 1, 8, 0, 8, 0, 8, 4, 0, 1, 0, 0];
 const MOVE: &[u16] = &[2, 1, 8, 1, 9, 2, 11, 9, 1, 0, 3, 1, 2, 2, 0, 2, 1, 2, 3, 0];
 
 /// Images that are refused, with the number; 7 names the first operator, then the second.
-const REFUSED: [(u32, &[u16]); 8] = [
+pub const REFUSED: [(u32, &[u16]); 8] = [
     (1, &[1, 0, 6, 0, 6]),
     (2, &[0, 0, 6, 0, 6, 0]),
     (3, &[1, 0, 6, 65530, 0, 6]),

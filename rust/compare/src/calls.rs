@@ -1,7 +1,9 @@
-//! Calls that lend buffers whose final contents are open: marks, and work in synthesis.
+//! Calls that lend marks. What these hold afterwards is open, and so is work in
+//! synthesis, but for the call that leaves a closure in them.
 
 use exports::Reply;
-use reference::{agreement, checker, kept, synthesis};
+use reference::operator_closure::operator_closure;
+use reference::{agreement, checker, kept, synthesis, Answer};
 
 use crate::{Guarded, Tally};
 
@@ -13,6 +15,13 @@ pub type Check = (Words, Words, Marks);
 
 /// Three buffers of words, and marks.
 pub type Triple = (Words, Words, Words, Marks);
+
+/// Image, clauses, marks and a target.
+pub type Targeted = (Words, Words, Marks, Words);
+
+/// Groups and re-encoding have the same form.
+pub type Model = fn(&[u16], &[u16], &mut [u8], &mut [u16]) -> Answer<usize>;
+pub type Library = fn(&[u16], &[u16], &mut [u8], &mut [u16]) -> Reply;
 
 pub fn check(tally: &mut Tally, lent: Check) -> Reply {
     let reference = |(image, set, marks): &mut Check| {
@@ -80,4 +89,39 @@ pub fn agree(tally: &mut Tally, lent: Triple) -> Reply {
         reply
     };
     tally.compare((), lent, reference, library).0
+}
+
+/// Groups or re-encoding. Gives back the target besides.
+pub fn targeted(
+    tally: &mut Tally,
+    lent: Targeted,
+    model: Model,
+    library: Library,
+) -> (Reply, Words) {
+    let reference = |(image, set, marks, target): &mut Targeted| {
+        let (set, marks_lent) = (set.lend(), marks.lend_mut());
+        let answer = model(image.lend(), set, marks_lent, target.lend_mut());
+        marks.forget();
+        answer.into()
+    };
+    let library = |(image, set, marks, target): &mut Targeted| {
+        let (set, marks_lent) = (set.lend(), marks.lend_mut());
+        let reply = library(image.lend(), set, marks_lent, target.lend_mut());
+        marks.forget();
+        reply
+    };
+    let (reply, (_, _, _, target)) = tally.compare((), lent, reference, library);
+    (reply, target)
+}
+
+/// The closure for an operator; all of the marks is compared. Gives them back besides.
+pub fn closure(tally: &mut Tally, lent: Check, operator: u16) -> (Reply, Marks) {
+    let reference = |(image, set, marks): &mut Check| {
+        operator_closure(image.lend(), set.lend(), operator, marks.lend_mut()).into()
+    };
+    let library = |(image, set, marks): &mut Check| {
+        exports::closure(image.lend(), set.lend(), operator, marks.lend_mut())
+    };
+    let (reply, (_, _, marks)) = tally.compare(operator, lent, reference, library);
+    (reply, marks)
 }

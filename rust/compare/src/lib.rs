@@ -3,7 +3,9 @@
 
 pub mod calls;
 pub mod guard;
+pub mod kinds;
 pub mod tally;
 
 pub use guard::Guarded;
+pub use kinds::Kinds;
 pub use tally::Tally;

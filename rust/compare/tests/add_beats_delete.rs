@@ -11,6 +11,7 @@ use inputs::structured::changer;
 use inputs::task::no;
 use inputs::{clauses, state, Rng};
 use reference::clause::{self, Clause};
+use reference::marks::mark_bytes;
 use reference::synthesis::MOST_ROWS;
 use reference::task::{self, Task};
 use reference::{fdr, state as model, synthesis, Refusal};
@@ -167,7 +168,7 @@ fn kept_clauses() {
     while tally.total() < 2 * INPUTS {
         let Judged { task, set, clause } = add_delete::judged(rng);
         let (image, words) = (task.image(), clauses::words(&set));
-        let marks = vec![rng.word() as u8; 2 * usize::from(task.atoms)];
+        let marks = vec![rng.word() as u8; mark_bytes(usize::from(task.atoms))];
         let lent = (
             Guarded::new(&image),
             Guarded::new(&words),
@@ -263,7 +264,7 @@ fn check() {
     while tally.total() < 2 * INPUTS {
         let (image, words) = task_and_set(rng);
         let task = task::read(&image).expect("a right image");
-        let marks = vec![rng.word() as u8; 2 * task.atoms()];
+        let marks = vec![rng.word() as u8; mark_bytes(task.atoms())];
         let lent = (
             Guarded::new(&image),
             Guarded::new(&words),
@@ -311,7 +312,7 @@ fn synthesize() {
             Guarded::new(&image),
             Guarded::new(&vec![rng.word(); words]),
             Guarded::new(&vec![rng.word(); words]),
-            Guarded::new(&vec![rng.word() as u8; 2 * task.atoms()]),
+            Guarded::new(&vec![rng.word() as u8; mark_bytes(task.atoms())]),
         );
         let (reply, clauses) = calls::synthesize(&mut tally, lent, n as u16, 65535);
         let rows = &clauses.lend()[..3 * reply.first as usize];
@@ -404,7 +405,7 @@ fn agree() {
             Guarded::new(&source.image),
             Guarded::new(&clauses::words(&source.rows)),
             Guarded::new(&list),
-            Guarded::new(&vec![rng.word() as u8; 2 * source.atoms()]),
+            Guarded::new(&vec![rng.word() as u8; mark_bytes(source.atoms())]),
         );
         let reply = calls::agree(&mut tally, lent);
         assert_eq!(reply, Reply::finding(1, 0), "{:?}", source.image);
@@ -416,7 +417,7 @@ fn agree() {
 #[test]
 fn as_written_down() {
     let image = [2, 1, 8, 0, 8, 0, 8, 10, 0, 4, 0, 0, 1, 0, 2, 0, 3, 0];
-    let kept = |row: [u16; 3]| exports::kept(&image, &[], &row, 0, &mut [0; 4]);
+    let kept = |row: [u16; 3]| exports::kept(&image, &[], &row, 0, &mut [0]);
     assert_eq!(kept([0, 65535, 65535]), Reply::finding(1, 0));
     assert_eq!(kept([1, 65535, 65535]), Reply::finding(0, 0));
     assert_eq!(kept([1, 3, 65535]), Reply::finding(0, 0));

@@ -1,11 +1,12 @@
 //! Demand 3, executed on the library alone: from synthesis to coded states.
 
 use inputs::{random, state, structured, Rng};
+use reference::marks::mark_bytes;
 
 /// The library's synthesized rows, accepted by its checker, and its re-encoding.
 fn reencoded(image: &[u16], n: u16) -> Vec<u16> {
     let (mut rows, mut work) = (vec![1; 30_000], vec![1; 30_000]);
-    let mut marks = vec![1; 2 * usize::from(image[0])];
+    let mut marks = vec![1; mark_bytes(usize::from(image[0]))];
     let found = exports::synthesize(image, n, 65535, &mut rows, &mut work, &mut marks);
     assert_eq!(found.number, 0, "{image:?}");
     let rows = &rows[..3 * found.first as usize];

@@ -5,6 +5,7 @@ use exports::Reply;
 use inputs::clauses::{self, FILL};
 use inputs::fixed::kept_cases;
 use inputs::{damage, state, Rng};
+use reference::marks::mark_bytes;
 use sources::{marks_length, Failing, Synthesized};
 
 const LEAST: usize = 50;
@@ -79,7 +80,7 @@ fn falsifying_rows(rng: &mut Rng, tally: &mut Tally, answers: &mut [usize; 2]) {
             Guarded::new(&task.image()),
             Guarded::new(&clauses::words(&set)),
             Guarded::new(&clause),
-            Guarded::new(&vec![0; 2 * atoms]),
+            Guarded::new(&vec![0; mark_bytes(atoms)]),
         );
         let reply = calls::kept(tally, lent, 0);
         answers[reply.first as usize] += 1;
@@ -90,7 +91,7 @@ fn falsifying_rows(rng: &mut Rng, tally: &mut Tally, answers: &mut [usize; 2]) {
 #[test]
 fn kept_cases_as_written_down() {
     for case in kept_cases() {
-        let mut marks = vec![0; 2 * usize::from(case.image[0])];
+        let mut marks = vec![0; mark_bytes(usize::from(case.image[0]))];
         let reply = exports::kept(&case.image, &case.clauses, &case.clause, 0, &mut marks);
         let expected = Reply::finding(u64::from(case.kept), 0);
         assert_eq!(reply, expected, "{}", case.name);
@@ -123,7 +124,7 @@ fn check() {
 /// lowest. So do the calls that ask the checker's questions first.
 fn compare_failing(tally: &mut Tally, failing: &Failing) {
     let (image, words) = (&failing.image, &failing.words);
-    let mut marks = vec![0; 2 * usize::from(image[0])];
+    let mut marks = vec![0; mark_bytes(usize::from(image[0]))];
     let lent = (
         Guarded::new(image),
         Guarded::new(words),
@@ -146,7 +147,7 @@ fn compare_failing(tally: &mut Tally, failing: &Failing) {
 /// under this one.
 fn are_lowest(failing: &Failing, clause: usize, operator: usize) -> bool {
     let (image, words) = (&failing.image, &failing.words);
-    let mut marks = vec![0; 2 * usize::from(image[0])];
+    let mut marks = vec![0; mark_bytes(usize::from(image[0]))];
     let mut kept = |place: usize, operator: u16| {
         let row = &words[3 * place..3 * place + 3];
         exports::kept(image, words, row, operator, &mut marks) == Reply::finding(1, 0)
@@ -192,7 +193,7 @@ fn the_lowest_clause_and_operator() {
 fn check_the_ring() {
     let image = inputs::structured::ring(3).image();
     let check = |rows: &[u16]| {
-        let reply = exports::check(&image, rows, &mut [0; 6]);
+        let reply = exports::check(&image, rows, &mut [0]);
         (reply.number, reply.first, reply.second)
     };
     assert_eq!(check(&[2, FILL, FILL]), (10, 0, 0));

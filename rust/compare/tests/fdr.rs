@@ -1,49 +1,18 @@
 //! Groups, re-encoding and the finite-domain calls.
 
+use compare::calls::{self, Library, Model};
 use compare::{Guarded, Tally};
-use exports::Reply;
 use inputs::{clauses, damage, state, Rng};
-use reference::{fdr as model, groups, reencoding, Answer};
+use reference::marks::mark_bytes;
+use reference::{fdr as model, groups, reencoding};
 use sources::{fdr, marks_length, target_length, Synthesized};
 
 const LEAST: usize = 50;
 
-/// The lent buffers of groups and re-encoding: image, clauses, marks, target.
-type Lent = (Guarded<u16>, Guarded<u16>, Guarded<u8>, Guarded<u16>);
-
-/// Both calls have the same form.
-type Model = fn(&[u16], &[u16], &mut [u8], &mut [u16]) -> Answer<usize>;
-type Library = fn(&[u16], &[u16], &mut [u8], &mut [u16]) -> Reply;
-
-/// Compares a call; what the marks hold afterwards is open.
-fn compare(tally: &mut Tally, lent: Lent, model: Model, library: Library) {
-    let reference = |(image, set, marks, target): &mut Lent| {
-        let answer = model(
-            image.lend(),
-            set.lend(),
-            marks.lend_mut(),
-            target.lend_mut(),
-        );
-        marks.forget();
-        answer.into()
-    };
-    let library = |(image, set, marks, target): &mut Lent| {
-        let reply = library(
-            image.lend(),
-            set.lend(),
-            marks.lend_mut(),
-            target.lend_mut(),
-        );
-        marks.forget();
-        reply
-    };
-    tally.compare((), lent, reference, library);
-}
-
 /// The words a target needs: as many as the call writes into a long one.
 fn needed(source: &Synthesized, set: &[u16], model: Model) -> usize {
     let mut target = vec![65535; 32_768];
-    let mut marks = vec![0; 2 * source.atoms()];
+    let mut marks = vec![0; mark_bytes(source.atoms())];
     let answer = model(&source.image, set, &mut marks, &mut target);
     // No image or group holds the word 65535.
     answer.map_or(40, |_| {
@@ -73,7 +42,7 @@ fn compare_many(name: &'static str, seed: u64, model: Model, library: Library) {
                 Guarded::new(&vec![rng.word() as u8; marks_length(rng, source.atoms())]),
                 Guarded::new(&vec![rng.word(); target_length(rng, length)]),
             );
-            compare(&mut tally, lent, model, library);
+            calls::targeted(&mut tally, lent, model, library);
         }
     }
     tally.finish(LEAST, &[0, 1, 2, 3, 4, 5, 6, 7, 8, 9, 10, 11, 13, 16]);

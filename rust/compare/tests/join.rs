@@ -1,14 +1,13 @@
 //! Two tasks joined (document 02 §6): images, lists run in the joined task and in the
 //! parts, and unions of accepted sets.
 
-use std::collections::BTreeMap;
-
-use compare::{calls, Guarded, Tally};
+use compare::{calls, Guarded, Kinds, Tally};
 use exports::Reply;
 use inputs::join::{self, Pair};
 use inputs::structured::ring;
 use inputs::{clauses, random, Rng};
 use reference::join as model;
+use reference::marks::mark_bytes;
 use reference::task;
 
 /// Each kind of answer must occur so often.
@@ -37,32 +36,6 @@ fn joined(tally: &mut Tally, left: &[u16], right: &[u16]) -> Vec<u16> {
     let (reply, (_, _, target)) = compare_join(tally, lent);
     assert_eq!(reply, Reply::finding(length as u64, 0));
     target.lend().to_vec()
-}
-
-/// How often each kind of input occurred.
-#[derive(Default)]
-struct Kinds(BTreeMap<String, usize>);
-
-impl Kinds {
-    fn see(&mut self, kind: impl Into<String>) {
-        *self.0.entry(kind.into()).or_default() += 1;
-    }
-
-    fn see_if(&mut self, yes: bool, kind: &str) {
-        if yes {
-            self.see(kind);
-        }
-    }
-
-    /// Prints the counts and asserts that these kinds, and no others, occurred.
-    fn finish(self, mut expected: Vec<String>) {
-        println!("kb_join: {:?}", self.0);
-        expected.sort();
-        let seen: Vec<String> = self.0.keys().cloned().collect();
-        assert_eq!(seen, expected);
-        let rare = self.0.iter().find(|&(_, &count)| count < LEAST);
-        assert_eq!(rare, None, "a kind occurred too rarely");
-    }
 }
 
 /// What would answer question 27 with "no", each cause for itself, and by how much.
@@ -187,7 +160,7 @@ fn compare_pair(rng: &mut Rng, tally: &mut Tally, kinds: &mut Kinds, pair: Pair)
 fn joins() {
     let rng = &mut Rng::new(901);
     let mut tally = Tally::new("kb_join");
-    let mut kinds = Kinds::default();
+    let mut kinds = Kinds::new("kb_join");
     while tally.total() < 3 * compare::tally::INPUTS {
         let pair = join::any(rng);
         compare_pair(rng, &mut tally, &mut kinds, pair);
@@ -196,7 +169,7 @@ fn joins() {
         let pair = join::at_limits(rng);
         compare_pair(rng, &mut tally, &mut kinds, pair);
     }
-    kinds.finish(all_kinds());
+    kinds.finish(LEAST, all_kinds());
     tally.finish(LEAST, &[0, 1, 2, 3, 4, 5, 6, 7, 27]);
 }
 
@@ -416,7 +389,7 @@ fn numbers_too_high() {
 /// The library's finding.
 fn found(image: &[u16], n: u16) -> Vec<u16> {
     let (mut rows, mut work) = (vec![1; 30_000], vec![1; 30_000]);
-    let mut marks = vec![1; 2 * usize::from(image[0])];
+    let mut marks = vec![1; marks_of(image)];
     let reply = exports::synthesize(image, n, 65535, &mut rows, &mut work, &mut marks);
     assert_eq!(reply.number, 0, "{image:?}");
     rows.truncate(3 * reply.first as usize);
@@ -433,8 +406,9 @@ fn compare_check(tally: &mut Tally, image: &[u16], rows: &[u16], marks: usize) -
     calls::check(tally, lent)
 }
 
-fn mark_bytes(image: &[u16]) -> usize {
-    2 * usize::from(image[0])
+/// The bytes of marks that 13 asks for.
+fn marks_of(image: &[u16]) -> usize {
+    mark_bytes(usize::from(image[0]))
 }
 
 /// The union of a set for each task: accepted if each is, with marks as 13 asks. Refused
@@ -446,12 +420,12 @@ fn mark_bytes(image: &[u16]) -> usize {
 fn assert_union(tally: &mut Tally, joined: &Joined, sets: [&[u16]; 2]) -> Reply {
     let Joined { left, right, image } = joined;
     let both = model::union(usize::from(left[0]), sets[0], sets[1]);
-    let bytes = mark_bytes(image);
+    let bytes = marks_of(image);
     let short = compare_check(tally, image, &both, bytes - 1);
     assert_eq!(short.number, 13, "{image:?} {both:?}");
     let given = compare_check(tally, image, &both, bytes);
-    let first = exports::check(left, sets[0], &mut vec![7; mark_bytes(left)]);
-    let mut second = exports::check(right, sets[1], &mut vec![7; mark_bytes(right)]);
+    let first = exports::check(left, sets[0], &mut vec![7; marks_of(left)]);
+    let mut second = exports::check(right, sets[1], &mut vec![7; marks_of(right)]);
     if second.number != 0 {
         second.first += sets[0].len() as u64 / 3;
     }
@@ -515,7 +489,7 @@ fn unions_at_the_limit() {
         let joined = Joined::new(&mut joins, Pair { left, right });
         let both = model::union(usize::from(joined.left[0]), &sets[0], &sets[1]);
         let image = &joined.image;
-        let reply = compare_check(&mut checks, image, &both, mark_bytes(image));
+        let reply = compare_check(&mut checks, image, &both, marks_of(image));
         (both.len() / 3, reply.number)
     };
     let larger = ring(101).image();

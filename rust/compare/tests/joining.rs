@@ -49,11 +49,11 @@ fn the_page_is_right() {
 
     let sets = [rows(&ring, ring_text), rows(&hatch, hatch_text)];
     let fine = Reply::finding(0, 0);
-    assert_eq!(exports::check(&ring, &sets[0], &mut [0; 6]), fine);
-    assert_eq!(exports::check(&hatch, &sets[1], &mut [0; 4]), fine);
+    assert_eq!(exports::check(&ring, &sets[0], &mut [0]), fine);
+    assert_eq!(exports::check(&hatch, &sets[1], &mut [0]), fine);
     let both = rows(&joined, text);
     assert_eq!(both, union(3, &sets[0], &sets[1]));
-    assert_eq!(exports::check(&joined, &both, &mut [0; 10]), fine);
+    assert_eq!(exports::check(&joined, &both, &mut [0; 2]), fine);
 }
 
 #[test]

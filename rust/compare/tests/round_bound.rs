@@ -9,6 +9,7 @@ use inputs::rounds::{chain, counter, walk, walk_of_pairs};
 use inputs::structured::{blocks, briefcase, changer, gripper, ring, transport};
 use inputs::task::TaskSpec;
 use inputs::{add_delete, random, small, Rng};
+use reference::marks::mark_bytes;
 use reference::round_bound::{choose, possible_clauses, round_bound};
 use reference::synthesis::MOST_ROWS;
 
@@ -47,7 +48,7 @@ fn synthesize(
         Guarded::new(image),
         Guarded::new(&vec![1; 3 * rows]),
         Guarded::new(&vec![2; 3 * rows]),
-        Guarded::new(&vec![3; 2 * usize::from(image[0])]),
+        Guarded::new(&vec![3; mark_bytes(usize::from(image[0]))]),
     );
     calls::synthesize(tally, lent, n, limit)
 }

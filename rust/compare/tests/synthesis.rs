@@ -3,6 +3,7 @@
 use compare::{calls, Guarded, Tally};
 use exports::Reply;
 use inputs::{clauses, damage, random, structured, Rng};
+use reference::marks::{mark_bytes, MOST_MARK_BYTES};
 use reference::synthesis::{self as model, MOST_ROWS};
 
 const LEAST: usize = 50;
@@ -34,11 +35,12 @@ fn random_words(rng: &mut Rng, atoms: usize, largest: usize) -> usize {
 
 /// A length of the work buffer and of the marks; seldom one too short.
 fn random_lengths(rng: &mut Rng, words: usize, atoms: usize) -> (usize, usize) {
+    let marks = mark_bytes(atoms);
     match rng.below(24) {
-        0 => (words.saturating_sub(1), 2 * atoms),
-        1 => (words, 2 * atoms - 1),
-        2..=6 => (words + rng.below(4), 2 * atoms + rng.below(4)),
-        _ => (words, 2 * atoms),
+        0 => (words.saturating_sub(1), marks),
+        1 => (words, marks - 1),
+        2..=6 => (words + rng.below(4), marks + rng.below(4)),
+        _ => (words, marks),
     }
 }
 
@@ -86,7 +88,8 @@ fn synthesize() {
 fn library_set(image: &[u16], n: u16) -> (Reply, Vec<clauses::Row>) {
     let mut rows = vec![1; 3 * MOST_ROWS];
     let mut work = rows.clone();
-    let reply = exports::synthesize(image, n, 65535, &mut rows, &mut work, &mut [1; 2048]);
+    let marks = &mut [1; MOST_MARK_BYTES];
+    let reply = exports::synthesize(image, n, 65535, &mut rows, &mut work, marks);
     assert_eq!(reply.number, 0);
     rows.truncate(3 * reply.first as usize);
     (reply, clauses::rows(&rows))
@@ -144,7 +147,8 @@ fn ten_thousand_rows() {
         task.atoms = atoms;
         let image = task.image();
         let (mut rows, mut work) = (vec![1; 30_012], vec![1; 30_012]);
-        let reply = exports::synthesize(&image, 2, 65535, &mut rows, &mut work, &mut [1; 2048]);
+        let marks = &mut [1; MOST_MARK_BYTES];
+        let reply = exports::synthesize(&image, 2, 65535, &mut rows, &mut work, marks);
         let zeros = rows.iter().rev().take_while(|&&word| word == 0).count();
         (reply.number, reply.first, reply.second, zeros)
     });
@@ -166,7 +170,7 @@ fn large_tasks() {
             Guarded::new(&task.image()),
             Guarded::new(&vec![1; 3 * MOST_ROWS]),
             Guarded::new(&vec![1; 3 * MOST_ROWS]),
-            Guarded::new(&[1; 2048]),
+            Guarded::new(&[1; MOST_MARK_BYTES]),
         );
         calls::synthesize(&mut tally, lent, 1 + number % 2, 65535);
     }
@@ -178,7 +182,7 @@ fn ring() {
     let image = structured::ring(3).image();
     let synthesize = |n, limit, words: usize| {
         let (mut rows, mut work) = (vec![1; words], vec![1; words]);
-        let reply = exports::synthesize(&image, n, limit, &mut rows, &mut work, &mut [1; 6]);
+        let reply = exports::synthesize(&image, n, limit, &mut rows, &mut work, &mut [1]);
         assert!(reply.number == 0 || rows.iter().all(|&word| word == 0));
         (reply.number, reply.first, reply.second)
     };

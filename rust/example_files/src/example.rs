@@ -2,6 +2,7 @@
 
 use image_text::line;
 use inputs::task::TaskSpec;
+use reference::marks::MOST_MARK_BYTES;
 use reference::synthesis::{synthesize, MOST_ROWS};
 
 pub struct Example {
@@ -61,7 +62,7 @@ impl Example {
     pub fn reencoded(&self) -> Option<Vec<u16>> {
         let image = self.task.image();
         let (mut clauses, mut work) = (vec![0; 3 * MOST_ROWS], vec![0; 3 * MOST_ROWS]);
-        let marks = &mut [0; 2048];
+        let marks = &mut [0; MOST_MARK_BYTES];
         let found = synthesize(&image, self.n, self.limit, &mut clauses, &mut work, marks).ok()?;
         let mut target = vec![0; 32_768];
         let clauses = &clauses[..3 * found.rows];

@@ -604,8 +604,45 @@ mod join {
     }
 }
 
+/// What a set says about one operator.
+mod closure {
+    use super::{reply, Reply};
+
+    extern "C" {
+        fn kb_closure(
+            image: *const u16,
+            image_length: usize,
+            clauses: *const u16,
+            clauses_length: usize,
+            operator: u16,
+            marks: *mut u8,
+            marks_length: usize,
+            first: *mut u64,
+            second: *mut u64,
+        ) -> u32;
+    }
+
+    pub fn closure(image: &[u16], clauses: &[u16], operator: u16, marks: &mut [u8]) -> Reply {
+        // Safety: every pointer comes with the length of its slice.
+        reply(|first, second| unsafe {
+            kb_closure(
+                image.as_ptr(),
+                image.len(),
+                clauses.as_ptr(),
+                clauses.len(),
+                operator,
+                marks.as_mut_ptr(),
+                marks.len(),
+                first,
+                second,
+            )
+        })
+    }
+}
+
 pub use agreement::*;
 pub use checker::*;
+pub use closure::*;
 pub use coding::*;
 pub use dimacs::*;
 pub use fdr::*;

@@ -3,6 +3,7 @@
 use crate::answer::{ask, Answer};
 use crate::clause::Clause;
 use crate::groups::{form, Group};
+use crate::marks::MOST_MARK_BYTES;
 use crate::synthesis::{synthesize, Finding, MOST_ROWS};
 use crate::task;
 
@@ -21,7 +22,8 @@ fn text(input: &[u8]) -> Answer<String> {
     let (n, limit, image) = (words[0], words[1], &words[2..]);
     let mut rows = vec![0; 3 * MOST_ROWS];
     let mut work = rows.clone();
-    let found = synthesize(image, n, limit, &mut rows, &mut work, &mut [0; 2048])?;
+    let marks = &mut [0; MOST_MARK_BYTES];
+    let found = synthesize(image, n, limit, &mut rows, &mut work, marks)?;
     let task = task::read(image)?;
     let clauses = crate::clause::read(&rows[..3 * found.rows], task.atoms())?;
     let groups = form(task.atoms(), &clauses).groups;

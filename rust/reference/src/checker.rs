@@ -3,6 +3,7 @@
 use crate::answer::{ask, ask_at, Answer};
 use crate::clause::{self, Clause};
 use crate::kept::Judge;
+use crate::marks::mark_bytes;
 use crate::task::{self, Task};
 
 /// Checks clause rows: questions 1 to 9, 13, 10, 11. Refusal 10 names the
@@ -20,7 +21,7 @@ pub(crate) fn accepted<'a>(
 ) -> Answer<(Task<'a>, Vec<Clause>)> {
     let task = task::read(image)?;
     let clauses = clause::read(clauses, task.atoms())?;
-    ask(13, marks.len() >= 2 * task.atoms())?;
+    ask(13, marks.len() >= mark_bytes(task.atoms()))?;
     let initial = task.initial_state();
     for (row, clause) in clauses.iter().enumerate() {
         ask_at(10, clause.holds(&initial), row, 0)?;

@@ -1,4 +1,5 @@
-//! Propagation: the closure of literals under a set of clauses.
+//! Propagation: the closure of literals under a set of clauses. The one that does not
+//! stop at a complement is in `operator_closure`, and shares nothing with this.
 
 use crate::clause::Clause;
 use crate::literal::{literals, Literal};

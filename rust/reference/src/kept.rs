@@ -4,6 +4,7 @@
 use crate::answer::{ask, Answer};
 use crate::clause::{self, Clause};
 use crate::closure::Closure;
+use crate::marks::mark_bytes;
 use crate::task::{self, Operator, Row, Task};
 
 /// One clause under one operator: questions 1 to 9, 8 and 9 for the clause
@@ -19,7 +20,7 @@ pub fn kept(
     let clauses = clause::read(clauses, task.atoms())?;
     let clause = clause::read_one(clause, task.atoms())?;
     ask(19, usize::from(operator) < task.operators())?;
-    ask(13, marks.len() >= 2 * task.atoms())?;
+    ask(13, marks.len() >= mark_bytes(task.atoms()))?;
     let judge = Judge::new(&task, &clauses, usize::from(operator));
     Ok(judge.failing(&[clause]).is_empty())
 }

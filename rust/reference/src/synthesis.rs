@@ -6,6 +6,7 @@ use crate::answer::{ask, Answer};
 use crate::clause::Clause;
 use crate::kept::Judge;
 use crate::literal::Literal;
+use crate::marks::mark_bytes;
 use crate::task::{self, Task};
 
 /// The most rows a clause buffer counts for.
@@ -38,7 +39,7 @@ pub fn synthesize(
 ) -> Answer<Finding> {
     let task = task::read(image)?;
     ask(12, (1..=3).contains(&n) && limit >= 1)?;
-    let lent = marks.len() >= 2 * task.atoms() && work.len() >= clauses.len();
+    let lent = marks.len() >= mark_bytes(task.atoms()) && work.len() >= clauses.len();
     ask(13, lent)?;
     let rows = (clauses.len() / 3).min(MOST_ROWS);
     let result = run(&task, usize::from(n), usize::from(limit), rows);

@@ -121,7 +121,7 @@ fn kept_questions() {
     assert_eq!(is_kept(&RING, &set, &set, 0), refusal(8, 0, 0));
     assert_eq!(is_kept(&RING, &set, &[], 0), refusal(8, 0, 0));
     assert_eq!(is_kept(&RING, &set, &[3, 1, F], 3), refusal(9, 0, 0));
-    let short = |operator| kept::kept(&RING, &set, &right, operator, &mut [0; 5]);
+    let short = |operator| kept::kept(&RING, &set, &right, operator, &mut []);
     assert_eq!(short(3), refusal(19, 0, 0));
     assert_eq!(short(0), refusal(13, 0, 0));
 }
@@ -129,9 +129,9 @@ fn kept_questions() {
 #[test]
 fn checker_questions() {
     // 13 comes before 10, 10 before 11; the lowest places are named.
-    let short = checker::check(&RING, &[2, F, F], &mut [0; 5]);
+    let short = checker::check(&RING, &[2, F, F], &mut []);
     assert_eq!(short, refusal(13, 0, 0));
-    assert_eq!(checker::check(&RING, &RING_CLAUSES, &mut [0; 6]), Ok(()));
+    assert_eq!(checker::check(&RING, &RING_CLAUSES, &mut [0]), Ok(()));
     assert_eq!(
         check(&RING, &[0, F, F, 2, F, F, 4, F, F]),
         refusal(10, 1, 0)
@@ -164,8 +164,8 @@ fn synthesis_questions() {
     assert_eq!(call(&RING, 0, 1, 0, 0), refusal(12, 0, 0));
     assert_eq!(call(&RING, 1, 0, 0, 0), refusal(12, 0, 0));
     assert_eq!(call(&RING, 4, 1, 0, 0), refusal(12, 0, 0));
-    assert_eq!(call(&RING, 1, 1, 11, 6), refusal(13, 0, 0));
-    assert_eq!(call(&RING, 1, 1, 12, 5), refusal(13, 0, 0));
+    assert_eq!(call(&RING, 1, 1, 11, 1), refusal(13, 0, 0));
+    assert_eq!(call(&RING, 1, 1, 12, 0), refusal(13, 0, 0));
 }
 
 /// The rows of a buffer count up to 10,000, its words after them are zeroed.
@@ -183,10 +183,10 @@ fn long_clause_buffer() {
 #[test]
 fn target_too_short() {
     let mut target = [7; 62];
-    let answer = reencoding::reencode(&RING, &RING_CLAUSES, &mut [0; 6], &mut target);
+    let answer = reencoding::reencode(&RING, &RING_CLAUSES, &mut [0], &mut target);
     assert_eq!(answer, refusal(16, 0, 0));
     assert_eq!(target, [7; 62]);
-    let answer = reencoding::reencode(&RING, &[0, F, F], &mut [0; 6], &mut []);
+    let answer = reencoding::reencode(&RING, &[0, F, F], &mut [0], &mut []);
     assert_eq!(answer, refusal(11, 0, 0));
 }
 

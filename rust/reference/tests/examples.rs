@@ -118,7 +118,7 @@ fn the_ring_reencoded() {
 #[test]
 fn groups_of_the_ring() {
     let mut target = [7; 9];
-    let mut marks = [0; 6];
+    let mut marks = [0];
     let answer = groups::groups(&RING, &RING_CLAUSES, &mut marks, &mut target);
     assert_eq!(answer, Ok(1));
     assert_eq!(target, [3, 0, 0, 0, 0, 1, 0, 2, 7]);

@@ -309,12 +309,12 @@ fn union_of_the_rings_clauses() {
     let second = [6, 8, 10, 7, 9, F, 7, 11, F, 9, 11, F];
     assert_eq!(both, [RING_CLAUSES, second].concat());
     let image = joined(&RING, &RING).expect("within the limits");
-    assert_eq!(checker::check(&image, &both, &mut [7; 12]), Ok(()));
+    assert_eq!(checker::check(&image, &both, &mut [7; 2]), Ok(()));
     assert_eq!(
-        checker::check(&image, &both, &mut [7; 11]),
+        checker::check(&image, &both, &mut [7; 1]),
         refusal(13, 0, 0)
     );
-    assert_eq!(checker::check(&image, &second, &mut [7; 12]), Ok(()));
+    assert_eq!(checker::check(&image, &second, &mut [7; 2]), Ok(()));
     assert_eq!(check(&image, &[1, 3, F, 7, 9, F]), refusal(11, 0, 2));
 }
 

@@ -8,6 +8,7 @@ use reference::clause::Clause;
 use reference::closure::Closure;
 use reference::kept::Judge;
 use reference::literal::{literals, Literal};
+use reference::marks::MOST_MARK_BYTES;
 use reference::{checker, clause, naive, synthesis, Refusal};
 
 fn random_clauses(rng: &mut Rng, atoms: usize) -> Vec<Clause> {
@@ -170,7 +171,7 @@ fn checkers_agree() {
             clauses::mutate(rng, state.len(), &mut set);
         }
         let rows = clauses::words(&set);
-        let quick = checker::check(&image, &rows, &mut [0; 2048]).err();
+        let quick = checker::check(&image, &rows, &mut [0; MOST_MARK_BYTES]).err();
         assert_eq!(quick, naive_refusal(&image, &rows), "{image:?} {rows:?}");
         counts[quick.map_or(0, |refusal| refusal.number as usize - 9)] += 1;
     }

@@ -9,6 +9,7 @@ pub use failing::Failing;
 use inputs::fdr::{self, FdrSpec};
 use inputs::{clauses, random, state, Rng};
 use reference::clause::Clause;
+use reference::marks::mark_bytes;
 use reference::{reencoding, synthesis, task};
 
 /// A valid task image and clause rows that synthesis finds for it.
@@ -75,7 +76,7 @@ impl Synthesized {
     pub fn reencoded(&self) -> Vec<u16> {
         let words = clauses::words(&self.rows);
         let mut target = vec![0; 32_768];
-        let mut marks = vec![0; 2 * self.atoms()];
+        let mut marks = vec![0; mark_bytes(self.atoms())];
         let length = reencoding::reencode(&self.image, &words, &mut marks, &mut target);
         target.truncate(length.expect("a synthesized set is accepted"));
         target
@@ -84,11 +85,12 @@ impl Synthesized {
 
 /// A mark buffer's length: mostly enough, sometimes a byte short.
 pub fn marks_length(rng: &mut Rng, atoms: usize) -> usize {
+    let needed = mark_bytes(atoms);
     match rng.below(20) {
-        0 => 2 * atoms - 1,
-        1 => rng.below(2 * atoms),
-        2..=5 => 2 * atoms + rng.between(1, 9),
-        _ => 2 * atoms,
+        0 => needed - 1,
+        1 => rng.below(needed),
+        2..=5 => needed + rng.between(1, 9),
+        _ => needed,
     }
 }
 

@@ -1,6 +1,8 @@
 -- `checker::check_input`: the image and the clauses are read first, then the marks are asked for.
-use Prim.Native.Nat.{ℕ, _*_, _≤_, _<_}
-use mathlib.Core.Path.{_≡_, subst}
+use mathlib.Core.Path.{_≡_, _∙_, ap, subst}
+use native.Mathlib.Omega.{arith}
+use Rattle.definitions.specs.Marks.{markBytes}
+use Rattle.task.specs.Reads.{taskOf}
 use Rattle.answer.specs.Answer.{placed}
 use Rattle.answer.specs.declared.Verdict.{Verdict}
 use Rattle.reading.specs.Reading.{BothRead, BothAnswer}
@@ -41,8 +43,12 @@ enum-told c = search needs
 atoms-requires : tie.Need-atoms-requires
 atoms-requires c κs = is-read c .task
 
-mul-if1 : tie.Need-mul-if1
-mul-if1 c = search needs
+bytes-requires : tie.Need-bytes-requires
+bytes-requires c κs = omega (arith, c .atoms .ensures)
+
+-- where the bytes of the marks are known
+needed : (b : tie.After-bytes) → b .bytes .result ≡ markBytes (taskOf (start (was-read (b .before .before)) .args .image .now) .atoms)
+needed b = b .bytes .ensures ∙ ap markBytes (b .before .atoms .ensures .0)
 
 refuse-requires : tie.Need-refuse-requires
 refuse-requires c κs = search needs
@@ -51,21 +57,21 @@ returns-2 : tie.Need-returns-2
 returns-2 c =
     let t = c .before in
     let n = t .before in
-    let e = n .before in
+    let e = n .before .before in
     let s = start (was-read e) .args in
     let b = is-read e in
     input-marks (s .image .now) (s .clauses .now) (s .marks) (b .task) (b .clauses) (c .refuse .result) (c .refuse .ensures)
-    (subst (λ (k : ℕ). s .marks < 2 * k) (n .atoms .ensures .0) (t .if1 .taken))
+    (omega (arith, t .if1 .taken, needed n))
 
 returns-3 : tie.Need-returns-3
 returns-3 c =
     let n = c .before in
-    let e = n .before in
+    let e = n .before .before in
     let b = is-read e in
     record {
       task = b .task;
       clauses = b .clauses;
-      marked = subst (λ (k : ℕ). 2 * k ≤ start (was-read e) .args .marks) (n .atoms .ensures .0) (c .if1 .left);
+      marked = omega (arith, c .if1 .left, needed n);
     }
 
 pub check-input-spec : {M : Type 1} → statement M
@@ -77,7 +83,7 @@ check-input-spec =
     returns
     enum-told
     atoms-requires
-    mul-if1
+    bytes-requires
     refuse-requires
     returns-2
     returns-3)

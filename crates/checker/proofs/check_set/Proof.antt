@@ -5,6 +5,7 @@ use mathlib.Core.List.{List}
 use mathlib.Core.Path.{ap, sym, _∙_}
 use native.Mathlib.Omega.{arith}
 use lib.ListN.{length}
+use Rattle.definitions.specs.Marks.{markBytes}
 use Rattle.answer.specs.Answer.{placed, verdictAnswer}
 use Rattle.judge.specs.Promise.{Read}
 use Rattle.checker.specs.Search.{Reading}
@@ -78,7 +79,7 @@ slice-aggregate-check-kept c = search needs
 check-kept-requires : tie.Need-check-kept-requires
 check-kept-requires c κs =
     let d = initial-of (holds-of c) .before in
-    (read d, omega (arith, reading d .marked, d .atoms .ensures .0), omega (arith, read-count _ _ (read d .clauses), c .before .before .flags-room .ensures))
+    (read d, omega (arith, reading d .marked, ap markBytes (d .atoms .ensures .0)), omega (arith, read-count _ _ (read d .clauses), c .before .before .flags-room .ensures))
 
 same-length : tie.Need-same-length
 same-length c = search needs

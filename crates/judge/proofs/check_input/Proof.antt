@@ -1,9 +1,10 @@
 -- `judge::check_input`: the first question that is answered no decides.
 use Prim.Native.Nat.{ℕ, _*_, _≤_, _<_}
 use mathlib.Core.List.{List}
-use mathlib.Core.Path.{_≡_, sym, _∙_, subst}
+use mathlib.Core.Path.{_≡_, sym, _∙_, ap, subst}
 use native.Mathlib.Omega.{arith}
 use lib.ListN.{length}
+use Rattle.definitions.specs.Marks.{markBytes}
 use Rattle.task.specs.Reads.{taskOf}
 use Rattle.answer.specs.declared.Verdict.{Verdict}
 use Rattle.answer.specs.declared.Verdict.the-variants.{Fine, Refused}
@@ -74,31 +75,35 @@ returns-2 c =
 atoms-requires : tie.Need-atoms-requires
 atoms-requires c κs = is-read (read-of c) .task
 
-mul-if2 : tie.Need-mul-if2
-mul-if2 c = search needs
+bytes-requires : tie.Need-bytes-requires
+bytes-requires c κs = omega (arith, c .atoms .ensures)
+
+-- where the bytes of the marks are known
+needed : (b : tie.After-bytes) → b .bytes .result ≡ markBytes (taskOf (image (was-read (read-of (b .before .before)))) .atoms)
+needed b = b .bytes .ensures ∙ ap markBytes (b .before .atoms .ensures .0)
 
 refuse-requires-2 : tie.Need-refuse-requires-2
 refuse-requires-2 c κs = search needs
 
 returns-3 : tie.Need-returns-3
 returns-3 c =
-    let a = c .before .before in
-    let e = a .before in
+    let b = c .before .before in
+    let e = b .before .before in
     let d = was-read (read-of e) in
     input-marks (image d) (clauses d) (clause d) (start d .args .operator) (start d .args .marks) (is-read (read-of e)) (inside e)
-    (omega (arith, c .before .if2 .taken, a .atoms .ensures .0)) (c .refuse2 .result) (c .refuse2 .ensures)
+    (omega (arith, c .before .if2 .taken, needed b)) (c .refuse2 .result) (c .refuse2 .ensures)
 
 returns-4 : tie.Need-returns-4
 returns-4 c =
-    let a = c .before in
-    let e = a .before in
+    let b = c .before in
+    let e = b .before .before in
     let r = is-read (read-of e) in
     record {
       task = r .task;
       clauses = r .clauses;
       clause = r .clause;
       operator = inside e;
-      marked = omega (arith, c .if2 .left, a .atoms .ensures .0);
+      marked = omega (arith, c .if2 .left, needed b);
     }
 
 pub check-input-spec : {M : Type 1} → statement M
@@ -113,7 +118,7 @@ check-input-spec =
     refuse-requires
     returns-2
     atoms-requires
-    mul-if2
+    bytes-requires
     refuse-requires-2
     returns-3
     returns-4)

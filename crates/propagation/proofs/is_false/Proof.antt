@@ -1,15 +1,14 @@
 -- `propagation::is_false`: the mark of the complement.
-use Prim.Native.Nat.{ℕ, _<_}
-use mathlib.Core.Path.{_≡_, _∙_}
-use native.Mathlib.Omega.{arith}
-use lib.ListN.{length}
+use mathlib.Core.Path.{_≡_, _∙_, ap}
+use Prim.Native.Nat.{ℕ}
+use denote.Ref.{now}
 use Rattle.definitions.specs.Literal.{complement}
-use Rattle.propagation.proofs.Sets.{complement-below, byte-has}
+use Rattle.definitions.specs.Marks.{marked}
 use borrow.Author.Needs.{needs}
 use Rattle.propagation.proofs.is_false.Statement.{statement}
 use Rattle.propagation.proofs.is_false.Tie as tie
 
--- the start, and the place of the complement's mark
+-- where the complement is known: the start, and its place
 abbrev start : tie.After-index → tie.Start
 start d = d .before .before .before
 
@@ -17,18 +16,18 @@ place : (d : tie.After-index) → d .index .result ≡ complement (start d .args
 place d = d .index .ensures ∙ d .before .complement .ensures
 
 complement-requires : tie.Need-complement-requires
-complement-requires c κs = omega (arith, c .before .pre .0 .few)
+complement-requires c κs = search needs
 
 index-requires : tie.Need-index-requires
 index-requires c κs = search needs
 
-shared-slice-read-result : tie.Need-shared-slice-read-result
-shared-slice-read-result c =
-    let p = start (c .before) .pre in
-    omega (arith, place (c .before), complement-below _ _ (p .0 .even) (p .1))
+is-marked-requires : tie.Need-is-marked-requires
+is-marked-requires c κs = search needs
 
 returns : tie.Need-returns
-returns c = byte-has _ _ _ (place (c .before))
+returns c =
+    let d = c .before in
+    c .is-marked .ensures ∙ ap (λ (x : ℕ). marked (now (start d .args .marks)) x) (place d)
 
 pub is-false-spec : {M : Type 1} → statement M
-is-false-spec = tie.close (tie.spec complement-requires index-requires shared-slice-read-result returns)
+is-false-spec = tie.close (tie.spec complement-requires index-requires is-marked-requires returns)

@@ -1,61 +1,80 @@
 -- `propagation::propagate`: the literals are added, then what follows.
 use mathlib.Core.Path.{_≡_, subst}
-use denote.Ref.{now}
+use mathlib.Core.Bool.{Bool}
+use mathlib.Core.Logic.{_⊎_, inl, inr}
+use mathlib.Core.List.{List, [], _∷_}
 use Prim.Native.Nat.{ℕ}
-use mathlib.Core.List.{List}
-use Rattle.propagation.specs.declared.Closing.{Closing}
-use Rattle.propagation.specs.declared.Closing.the-variants.{Consistent, Contradictory}
-use Rattle.propagation.specs.Walk.{Seeded}
-use Rattle.propagation.proofs.Closed.{ready-added, propagate-clash, propagate-on}
+use native.Mathlib.Omega.{arith}
+use denote.Enum.Declared.{tagOf}
+use types.Run.{OneOf}
+use denote.Ref.{now}
+use Rattle.propagation.specs.declared.Pass.{Pass}
+use Rattle.propagation.specs.declared.Pass.the-variants.{Contradictory}
+use Rattle.propagation.proofs.Pass.{the-type}
+use Rattle.propagation.specs.Walk.{setOf, RestKept, Added, Seeded}
+use Rattle.propagation.proofs.View.{rest-on}
+use Rattle.propagation.proofs.Closed.{ready-on, seeded-added, propagate-clash, propagate-on}
 use borrow.Author.Needs.{needs}
 use Rattle.propagation.proofs.propagate.Statement.{statement}
 use Rattle.propagation.proofs.propagate.Tie as tie
 
 -- after the literals are added: the start, and what adding them did
-abbrev known : tie.After-seed → tie.After-shared-slice-known2
+abbrev seeded : Type 0
+seeded = tie.After-seed
+
+abbrev known : seeded → tie.After-shared-slice-known2
 known d = d .before .before .before
 
-abbrev start : tie.After-seed → tie.Start
+abbrev start : seeded → tie.Start
 start d = known d .before .before
 
-abbrev clauses : tie.After-seed → List ℕ
-clauses d = now (start d .args .clauses)
-
-abbrev literals : tie.After-seed → List ℕ
+abbrev literals : seeded → List ℕ
 literals d = now (start d .args .literals)
 
-abbrev marks : tie.After-seed → List ℕ
-marks d = now (start d .args .marks)
+abbrev atoms : seeded → ℕ
+atoms d = start d .args .atoms
 
-abbrev added : tie.After-seed → List ℕ
-added d = d .seed .last .1 .0
+abbrev stops : seeded → Bool
+stops d = start d .args .stops
 
-seeded : (d : tie.After-seed) (v : Closing) → d .seed .result ≡ v → Seeded (marks d) (literals d) (added d) v
-seeded d v e = subst (λ (x : Closing). Seeded (marks d) (literals d) (added d) x) e (d .seed .ensures)
+abbrev set-first : seeded → List ℕ
+set-first d = setOf (atoms d) (now (start d .args .marks))
+
+abbrev marks-after : seeded → List ℕ
+marks-after d = d .seed .last .1 .0
+
+abbrev set-after : seeded → List ℕ
+set-after d = setOf (atoms d) (marks-after d)
+
+did : (d : seeded) (v : Pass) → d .seed .result ≡ v → Seeded (stops d) (set-first d) (literals d) (set-after d) v
+did d v e = subst (λ (x : Pass). Seeded (stops d) (set-first d) (literals d) (set-after d) x) e (d .seed .ensures .1)
 
 -- where its answer is looked at
-abbrev seed-of : tie.After-slice-known2 → tie.After-seed
+abbrev seed-of : tie.After-slice-known2 → seeded
 seed-of c = c .before .before
 
-abbrev fine : tie.After-saturate-arg → tie.After-enum-told2
-fine c = c .before
+abbrev going-on : tie.At-match-keys2 → seeded
+going-on m = seed-of (m .before)
 
-abbrev fine-seed : tie.After-saturate-arg → tie.After-seed
-fine-seed c = seed-of (fine c .before .before)
+-- an answer of the other two variants
+not-met : (v : Pass) → OneOf (0 ∷ 1 ∷ []) (tagOf the-type v) → v ≡ Contradictory → ⊥
+not-met v k e = none (subst (λ (x : Pass). OneOf (0 ∷ 1 ∷ []) (tagOf the-type x)) e k)
+  where
+    none : (_≡_ {A = ℕ} 2 0) ⊎ (_≡_ {A = ℕ} 2 1) → ⊥
+    none (inl q) = omega arith
+    none (inr q) = omega arith
+
+added : (m : tie.At-match-keys2) → let d = going-on m in Added (stops d) (set-first d) (literals d) (set-after d)
+added m =
+    let d = going-on m in
+    seeded-added (stops d) (set-first d) (literals d) (set-after d) (d .seed .result) (not-met (d .seed .result) (m .match .keys2))
+    (start d .pre .0 .marks .sound) (d .seed .ensures .1)
 
 seed-requires : tie.Need-seed-requires
-seed-requires c κs = search needs
+seed-requires c κs = let s = c .before .before .before .before in (s .pre .0 .marks, s .pre .1)
 
 enum-told : tie.Need-enum-told
 enum-told c = search needs
-
-enum-told-2 : tie.Need-enum-told-2
-enum-told-2 c = search needs
-
-saturate-requires : tie.Need-saturate-requires
-saturate-requires c κs =
-    let d = fine-seed c in
-    ready-added _ _ (literals d) _ (start d .pre .0) (seeded d Consistent (fine c .enum-told2 .given .1))
 
 same-length : tie.Need-same-length
 same-length c = search needs
@@ -63,7 +82,12 @@ same-length c = search needs
 returns : tie.Need-returns
 returns c =
     let d = seed-of (c .before .before) in
-    propagate-clash (clauses d) (marks d) (literals d) (added d) (seeded d Contradictory (c .enum-told .given .1))
+    (d .seed .ensures .0, propagate-clash (stops d) _ (set-first d) (literals d) (set-after d) (did d Contradictory (c .enum-told .given .1)))
+
+saturate-requires : tie.Need-saturate-requires
+saturate-requires c κs =
+    let d = going-on (c .before) in
+    ready-on _ _ _ _ _ (start d .pre .0) (d .seed .ensures .0) (added (c .before) .sound)
 
 same-length-2 : tie.Need-same-length-2
 same-length-2 c = search needs
@@ -71,20 +95,12 @@ same-length-2 c = search needs
 returns-2 : tie.Need-returns-2
 returns-2 c =
     let t = c .before .before in
-    let d = fine-seed (t .before) in
-    let r = t .saturate in
-    propagate-on (clauses d) (marks d) (literals d) (added d) (r .last .1 .0) (r .result)
-    (seeded d Consistent (fine (t .before) .enum-told2 .given .1)) (r .ensures)
+    let m = t .before .before in
+    let d = going-on m in
+    let r = t .saturate in (
+      rest-on _ _ (marks-after d) _ (d .seed .ensures .0) (r .ensures .0),
+      propagate-on (stops d) _ (set-first d) (literals d) (set-after d) _ (r .result) (added m) (r .ensures .1),
+    )
 
 pub propagate-spec : {M : Type 1} → statement M
-propagate-spec =
-    tie.close
-    (tie.spec
-    seed-requires
-    enum-told
-    enum-told-2
-    saturate-requires
-    same-length
-    returns
-    same-length-2
-    returns-2)
+propagate-spec = tie.close (tie.spec seed-requires enum-told same-length returns saturate-requires same-length-2 returns-2)

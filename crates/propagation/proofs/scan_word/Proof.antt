@@ -1,40 +1,35 @@
 use mathlib.Core.Path.{sym, _∙_}
+use native.Mathlib.Omega.{arith}
 use Rattle.definitions.specs.Literal.{fill}
 use Rattle.propagation.proofs.scan_word.Statement.{statement}
 use Rattle.propagation.proofs.scan_word.Tie as tie
 
--- where the complement is not marked: the word is no fill, and not the first
-abbrev other : tie.After-is-false → tie.Else2
-other d = d .before
-
+-- where the complement was looked at, the word is no fill
 abbrev not-fill : tie.After-is-false → tie.Else1
-not-fill d = other d .before
+not-fill d = d .before
 
 returns : tie.Need-returns
 unfolding fill
-returns c = λ ne _. absurd (ne (c .if1 .taken))
-
-returns-2 : tie.Need-returns-2
-returns-2 c = λ _ ne. absurd (ne (c .if2 .taken))
+returns c = λ ne. absurd (ne (c .if1 .taken))
 
 is-false-requires : tie.Need-is-false-requires
 unfolding fill
-is-false-requires c κs = (c .before .before .before .pre .0, c .before .before .before .pre .1 (c .before .if1 .left))
+is-false-requires c κs = let s = c .before .before in (omega (arith, c .if1 .left, s .fits), s .pre (c .if1 .left))
+
+returns-2 : tie.Need-returns-2
+returns-2 c = λ _. sym (c .before .is-false .ensures) ∙ c .if2 .taken
 
 returns-3 : tie.Need-returns-3
-returns-3 c = λ _ _. sym (c .before .is-false .ensures) ∙ c .if3 .taken
+unfolding fill
+returns-3 c =
+    let d = c .before .before in
+    (not-fill d .if1 .left, sym (d .is-false .ensures) ∙ c .before .if2 .left, c .if3 .taken)
 
 returns-4 : tie.Need-returns-4
 unfolding fill
 returns-4 c =
     let d = c .before .before in
-    (not-fill d .if1 .left, sym (d .is-false .ensures) ∙ c .before .if3 .left, c .if4 .taken, other d .if2 .left)
-
-returns-5 : tie.Need-returns-5
-unfolding fill
-returns-5 c =
-    let d = c .before .before in
-    (not-fill d .if1 .left, sym (d .is-false .ensures) ∙ c .before .if3 .left, c .if4 .left)
+    (not-fill d .if1 .left, sym (d .is-false .ensures) ∙ c .before .if2 .left, c .if3 .left)
 
 pub scan-word-spec : {M : Type 1} → statement M
-scan-word-spec = tie.close (tie.spec returns returns-2 is-false-requires returns-3 returns-4 returns-5)
+scan-word-spec = tie.close (tie.spec returns is-false-requires returns-2 returns-3 returns-4)

@@ -1,44 +1,53 @@
 -- `propagation::walk`: the state of the walk over the clauses, and within a row that of the scan.
-use Prim.Native.Nat.{ℕ, _≤_, _<_, _-_, _+_}
-use mathlib.Core.Path.{_≡_, sym, _∙_, ap, subst}
-use mathlib.Core.Bool.{true}
+use Prim.Native.Nat.{ℕ, _≤_, _<_, _-_, _+_, _*_, _/_}
+use mathlib.Core.Path.{_≡_, sym, _∙_, subst}
+use mathlib.Core.Bool.{Bool, true}
 use mathlib.Core.Logic.{⊎-elim}
-use mathlib.Core.List.{List}
+use mathlib.Core.List.{List, List·Memᴰ}
 use native.Mathlib.Omega.{arith}
-use lib.ListN.{length, getD, take, drop, set}
-use Rattle.propagation.specs.declared.Pass.the-variants.{Grown}
+use lib.ListN.{length, getD, take, drop}
 use denote.Ref.{now}
-use Rattle.definitions.specs.Literal.{fill}
+use Rattle.definitions.specs.Lists.{member, ascending}
+use Rattle.definitions.specs.Literal.{fill, complement}
 use Rattle.definitions.specs.Clauses.{width, clauseRight}
+use Rattle.definitions.specs.Closure.{has, forces}
+use Rattle.definitions.specs.Marks.{markBytes, marked}
+use Rattle.definitions.proofs.RowsRead.{right-row, right-list}
+use Rattle.definitions.proofs.LiteralLaws.{list-ascends}
+use Rattle.definitions.proofs.MarkBits.{mark-inside}
 use Rattle.clause.specs.Rows.{rowCount, clauseAt, RightRows}
 use Rattle.clause.specs.Place.{Placed, AtRow}
 use Rattle.clause.proofs.RowPlaces.{placed-first, first-position, row-begins, row-ends, row-words}
 use Rattle.clause.proofs.RowPlaces.{has-next, placed-next, next-position, fewer-left}
 use Rattle.clause.proofs.ReadLaws.{read-right}
-use Rattle.definitions.proofs.RowsRead.{right-row}
 use Rattle.clause.proofs.ClauseLaws.{clause-below}
 use Rattle.propagation.specs.declared.Pass.{Pass}
+use Rattle.propagation.specs.declared.Pass.the-variants.{Same, Grown, Contradictory}
 use Rattle.propagation.specs.declared.Scan.{Scan}
 use Rattle.propagation.specs.declared.Scan.the-variants as scan
-use Rattle.propagation.specs.Walk.{Scanned, Ready}
-use Rattle.propagation.proofs.Sets.{in-byte, out-byte, even-on}
-use Rattle.propagation.proofs.Scans.{Scanning, scan-start, word-in, scan-same, scan-first, scan-second, scan-none, scan-one, scan-only}
-use Rattle.propagation.proofs.Steps.{Walk, walk-start, walk-end, this, pass-row, clash-row, set-row}
+use Rattle.propagation.specs.Walk.{setOf, RestKept, Scanned, forcedOf, Forcing, Seeded, Ready, Passed}
+use Rattle.propagation.proofs.Sets.{complement-below}
+use Rattle.propagation.proofs.View.{view-length, view-has, view-inside, rest-self, rest-on}
+use Rattle.propagation.proofs.Scans.{Scanning, scanned-on, scan-start, word-in, scan-same, scan-first, scan-second, scan-forced, scan-all, scan-forcing}
+use Rattle.propagation.proofs.Steps.{Walk, walk-start, walk-end, this, pass-row, force-same, force-more, force-clash}
+use Rattle.propagation.proofs.Closed.{room-on}
 use borrow.Author.Needs.{needs}
 use Rattle.propagation.proofs.walk.Statement.{statement}
 use Rattle.propagation.proofs.walk.Tie as tie
 
 abbrev Inv-loop : tie.InvT-loop
-Inv-loop clauses marks pass place at first₀ k₀ first k = (k ≤ width) × Scanning clauses marks at k first
+Inv-loop clauses marks atoms stops pass place here first₀ k₀ first k =
+    (k ≤ width) × Scanning clauses (setOf atoms marks) (here .at) k first
 
 abbrev μ-loop : tie.MeasureT-loop
-μ-loop clauses marks pass place at first₀ k₀ first k = width - k
+μ-loop clauses marks atoms stops pass place here first₀ k₀ first k = width - k
 
 abbrev Inv-walk : tie.InvT-walk
-Inv-walk clauses marks₀ pass₀ place₀ marks pass place = Placed clauses place × Walk clauses marks₀ marks (place .at) pass
+Inv-walk clauses marks₀ atoms stops pass₀ place₀ marks pass place =
+    Placed clauses place × RestKept atoms marks₀ marks × Walk stops clauses (setOf atoms marks₀) (setOf atoms marks) (place .at) pass
 
 abbrev μ-walk : tie.MeasureT-walk
-μ-walk clauses marks₀ pass₀ place₀ marks pass place = rowCount clauses - place .number
+μ-walk clauses marks₀ atoms stops pass₀ place₀ marks pass place = rowCount clauses - place .number
 
 -- at the outer loop's head: the clause words
 abbrev head : Type 0
@@ -53,14 +62,14 @@ start-of h = lent h .before .before
 abbrev words-of : head → List ℕ
 words-of h = now (start-of h .args .clauses)
 
-rows-at : (h : head) → RightRows (start-of h .pre .atoms) (words-of h)
-rows-at h = read-right (start-of h .pre .atoms) (words-of h) (start-of h .pre .rows)
+rows-at : (h : head) → RightRows (start-of h .args .atoms) (words-of h)
+rows-at h = read-right (start-of h .args .atoms) (words-of h) (start-of h .pre .rows)
 
 -- where there is a row
 row-of-test : (t : tie.Then1 Inv-loop μ-loop Inv-walk μ-walk) → let h = t .before .before in AtRow (words-of h) (h .walk .place)
 row-of-test t = let h = t .before .before in row-begins (h .walk .inv .0) (rows-at h .ascending .whole) (t .if1 .taken)
 
--- in the outer loop: the clause words, the set at the start and now, the row's place and position, and the answer so far
+-- in the outer loop: the clause words, the marks at the start and now, their sets, the row's position, and the answer so far
 abbrev outer : Type 0
 outer = tie.After-next Inv-loop μ-loop Inv-walk μ-walk
 
@@ -73,11 +82,23 @@ start w = start-of (at-head w)
 abbrev words : outer → List ℕ
 words w = words-of (at-head w)
 
+abbrev atoms : outer → ℕ
+atoms w = start w .args .atoms
+
+abbrev stops : outer → Bool
+stops w = start w .args .stops
+
+abbrev marks-first : outer → List ℕ
+marks-first w = now (start w .args .marks)
+
+abbrev marks-now : outer → List ℕ
+marks-now w = at-head w .walk .marks
+
 abbrev set-first : outer → List ℕ
-set-first w = now (start w .args .marks)
+set-first w = setOf (atoms w) (marks-first w)
 
 abbrev set-now : outer → List ℕ
-set-now w = at-head w .walk .marks
+set-now w = setOf (atoms w) (marks-now w)
 
 abbrev position : outer → ℕ
 position w = at-head w .walk .place .at
@@ -88,20 +109,19 @@ so-far w = at-head w .walk .pass
 at-row-of : (w : outer) → AtRow (words w) (at-head w .walk .place)
 at-row-of w = row-of-test (w .before)
 
-ready : (w : outer) → Ready (words w) (set-first w)
+ready : (w : outer) → Ready (stops w) (atoms w) (words w) (marks-first w)
 ready w = start w .pre
 
-atoms : outer → ℕ
-atoms w = ready w .atoms
+rest-now : (w : outer) → RestKept (atoms w) (marks-first w) (marks-now w)
+rest-now w = at-head w .walk .inv .1
 
-state : (w : outer) → Walk (words w) (set-first w) (set-now w) (position w) (so-far w)
-state w = at-head w .walk .inv .1
+state : (w : outer) → Walk (stops w) (words w) (set-first w) (set-now w) (position w) (so-far w)
+state w = at-head w .walk .inv .2
 
-length-now : (w : outer) → length (set-now w) ≡ length (set-first w)
-length-now w = state w .reached .same-length
+room : (w : outer) → markBytes (atoms w) ≤ length (marks-now w)
+room w = rw (rest-now w .same-length) (ready w .marks .room)
 
 rows : (w : outer) → RightRows (atoms w) (words w)
-unfolding atoms ready
 rows w = rows-at (at-head w)
 
 inside : (w : outer) → position w + width ≤ length (words w)
@@ -110,17 +130,31 @@ inside w = row-ends (at-row-of w)
 row-right : (w : outer) → clauseRight (atoms w) (take width (drop (position w) (words w))) ≡ true
 row-right w = rw (row-words (at-row-of w)) (rows w .right (at-head w .walk .place .number) (at-row-of w .inside))
 
+row-ascends : (w : outer) → ascending (clauseAt (words w) (position w)) ≡ true
+unfolding clauseAt
+row-ascends w = list-ascends (atoms w) _ (right-list (atoms w) _ (row-right w))
+
+row-below : (w : outer) (l : ℕ) → List·Memᴰ l (clauseAt (words w) (position w)) → l < 2 * atoms w
+row-below w l m =
+    let clause = this (stops w) (words w) (set-first w) (set-now w) (position w) (inside w) (so-far w) (state w) in
+    clause-below (atoms w) (words w) (rows w) (clauseAt (words w) (position w)) clause l m
+
 -- the walk goes on at the next row
 less-left : (w : outer) → let c = rowCount (words w) in c - w .next .result .number < c - at-head w .walk .place .number
 less-left w = fewer-left (at-row-of w) (w .next .ensures)
 
 abbrev On : outer → List ℕ → Pass → Type 0
-On w s a = Placed (words w) (w .next .result) × Walk (words w) (set-first w) s (w .next .result .at) a
+On w ms a =
+    Placed (words w) (w .next .result) × RestKept (atoms w) (marks-first w) ms
+    × Walk (stops w) (words w) (set-first w) (setOf (atoms w) ms) (w .next .result .at) a
 
-on : (w : outer) (s : List ℕ) (a : Pass) → Walk (words w) (set-first w) s (position w + width) a → On w s a
-on w s a k = (
+on :
+    (w : outer) (ms : List ℕ) (a : Pass) → RestKept (atoms w) (marks-first w) ms
+    → Walk (stops w) (words w) (set-first w) (setOf (atoms w) ms) (position w + width) a → On w ms a
+on w ms a rest k = (
   placed-next (at-row-of w) (w .next .ensures),
-  subst (λ (x : ℕ). Walk (words w) (set-first w) s x a) (sym (next-position (at-row-of w) (w .next .ensures))) k,
+  rest,
+  subst (λ (x : ℕ). Walk (stops w) (words w) (set-first w) (setOf (atoms w) ms) x a) (sym (next-position (at-row-of w) (w .next .ensures))) k,
 )
 
 -- in the inner loop: the word
@@ -140,14 +174,14 @@ in-width c = c .loop-test .taken
 in-range : (c : inner) → position (row-of c) + c .before .loop .k < length (words (row-of c))
 in-range c = omega (arith, inside (row-of c), in-width c)
 
-word-below : (c : inner) → (word c ≡ fill → ⊥) → word c < length (set-now (row-of c))
-unfolding atoms
+word-below : (c : inner) → (word c ≡ fill → ⊥) → word c < 2 * atoms (row-of c)
 word-below c ne =
     let w = row-of c in
     let l = c .before .loop in
-    let m = word-in (words w) (set-now w) (position w) (l .k) (l .first) (l .inv .1) (in-width c) ne in
-    let clause = this (words w) (set-first w) (set-now w) (position w) (inside w) (so-far w) (state w) in
-    omega (arith, clause-below (atoms w) (words w) (rows w) (clauseAt (words w) (position w)) clause (word c) m, ready w .exact, length-now w)
+    row-below w (word c) (word-in (words w) (set-now w) (position w) (l .k) (l .first) (l .inv .1) (in-width c) ne)
+
+complement-low : (c : inner) → (word c ≡ fill → ⊥) → complement (word c) < 2 * atoms (row-of c)
+complement-low c ne = complement-below (word c) (2 * atoms (row-of c)) (omega arith) (word-below c ne)
 
 -- after the inner loop: the scan of the whole row
 abbrev after-row : Type 0
@@ -156,47 +190,108 @@ after-row = tie.After-loop Inv-loop μ-loop Inv-walk μ-walk
 abbrev row : after-row → outer
 row c = c .before .before
 
-scanned : (c : after-row) → let l = c .before .loop in Scanning (words (row c)) (set-now (row c)) (position (row c)) (l .k) (l .first)
+abbrev opened : after-row → ℕ
+opened c = c .before .loop .first
+
+scanned : (c : after-row) → Scanning (words (row c)) (set-now (row c)) (position (row c)) (c .before .loop .k) (opened c)
 scanned c = c .before .loop .inv .1
 
 all-words : (c : after-row) → width ≤ c .before .loop .k
 unfolding width
 all-words c = c .loop-test .left
 
--- the open literal that was found, and its mark
-abbrev opened : Type 0
-opened = tie.After-wide Inv-loop μ-loop Inv-walk μ-walk
-
-abbrev scan-of : opened → after-row
-scan-of c = c .before .before
-
-some-found : (c : opened) → scan-of c .before .loop .first ≡ fill → ⊥
-unfolding fill
-some-found c = c .before .if2 .left
-
-mark-inside : (c : opened) → c .wide .result < length (set-now (row (scan-of c)))
-mark-inside c = omega (arith, c .wide .ensures .0, scanned (scan-of c) .found (some-found c) .2)
-
 -- what the word adds to the scan
 abbrev looked : Type 0
 looked = tie.After-scan-word Inv-loop μ-loop Inv-walk μ-walk
 
+abbrev read-word : looked → tie.After-shared-slice-known2 Inv-loop μ-loop Inv-walk μ-walk
+read-word c = c .before .before
+
 abbrev at : looked → inner
-at c = c .before .before .before
+at c = read-word c .before .before
 
 abbrev Adds : looked → Scan → Type 0
-Adds c v = Scanned (set-now (row-of (at c))) (word (at c)) (at c .before .loop .first) v
+Adds c v = Scanned (has (set-now (row-of (at c))) (complement (word (at c)))) (word (at c)) (at c .before .loop .first) v
 
 added : (c : looked) (v : Scan) → c .scan-word .result ≡ v → Adds c v
-added c v e = subst (λ (x : Scan). Adds c x) e (c .scan-word .ensures)
+added c v e =
+    let i = at c in
+    let w = row-of i in
+    scanned-on (marked (marks-now w) (complement (word i))) _ (word i) (i .before .loop .first) v
+    (λ ne. view-has (atoms w) (marks-now w) (complement (word i)) (complement-low i ne))
+    (subst (λ (x : Scan). Scanned (marked (marks-now w) (complement (word i))) (word i) (i .before .loop .first) x) e (c .scan-word .ensures))
 
 -- where there is a second open literal
 abbrev looked-by : tie.After-enum-told3 Inv-loop μ-loop Inv-walk μ-walk → looked
 looked-by c = c .before .before
 
--- where the mark of the only one was looked at
-abbrev open-of : tie.After-slice-known2 Inv-loop μ-loop Inv-walk μ-walk → opened
-open-of c = c .before
+-- what followed from the row
+abbrev followed : Type 0
+followed = tie.After-force Inv-loop μ-loop Inv-walk μ-walk
+
+abbrev lent-row : followed → tie.After-row Inv-loop μ-loop Inv-walk μ-walk
+lent-row f = f .before .before
+
+abbrev scan-of : followed → after-row
+scan-of f = lent-row f .before
+
+-- the row, as words
+row-is :
+    (r : tie.After-row Inv-loop μ-loop Inv-walk μ-walk) → let w = row (r .before) in now (r .row .result) ≡ take width (drop (position w) (words w))
+row-is r = r .row .ensures ∙ sym (row-words (at-row-of (row (r .before))))
+
+abbrev Follows : followed → Pass → Type 0
+Follows f v =
+    let w = row (scan-of f) in
+    Seeded (stops w) (set-now w) (forcedOf (take width (drop (position w) (words w))) (opened (scan-of f))) (setOf (atoms w) (f .force .last .1 .1 .0)) v
+
+follows : (f : followed) (v : Pass) → f .force .result ≡ v → Follows f v
+follows f v e =
+    let w = row (scan-of f) in
+    let s′ = setOf (atoms w) (f .force .last .1 .1 .0) in
+    subst (λ (x : List ℕ). Seeded (stops w) (set-now w) (forcedOf x (opened (scan-of f))) s′ v) (row-is (lent-row f))
+    (subst (λ (x : Pass). Seeded (stops w) (set-now w) (forcedOf (now (lent-row f .row .result)) (opened (scan-of f))) s′ x) e (f .force .ensures .1))
+
+rest-after : (f : followed) → let w = row (scan-of f) in RestKept (atoms w) (marks-first w) (f .force .last .1 .1 .0)
+rest-after f = let w = row (scan-of f) in rest-on (atoms w) (marks-first w) (marks-now w) _ (rest-now w) (f .force .ensures .0)
+
+-- one argument for each answer
+module _ (f : followed) where
+  abbrev a : after-row
+  a = scan-of f
+
+  abbrev w : outer
+  w = row (scan-of f)
+
+  abbrev ls : List ℕ
+  ls = forcedOf (take width (drop (position w) (words w))) (opened a)
+
+  abbrev k : ℕ
+  k = a .before .loop .k
+
+  forced : (l : ℕ) → member l ls ≡ true → forces (set-now w) l (clauseAt (words w) (position w)) ≡ true
+  forced = scan-forced (words w) (set-now w) (position w) k (opened a) (scanned a) (all-words a)
+
+  all : (l : ℕ) → forces (set-now w) l (clauseAt (words w) (position w)) ≡ true → member l ls ≡ true
+  all = scan-all (words w) (set-now w) (position w) k (opened a) (scanned a) (all-words a)
+
+  on-same : f .force .result ≡ Same → On w (f .force .last .1 .1 .0) (so-far w)
+  on-same e =
+      on w (f .force .last .1 .1 .0) (so-far w) (rest-after f)
+      (force-same (stops w) (words w) (set-first w) (set-now w) (position w) (inside w) (so-far w) (state w) ls _ forced all (follows f Same e))
+
+  on-more : f .force .result ≡ Grown → On w (f .force .last .1 .1 .0) Grown
+  on-more e =
+      on w (f .force .last .1 .1 .0) Grown (rest-after f)
+      (force-more (stops w) (words w) (set-first w) (set-now w) (position w) (inside w) (so-far w) (state w) ls _ forced all (follows f Grown e))
+
+  left : f .force .result ≡ Contradictory → Passed (stops w) (words w) (set-first w) (setOf (atoms w) (f .force .last .1 .1 .0)) Contradictory
+  left e = force-clash (stops w) (words w) (set-first w) (set-now w) (position w) (inside w) (so-far w) (state w) ls (setOf (atoms w) (f .force .last .1 .1 .0)) forced all
+      (follows f Contradictory e)
+
+-- where its answer is looked at
+abbrev force-of : tie.After-slice-known2 Inv-loop μ-loop Inv-walk μ-walk → followed
+force-of c = c .before .before
 
 first-requires : tie.Need-first-requires Inv-loop μ-loop Inv-walk μ-walk
 first-requires c κs = search needs
@@ -205,29 +300,33 @@ abbrev start-of-first : tie.After-first Inv-loop μ-loop Inv-walk μ-walk → ti
 start-of-first c = c .before .before .before
 
 walk-holds : tie.Need-walk-holds Inv-loop μ-loop Inv-walk μ-walk
-walk-holds c = (placed-first (c .first .ensures), rw (first-position (c .first .ensures)) (walk-start _ _ (start-of-first c .pre .sound)))
+walk-holds c = (
+  placed-first (c .first .ensures),
+  rest-self _ _,
+  rw (first-position (c .first .ensures)) (walk-start _ _ _ (start-of-first c .pre .marks .sound)),
+)
 
 next-requires : tie.Need-next-requires Inv-loop μ-loop Inv-walk μ-walk
 next-requires c κs = has-next (row-of-test c) (start-of (c .before .before) .good .0 .0)
 
 loop-holds : tie.Need-loop-holds Inv-loop μ-loop Inv-walk μ-walk
 unfolding fill
-loop-holds c = (omega arith, scan-start (words c) (set-now c) (position c) (inside c) (right-row (atoms c) _ (row-right c)))
+loop-holds c =
+    (omega arith, scan-start (words c) (set-now c) (position c) (inside c) (right-row (atoms c) _ (row-right c)) (row-ascends c))
 
 add-word : tie.Need-add-word Inv-loop μ-loop Inv-walk μ-walk
-add-word c = omega (arith, in-range c)
+add-word c = omega (arith, in-range (c .before))
 
 mul-word : tie.Need-mul-word Inv-loop μ-loop Inv-walk μ-walk
-mul-word c = omega (arith, in-range c)
+mul-word c = omega (arith, in-range (c .before))
 
 shared-slice-read-word : tie.Need-shared-slice-read-word Inv-loop μ-loop Inv-walk μ-walk
-shared-slice-read-word c = in-range (c .before)
+shared-slice-read-word c = in-range (c .before .before)
 
 scan-word-requires : tie.Need-scan-word-requires Inv-loop μ-loop Inv-walk μ-walk
 scan-word-requires c κs =
-    let i = c .before .before in
-    let w = row-of i in
-    (even-on _ _ (length-now w) (ready w .sound .even), word-below i)
+    let i = c .before .before .before in
+    λ ne. omega (arith, mark-inside (atoms (row-of i)) (complement (word i)) (complement-low i ne), room (row-of i))
 
 enum-told : tie.Need-enum-told Inv-loop μ-loop Inv-walk μ-walk
 enum-told c = c .match .keys1
@@ -248,7 +347,8 @@ walk-again c =
     let w = row-of i in
     let l = i .before .loop in
     let two = scan-second (words w) (set-now w) (position w) (l .k) (l .first) (l .inv .1) (in-width i) (added o scan.Second (c .enum-told3 .given .1)) in
-    on w (set-now w) (so-far w) (pass-row (words w) (set-first w) (set-now w) (position w) (inside w) (so-far w) (state w) two)
+    on w (marks-now w) (so-far w) (rest-now w)
+    (pass-row (stops w) (words w) (set-first w) (set-now w) (position w) (inside w) (so-far w) (state w) two)
 
 add-k : tie.Need-add-k Inv-loop μ-loop Inv-walk μ-walk
 unfolding width
@@ -273,68 +373,58 @@ loop-again c =
           subst Scans (sym (a .2)) (scan-same (words w) (set-now w) (position w) (l .k) (l .first) (l .inv .1) (in-width i) same))
           (λ a.
           let first = added o scan.First (a .1 .given .1) in
-          let below = word-below i (first .0) in
+          let below = view-inside (atoms w) (marks-now w) (word i) (word-below i (first .0)) in
           subst Scans (sym (a .2)) (scan-first (words w) (set-now w) (position w) (l .k) (l .first) (l .inv .1) (in-width i) below first))
           (c .match .came),
     )
 
-wide-requires : tie.Need-wide-requires Inv-loop μ-loop Inv-walk μ-walk
-wide-requires c κs = search needs
+row-requires : tie.Need-row-requires Inv-loop μ-loop Inv-walk μ-walk
+row-requires c κs = at-row-of (row c)
 
-slice-read-if3 : tie.Need-slice-read-if3 Inv-loop μ-loop Inv-walk μ-walk
-slice-read-if3 c = mark-inside (open-of c)
+force-requires : tie.Need-force-requires Inv-loop μ-loop Inv-walk μ-walk
+force-requires c κs =
+    let r = c .before in
+    let a = r .before in
+    let w = row a in
+    let k = a .before .loop .k in (
+      room-on (stops w) (atoms w) (words w) (marks-first w) (marks-now w) (ready w) (rest-now w) (state w .reached .sound),
+      subst (λ (x : List ℕ). Forcing (atoms w) (set-now w) x (opened a)) (sym (row-is r))
+          (scan-forcing (words w) (set-now w) (position w) k (opened a) (scanned a) (all-words a) (atoms w) (view-length (atoms w) (marks-now w)) (row-below w)),
+    )
 
-slice-write-marks : tie.Need-slice-write-marks Inv-loop μ-loop Inv-walk μ-walk
-slice-write-marks c = mark-inside (open-of (c .before))
+enum-told-4 : tie.Need-enum-told-4 Inv-loop μ-loop Inv-walk μ-walk
+enum-told-4 c = c .match2 .keys1
 
 walk-less-2 : tie.Need-walk-less-2 Inv-loop μ-loop Inv-walk μ-walk
-walk-less-2 c = less-left (row (scan-of (open-of (c .before))))
+walk-less-2 c = less-left (row (scan-of (force-of (c .before .before))))
 
 walk-again-2 : tie.Need-walk-again-2 Inv-loop μ-loop Inv-walk μ-walk
-walk-again-2 c =
-    let o = open-of (c .before) in
-    let a = scan-of o in
-    let w = row a in
-    let l = a .before .loop in
-    let e = o .wide .ensures .0 in
-    let some = some-found o in
-    let f = scanned a .found some in
-    let one = scan-one (words w) (set-now w) (position w) (l .k) (l .first) (scanned a) (all-words a) some in
-    let out = out-byte (set-now w) (l .first) (λ q. c .if3 .taken (ap (λ (x : ℕ). getD (set-now w) x 0) e ∙ q)) in
-    let next = set-row (words w) (set-first w) (set-now w) (position w) (inside w) (so-far w) (state w) (l .first) (f .2) one out (f .1) in
-    subst (λ (x : ℕ). On w (set (set-now w) x 1) Grown) (sym e) (on w (set (set-now w) (l .first) 1) Grown next)
+walk-again-2 c = on-same (force-of (c .before .before)) (c .enum-told4 .given .1)
+
+enum-told-5 : tie.Need-enum-told-5 Inv-loop μ-loop Inv-walk μ-walk
+enum-told-5 c = c .match2 .keys2
 
 walk-less-3 : tie.Need-walk-less-3 Inv-loop μ-loop Inv-walk μ-walk
-walk-less-3 c = less-left (row (scan-of (open-of (c .before))))
+walk-less-3 c = less-left (row (scan-of (force-of (c .before .before))))
 
 walk-again-3 : tie.Need-walk-again-3 Inv-loop μ-loop Inv-walk μ-walk
-walk-again-3 c =
-    let o = open-of (c .before) in
-    let a = scan-of o in
-    let w = row a in
-    let l = a .before .loop in
-    let there = in-byte (set-now w) (l .first) (ap (λ (x : ℕ). getD (set-now w) x 0) (sym (o .wide .ensures .0)) ∙ c .if3 .left) in
-    let only = scan-only (words w) (set-now w) (position w) (l .k) (l .first) (scanned a) (all-words a) (some-found o) there in
-    on w (set-now w) (so-far w) (pass-row (words w) (set-first w) (set-now w) (position w) (inside w) (so-far w) (state w) only)
+walk-again-3 c = on-more (force-of (c .before .before)) (c .enum-told5 .given .1)
+
+enum-told-6 : tie.Need-enum-told-6 Inv-loop μ-loop Inv-walk μ-walk
+enum-told-6 c = c .match2 .keys3
 
 same-length : tie.Need-same-length Inv-loop μ-loop Inv-walk μ-walk
-same-length c = c .before .before .walk .inv .1 .reached .same-length
+same-length c = c .before .before .walk .inv .1 .same-length
 
 returns : tie.Need-returns Inv-loop μ-loop Inv-walk μ-walk
 unfolding width
-returns c = walk-end _ _ _ _ _ (omega (arith, c .if1 .left)) (c .before .before .walk .inv .1)
+returns c = let l = c .before .before .walk in (l .inv .1, walk-end _ _ _ _ _ _ (omega (arith, c .if1 .left)) (l .inv .2))
 
 same-length-2 : tie.Need-same-length-2 Inv-loop μ-loop Inv-walk μ-walk
-same-length-2 c = length-now (row (c .before))
+same-length-2 c = rest-after (force-of (c .before .before)) .same-length
 
 returns-2 : tie.Need-returns-2 Inv-loop μ-loop Inv-walk μ-walk
-unfolding fill
-returns-2 c =
-    let a = c .before in
-    let w = row a in
-    let l = a .before .loop in
-    clash-row (words w) (set-first w) (set-now w) (position w) (inside w) (so-far w) (state w) (atoms w) (row-right w)
-    (scan-none (words w) (set-now w) (position w) (l .k) (l .first) (scanned a) (all-words a) (c .if2 .taken))
+returns-2 c = let f = force-of (c .before .before) in (rest-after f, left f (c .enum-told6 .given .1))
 
 pub walk-spec : {M : Type 1} → statement M
 walk-spec =
@@ -360,13 +450,15 @@ walk-spec =
     add-k
     loop-less
     loop-again
-    wide-requires
-    slice-read-if3
-    slice-write-marks
+    row-requires
+    force-requires
+    enum-told-4
     walk-less-2
     walk-again-2
+    enum-told-5
     walk-less-3
     walk-again-3
+    enum-told-6
     same-length
     returns
     same-length-2

@@ -2,6 +2,7 @@
 #![allow(dead_code)]
 
 use inputs::task::{OperatorSpec, TaskSpec};
+use reference::marks::MOST_MARK_BYTES;
 use reference::synthesis::{synthesize, Finding};
 use reference::{checker, kept, reencoding, Answer, Refusal};
 
@@ -25,25 +26,27 @@ pub fn refusal<T>(number: u32, first: u64, second: u64) -> Answer<T> {
 }
 
 pub fn check(image: &[u16], clauses: &[u16]) -> Answer<()> {
-    checker::check(image, clauses, &mut [7; 2048])
+    checker::check(image, clauses, &mut [7; MOST_MARK_BYTES])
 }
 
 pub fn is_kept(image: &[u16], clauses: &[u16], clause: &[u16], operator: u16) -> Answer<bool> {
-    kept::kept(image, clauses, clause, operator, &mut [7; 2048])
+    kept::kept(image, clauses, clause, operator, &mut [7; MOST_MARK_BYTES])
 }
 
 /// Synthesis in a buffer of so many words, with the buffer afterwards.
 pub fn synthesis(image: &[u16], n: u16, limit: u16, words: usize) -> (Answer<Finding>, Vec<u16>) {
     let mut clauses = vec![7; words];
     let mut work = vec![7; words];
-    let answer = synthesize(image, n, limit, &mut clauses, &mut work, &mut [7; 2048]);
+    let marks = &mut [7; MOST_MARK_BYTES];
+    let answer = synthesize(image, n, limit, &mut clauses, &mut work, marks);
     (answer, clauses)
 }
 
 /// The re-encoded image, if the checker accepts the clauses.
 pub fn reencoded(image: &[u16], clauses: &[u16]) -> Answer<Vec<u16>> {
     let mut target = vec![7; 32768];
-    let length = reencoding::reencode(image, clauses, &mut [7; 2048], &mut target)?;
+    let marks = &mut [7; MOST_MARK_BYTES];
+    let length = reencoding::reencode(image, clauses, marks, &mut target)?;
     assert!(target[length..].iter().all(|&word| word == 7));
     target.truncate(length);
     Ok(target)

@@ -23,10 +23,10 @@ abbrev size : lent → ℕ
 size b = 2 * start b .args .atoms
 
 abbrev local : lent → List ℕ
-local b = b .before .marks .result
+local b = b .before .literal-flags .result
 
 fits : (b : lent) → size b ≤ length (local b)
-fits b = omega (arith, b .before .marks .ensures, start b .pre .0 .few)
+fits b = omega (arith, b .before .literal-flags .ensures, start b .pre .0 .few)
 
 -- where it came back with the flags
 abbrev flagged : Type 0
@@ -35,8 +35,8 @@ flagged = tie.After-flag-guaranteed
 back : (d : flagged) → CameBack (size (d .before)) (local (d .before)) (d .flag-guaranteed .last .1 .1 .1 .1 .0)
 back d = came-back (size (d .before)) (local (d .before)) (d .flag-guaranteed .last .1 .1 .1 .1 .0) (fits (d .before)) (d .flag-guaranteed .kept .1 .1 .1 .1 .0)
 
-marks-requires : tie.Need-marks-requires
-marks-requires c κs = search needs
+literal-flags-requires : tie.Need-literal-flags-requires
+literal-flags-requires c κs = search needs
 
 mul-size : tie.Need-mul-size
 mul-size c = search needs
@@ -77,7 +77,7 @@ pub flag-violated-spec : {M : Type 1} → statement M
 flag-violated-spec =
     tie.close
     (tie.spec
-    marks-requires
+    literal-flags-requires
     mul-size
     array-borrow-prefix-flags
     slice-aggregate-flag-guaranteed

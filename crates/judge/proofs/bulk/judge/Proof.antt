@@ -17,13 +17,13 @@ abbrev start : lent → tie.Start
 start b = let p = b .before .before .before in let q = p .before .before .before in q .before .before .before
 
 abbrev local : lent → List ℕ
-local b = b .before .before .before .marks .result
+local b = b .before .before .before .literal-flags .result
 
 fits : (b : lent) → 2 * start b .args .atoms ≤ length (local b)
-fits b = omega (arith, b .before .before .before .marks .ensures, start b .pre .given .few)
+fits b = omega (arith, b .before .before .before .literal-flags .ensures, start b .pre .given .few)
 
-marks-requires : tie.Need-marks-requires
-marks-requires c κs = search needs
+literal-flags-requires : tie.Need-literal-flags-requires
+literal-flags-requires c κs = search needs
 
 mul-size : tie.Need-mul-size
 mul-size c = search needs
@@ -53,7 +53,7 @@ pub judge-spec : {M : Type 1} → statement M
 judge-spec =
     tie.close
     (tie.spec
-    marks-requires
+    literal-flags-requires
     mul-size
     array-borrow-prefix-flags
     slice-aggregate-judge-guaranteed

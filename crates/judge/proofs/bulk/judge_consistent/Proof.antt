@@ -1,16 +1,13 @@
 -- `judge::bulk::judge_consistent`: the marks are kept in a local array, by which the rows are judged. Assumes nothing.
-use Prim.Native.Nat.{ℕ, _*_, _≤_}
-use mathlib.Core.Path.{sym, subst}
-use mathlib.Core.List.{List, _++_}
+use Prim.Native.Nat.{ℕ}
+use mathlib.Core.Path.{_≡_, sym, _∙_}
+use mathlib.Core.List.{List}
 use native.Mathlib.Omega.{arith}
-use lib.ListN.{length, take, drop}
-use lib.Seq.{length-take-le}
+use lib.ListN.{length}
 use Rattle.task.specs.Walk.{operatorIn}
-use Rattle.propagation.specs.Marks.{Marked}
-use Rattle.propagation.proofs.Marks.{marked-room}
+use Rattle.propagation.proofs.MarkedSets.{marked-room, room-size, most-bytes}
 use Rattle.judge.specs.Promise.{ConsistentClosure}
 use Rattle.judge.proofs.Closures.{closure-copied}
-use Rattle.judge.proofs.Parts.{CameBack, came-back}
 use borrow.Author.Needs.{needs}
 use Rattle.judge.proofs.bulk.judge_consistent.Statement.{statement}
 use Rattle.judge.proofs.bulk.judge_consistent.Tie as tie
@@ -22,14 +19,11 @@ lent = tie.After-base
 abbrev start : lent → tie.Start
 start b = let p = b .before .before .before in let q = p .before .before .before in q .before .before .before
 
-abbrev size : lent → ℕ
-size b = 2 * start b .args .atoms
-
 abbrev local : lent → List ℕ
-local b = b .before .before .marks .result
+local b = b .before .before .room .result
 
-fits : (b : lent) → size b ≤ length (local b)
-fits b = omega (arith, b .before .before .marks .ensures, start b .pre .0 .given .few)
+local-size : (b : lent) → length (local b) ≡ 256
+local-size b = b .before .before .room .ensures ∙ room-size
 
 -- where it came back with the marks
 abbrev copied : Type 0
@@ -38,37 +32,24 @@ copied = tie.After-copy
 abbrev base : copied → List ℕ
 base d = d .copy .last .1 .0
 
-back : (d : copied) → CameBack (size (d .before)) (local (d .before)) (base d)
-back d = came-back (size (d .before)) (local (d .before)) (base d) (fits (d .before)) (d .copy .kept .1 .0)
-
 closed :
-    (d : copied) → let b = d .before in let a = start b .args in
-    ConsistentClosure (a .atoms) (a .clauses .now) (operatorIn (a .block .now) .precondition) (take (size b) (base d ++ drop (size b) (local b)))
-closed d =
-    let s = start (d .before) in
-    closure-copied _ _ _ _ _ (s .pre .0 .closed)
-    (λ S m. subst (λ (ms : List ℕ). Marked (s .args .atoms) ms S) (sym (back d .part)) (d .copy .ensures .1 S m))
+    (d : copied) → let a = start (d .before) .args in
+    ConsistentClosure (a .atoms) (a .clauses .now) (operatorIn (a .block .now) .precondition) (base d)
+closed d = closure-copied _ _ _ _ _ (start (d .before) .pre .0 .closed) (d .copy .ensures)
 
-marks-requires : tie.Need-marks-requires
-marks-requires c κs = search needs
-
-mul-size : tie.Need-mul-size
-mul-size c = search needs
-
-array-borrow-prefix-base : tie.Need-array-borrow-prefix-base
-array-borrow-prefix-base c = search needs
+room-requires : tie.Need-room-requires
+room-requires c κs = search needs
 
 slice-aggregate-copy : tie.Need-slice-aggregate-copy
-slice-aggregate-copy c = sym (length-take-le _ (local c) (fits c))
+slice-aggregate-copy c = sym (local-size c)
 
 copy-requires : tie.Need-copy-requires
-copy-requires c κs = (marked-room _ _ _ (start c .pre .0 .closed .marked), omega (arith, length-take-le (size c) (local c) (fits c)))
-
-array-share-prefix-base : tie.Need-array-share-prefix-base
-array-share-prefix-base c = back (c .before) .room
+copy-requires c κs =
+    let p = start c .pre .0 in
+    (p .given .few, marked-room _ _ _ (p .closed .marked), omega (arith, local-size c, most-bytes (start c .args .atoms) (p .given .few)))
 
 slice-aggregate-judge-closed : tie.Need-slice-aggregate-judge-closed
-slice-aggregate-judge-closed c = back (c .before .before) .whole
+slice-aggregate-judge-closed c = let d = c .before .before in sym (d .copy .kept .1 .0 ∙ local-size (d .before))
 
 abbrev copied-from-judge-closed : tie.After-judge-closed-arg3 → copied
 copied-from-judge-closed c = let p = c .before .before .before in p .before .before
@@ -106,12 +87,9 @@ pub judge-consistent-spec : {M : Type 1} → statement M
 judge-consistent-spec =
     tie.close
     (tie.spec
-    marks-requires
-    mul-size
-    array-borrow-prefix-base
+    room-requires
     slice-aggregate-copy
     copy-requires
-    array-share-prefix-base
     slice-aggregate-judge-closed
     judge-closed-requires
     same-length

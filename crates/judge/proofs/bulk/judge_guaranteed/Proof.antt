@@ -2,7 +2,7 @@
 use Prim.Native.Nat.{ℕ}
 use mathlib.Core.Path.{_≡_, _∙_}
 use mathlib.Core.List.{List}
-use Rattle.propagation.proofs.Marks.{says-consistent, says-contradictory}
+use Rattle.propagation.proofs.MarkedSets.{says-consistent, says-contradictory}
 use Rattle.judge.proofs.BlockRows.{precondition-low}
 use Rattle.judge.proofs.Closures.{closure-says, closure-start, contradictory-start}
 use Rattle.judge.proofs.RowWalk.{fail-none, fail-rows}
@@ -75,7 +75,7 @@ judge-consistent-requires c κs =
     let d = closing e in
     let h = head-of d in
     let g = start h .pre .0 in
-    let said = says-consistent _ _ _ _ _ (d .close .ensures .1) (e .enum-told2 .given .1) in (
+    let said = says-consistent _ _ _ _ _ (d .close .ensures) (e .enum-told2 .given .1) in (
       record {
         given = g .given;
         judged = g .judged;
@@ -96,7 +96,7 @@ returns c =
     let d = clashing c in
     let h = head-of d in
     let pre = h .head .ensures .precondition in
-    let said = says-contradictory _ _ _ _ _ (d .close .ensures .1) (c .enum-told .given .1) in
+    let said = says-contradictory _ _ _ _ _ (d .close .ensures) (c .enum-told .given .1) in
     (fail-none _ _ _ (judged h) _ (fails h) _ (start h .pre .0 .flagged) (cleared h .clear .ensures) pre said, contradictory-start _ _ _ _ pre said)
 
 same-length-3 : tie.Need-same-length-3
@@ -121,7 +121,7 @@ returns-2 c =
     let d = closing e in
     let h = head-of d in
     let pre = h .head .ensures .precondition in
-    let said = says-consistent _ _ _ _ _ (d .close .ensures .1) (e .enum-told2 .given .1) in
+    let said = says-consistent _ _ _ _ _ (d .close .ensures) (e .enum-told2 .given .1) in
     let consistent = closure-start _ _ _ _ _ pre (closure-says _ _ _ _ said) .consistent in (
       fail-rows _ _ _ (judged h) _ (fails h) _ (start h .pre .0 .flagged) (cleared h .clear .ensures) pre _ (said .0)
           (j .judge-consistent .ensures .0),

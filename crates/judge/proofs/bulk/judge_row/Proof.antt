@@ -3,7 +3,7 @@ use mathlib.Core.Path.{sym, _∙_, ap}
 use denote.Ref.{now}
 use native.Mathlib.Omega.{arith}
 use Rattle.clause.specs.Rows.{clausesOf}
-use Rattle.propagation.proofs.Marks.{marked-room, says-consistent, says-contradictory}
+use Rattle.propagation.proofs.MarkedSets.{marked-room, says-consistent, says-contradictory}
 use Rattle.judge.specs.Judging.{lacksFlag, flagMore}
 use Rattle.judge.proofs.Closures.{within-rows, closure-consistent, closure-says, closure-copied, closure-with}
 use Rattle.judge.proofs.RowWalk.{judged-low, row-contradictory, row-judged}
@@ -134,14 +134,14 @@ returns c =
     (c .before .before .flag-lacking .ensures ∙ ap (λ G. flagMore (lacksFlag (a .l) G) (clausesOf (now (a .judged))) (now (a .fails))) (p .2 _ closed))
 
 copy-requires : tie.Need-copy-requires
-copy-requires c κs = let p = at-start-from-copy-arg c .pre in (marked-room _ _ _ (p .0 .closed .marked), p .1 .room)
+copy-requires c κs = let p = at-start-from-copy-arg c .pre in (p .1 .few, marked-room _ _ _ (p .0 .closed .marked), p .1 .room)
 
 extend-requires : tie.Need-extend-requires
 extend-requires c κs =
     let p = at-start-from-extend-arg c .pre in
     let k = c .before .before .before .copy in (
       record { few = p .1 .few; room = omega (arith, p .1 .room, k .kept .1 .0); rows = p .1 .rows; below = p .1 .below },
-      closure-consistent _ _ _ _ (closure-copied _ _ _ _ _ (p .0 .closed) (k .ensures .1)),
+      closure-consistent _ _ _ _ (closure-copied _ _ _ _ _ (p .0 .closed) (k .ensures)),
     )
 
 enum-told : tie.Need-enum-told
@@ -153,7 +153,7 @@ enum-told-2 c = c .match .keys2
 flag-violated-requires : tie.Need-flag-violated-requires
 flag-violated-requires c κs =
     let p = at-start-from-flag-violated-arg2 c .pre in
-    let k = after-extend-from-flag-violated-arg2 c .extend .ensures .1 _ (after-copy-from-flag-violated-arg2 c .copy .ensures .1 _ (p .0 .closed .marked)) in
+    let k = after-extend-from-flag-violated-arg2 c .extend .ensures _ (after-copy-from-flag-violated-arg2 c .copy .ensures _ (p .0 .closed .marked)) in
     (p .0 .given, closure-consistent _ _ _ _ (closure-says _ _ _ _ (says-consistent _ _ _ _ _ k (c .before .before .enum-told2 .given .1))), p .0 .flagged)
 
 same-length-2 : tie.Need-same-length-2
@@ -163,7 +163,7 @@ returns-2 : tie.Need-returns-2
 returns-2 c =
     λ e el there.
     let p = at-start-from-enum-told c .pre in
-    let k = after-extend (after-marks2-of-enum-told c) .extend .ensures .1 _ (after-copy-from-enum-told c .copy .ensures .1 _ (p .0 .closed .marked)) in
+    let k = after-extend (after-marks2-of-enum-told c) .extend .ensures _ (after-copy-from-enum-told c .copy .ensures _ (p .0 .closed .marked)) in
     row-contradictory _ _ _ _ e _ _ (says-contradictory _ _ _ _ _ k (c .enum-told .given .1))
 
 same-length-3 : tie.Need-same-length-3
@@ -176,7 +176,7 @@ returns-3 : tie.Need-returns-3
 returns-3 c =
     λ e el there.
     let p = at-start-from-slice-known6 c .pre in
-    let k = after-extend-from-slice-known6 c .extend .ensures .1 _ (after-copy-from-slice-known6 c .copy .ensures .1 _ (p .0 .closed .marked)) in
+    let k = after-extend-from-slice-known6 c .extend .ensures _ (after-copy-from-slice-known6 c .copy .ensures _ (p .0 .closed .marked)) in
     let closed = closure-says _ _ _ _ (says-consistent _ _ _ _ _ k (after-enum-told2 (after-flag-violated-arg2 c) .enum-told2 .given .1)) in
     row-judged _ _ _ _ e _ _ (within-rows (p .0 .given .rows)) (p .1 .below) (judged-low _ _ (p .0 .judged)) (closed .consistent) _ _ el there
     (c .before .before .flag-violated .ensures _ closed)

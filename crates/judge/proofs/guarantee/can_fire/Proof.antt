@@ -3,7 +3,7 @@ use denote.Ref.{now}
 use mathlib.Core.Path.{sym, _∙_}
 use native.Mathlib.Omega.{arith}
 use Rattle.judge.proofs.Closures.{closure-fires, consistent-copied, consistent-room}
-use Rattle.propagation.proofs.Marks.{says-consistent, says-contradictory}
+use Rattle.propagation.proofs.MarkedSets.{says-consistent, says-contradictory}
 use Rattle.judge.proofs.Firing.{fires-consistent, fires-not}
 use borrow.Author.Needs.{needs}
 use Rattle.judge.proofs.guarantee.can_fire.Statement.{statement}
@@ -66,14 +66,14 @@ returns c =
     (sym (c .before .holds-all .ensures _ _ (closed .marked) (p .below)) ∙ c .if1 .taken) closed
 
 copy-requires : tie.Need-copy-requires
-copy-requires c κs = (consistent-room _ _ (at-start-from-copy-arg c .pre .1), at-start-from-copy-arg c .pre .0 .room)
+copy-requires c κs = let p = at-start-from-copy-arg c .pre in (p .0 .few, consistent-room _ _ (p .1), p .0 .room)
 
 extend-requires : tie.Need-extend-requires
 extend-requires c κs =
     let p = at-start-from-extend-arg c .pre in
     let k = c .before .before .before .copy in (
       record { few = p .0 .few; room = omega (arith, p .0 .room, k .kept .1 .0); rows = p .0 .rows; below = p .0 .below },
-      consistent-copied _ _ _ (p .1) (k .ensures .1),
+      consistent-copied _ _ _ (p .1) (k .ensures),
     )
 
 enum-told : tie.Need-enum-told
@@ -88,7 +88,7 @@ same-length c = search needs
 returns-2 : tie.Need-returns-2
 returns-2 c =
     λ ls closed.
-    let k = after-extend (after-work2-of-enum-told c) .extend .ensures .1 ls (after-copy-from-enum-told c .copy .ensures .1 _ (closed .marked)) in
+    let k = after-extend (after-work2-of-enum-told c) .extend .ensures ls (after-copy-from-enum-told c .copy .ensures _ (closed .marked)) in
     fires-consistent _ _ ls _ (says-consistent _ _ _ _ _ k (c .enum-told .given .1) .0)
 
 same-length-2 : tie.Need-same-length-2
@@ -97,7 +97,7 @@ same-length-2 c = search needs
 returns-3 : tie.Need-returns-3
 returns-3 c =
     λ ls closed.
-    let k = after-extend (after-work2-of-enum-told2 c) .extend .ensures .1 ls (after-copy-from-enum-told2 c .copy .ensures .1 _ (closed .marked)) in
+    let k = after-extend (after-work2-of-enum-told2 c) .extend .ensures ls (after-copy-from-enum-told2 c .copy .ensures _ (closed .marked)) in
     fires-not _ _ ls _ (says-contradictory _ _ _ _ _ k (c .enum-told2 .given .1))
 
 pub can-fire-spec : {M : Type 1} → statement M

@@ -1,22 +1,23 @@
 -- `judge::guarantee::flag_guaranteed`: the walks one after the other.
-use Prim.Native.Nat.{ℕ, _*_}
+use Prim.Native.Nat.{ℕ}
 use mathlib.Core.List.{List}
-use mathlib.Core.Path.{sym}
+use mathlib.Core.Path.{_≡_, sym, _∙_}
 use native.Mathlib.Omega.{arith}
-use lib.Seq.{length-take-le}
+use lib.ListN.{length}
+use Rattle.propagation.proofs.MarkedSets.{room-size, most-bytes}
 use Rattle.judge.proofs.Guaranteed.{guaranteed-made}
 use borrow.Author.Needs.{needs}
 use Rattle.judge.proofs.guarantee.flag_guaranteed.Statement.{statement}
 use Rattle.judge.proofs.guarantee.flag_guaranteed.Tie as tie
 
 -- the walks in order, and the start
-abbrev at-clauses : tie.After-marks → tie.After-shared-slice-known2
+abbrev at-clauses : tie.After-room → tie.After-shared-slice-known2
 at-clauses c = c .before .before .before
 
-abbrev start : tie.After-marks → tie.Start
+abbrev start : tie.After-room → tie.Start
 start c = at-clauses c .before .before
 
-abbrev room-of : tie.After-flag-marked → tie.After-marks
+abbrev room-of : tie.After-flag-marked → tie.After-room
 room-of c = c .before .before
 
 abbrev at-deletes : tie.After-flag-effects → tie.After-flags
@@ -41,13 +42,13 @@ abbrev start-of : tie.After-work → tie.Start
 start-of c = start (room-of (marked-of (deletes-of c)))
 
 abbrev work-of : tie.After-work → List ℕ
-work-of c = room-of (marked-of (deletes-of c)) .marks .result
+work-of c = room-of (marked-of (deletes-of c)) .room .result
 
-marks-requires : tie.Need-marks-requires
-marks-requires c κs = search needs
+work-size : (c : tie.After-work) → length (work-of c) ≡ 256
+work-size c = room-of (marked-of (deletes-of c)) .room .ensures ∙ room-size
 
-mul-end : tie.Need-mul-end
-mul-end c = search needs
+room-requires : tie.Need-room-requires
+room-requires c κs = search needs
 
 flag-marked-requires : tie.Need-flag-marked-requires
 flag-marked-requires c κs = search needs
@@ -55,18 +56,14 @@ flag-marked-requires c κs = search needs
 flag-effects-requires : tie.Need-flag-effects-requires
 flag-effects-requires c κs = search needs
 
-array-borrow-prefix-work : tie.Need-array-borrow-prefix-work
-array-borrow-prefix-work c = search needs
-
 slice-aggregate-drop-changed : tie.Need-slice-aggregate-drop-changed
-slice-aggregate-drop-changed c = sym (length-take-le _ (work-of c) (omega (arith, start-of c .pre .0 .few)))
+slice-aggregate-drop-changed c = sym (work-size c)
 
 drop-changed-requires : tie.Need-drop-changed-requires
 drop-changed-requires c κs =
     let w = c .before in
     let s = start-of w in
-    let size = length-take-le (2 * s .args .atoms) (work-of w) (omega (arith, s .pre .0 .few)) in
-    (s .pre .0, s .pre .1, omega (arith, s .pre .0 .few, size))
+    (s .pre .0, s .pre .1, omega (arith, work-size w, most-bytes (s .args .atoms) (s .pre .0 .few)))
 
 flag-effects-requires-2 : tie.Need-flag-effects-requires-2
 flag-effects-requires-2 c κs = search needs
@@ -90,11 +87,9 @@ pub flag-guaranteed-spec : {M : Type 1} → statement M
 flag-guaranteed-spec =
     tie.close
     (tie.spec
-    marks-requires
-    mul-end
+    room-requires
     flag-marked-requires
     flag-effects-requires
-    array-borrow-prefix-work
     slice-aggregate-drop-changed
     drop-changed-requires
     flag-effects-requires-2

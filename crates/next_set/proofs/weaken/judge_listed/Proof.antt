@@ -32,13 +32,13 @@ abbrev size : lent → ℕ
 size b = 2 * start b .args .atoms
 
 abbrev local : lent → List ℕ
-local b = b .before .before .before .marks .result
+local b = b .before .before .before .literal-flags .result
 
 few : (b : lent) → size b ≤ mostLiterals
 few b = omega (arith, start b .pre .0 .given .few)
 
 fits : (b : lent) → size b ≤ length (local b)
-fits b = omega (arith, b .before .before .before .marks .ensures, few b)
+fits b = omega (arith, b .before .before .before .literal-flags .ensures, few b)
 
 -- where the clauses are judged: the clauses, the operator and the flags of the literals
 abbrev judged : Type 0
@@ -66,8 +66,8 @@ listing c = let p = c .before .before .before in let q = p .before .before .befo
 listed : (c : tie.After-list-flagged) → Listed (flags (listing c)) (c .list-flagged .last .1 .0) (c .list-flagged .result)
 listed c = subst (λ (z : List ℕ). Listed z (c .list-flagged .last .1 .0) (c .list-flagged .result)) (back (listing c) .part) (c .list-flagged .ensures)
 
-marks-requires : tie.Need-marks-requires
-marks-requires c κs = search needs
+literal-flags-requires : tie.Need-literal-flags-requires
+literal-flags-requires c κs = search needs
 
 mul-size : tie.Need-mul-size
 mul-size c = search needs
@@ -148,7 +148,7 @@ pub judge-listed-spec : {M : Type 1} → statement M
 judge-listed-spec =
     tie.close
     (tie.spec
-    marks-requires
+    literal-flags-requires
     mul-size
     array-borrow-prefix-flags
     slice-aggregate-judge-guaranteed

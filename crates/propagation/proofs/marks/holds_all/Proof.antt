@@ -1,4 +1,4 @@
--- `propagation::holds_all`: the test of the whole list is the test of what is left of it.
+-- `propagation::marks::holds_all`: the test of the whole list is the test of what is left of it.
 use Prim.Native.Nat.{ℕ, _≤_, _-_, _*_}
 use mathlib.Core.Path.{_≡_, refl, sym, _∙_}
 use mathlib.Core.Bool.{true}
@@ -12,10 +12,10 @@ use Rattle.definitions.specs.Closure.{has}
 use Rattle.definitions.specs.Kept.{allIn}
 use Rattle.definitions.proofs.Walks.{all-off, all-on, all-end}
 use Rattle.propagation.specs.Marks.{Marked}
-use Rattle.propagation.proofs.Marks.{place-below}
+use Rattle.propagation.proofs.MarkedSets.{place-below}
 use borrow.Author.Needs.{needs}
-use Rattle.propagation.proofs.holds_all.Statement.{statement}
-use Rattle.propagation.proofs.holds_all.Tie as tie
+use Rattle.propagation.proofs.marks.holds_all.Statement.{statement}
+use Rattle.propagation.proofs.marks.holds_all.Tie as tie
 
 abbrev Inv-loop : tie.InvT-loop
 Inv-loop marks literals i₀ i =

@@ -1,0 +1,19 @@
+use Rattle.definitions.proofs.MarkBits.{test-mark}
+use borrow.Author.Needs.{needs}
+use Rattle.propagation.proofs.marks.is_marked.Statement.{statement}
+use Rattle.propagation.proofs.marks.is_marked.Tie as tie
+
+shared-slice-read-result : tie.Need-shared-slice-read-result
+shared-slice-read-result c = search needs
+
+cast-result : tie.Need-cast-result
+cast-result c = search needs
+
+shl-result : tie.Need-shl-result
+shl-result c = search needs
+
+returns : tie.Need-returns
+returns c = test-mark _ _
+
+pub is-marked-spec : {M : Type 1} → statement M
+is-marked-spec = tie.close (tie.spec shared-slice-read-result cast-result shl-result returns)
