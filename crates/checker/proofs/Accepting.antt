@@ -1,7 +1,7 @@
 -- What the checker's verdict says to the calls that ask its questions first. Assumes nothing.
 use mathlib.Core.Path.{_≡_, sym, _∙_, ap, subst}
 use mathlib.Core.List.{List}
-use Prim.Native.Nat.{ℕ, _*_}
+use Prim.Native.Nat.{ℕ}
 use lib.Dec.{leb}
 use Rattle.definitions.specs.Answer.{finding, verdict, ask}
 use Rattle.definitions.specs.Image.{Task, readTask}

@@ -5,13 +5,13 @@ use mathlib.Core.List.{List, _++_}
 use Prim.Native.Nat.{ℕ, _-_, _≤_, _<_}
 use lib.ListN.{length, take, drop}
 use borrow.Author.Tests.{lt-ltb, le-ltb, lt-leb, le-leb}
-use Rattle.definitions.specs.Answer.{Refusal, Answer, finding, refused, verdict, outcome, _>>=_, ask, askAt}
+use Rattle.definitions.specs.Answer.{Refusal, finding, refused, verdict, outcome, _>>=_, ask, askAt}
 use Rattle.definitions.specs.Literal.{mostAtoms}
 use Rattle.definitions.specs.Image.{Operator, operatorRight}
 use Rattle.definitions.specs.Step.{operatorAt}
 use Rattle.definitions.specs.Closure.{closure}
 use Rattle.definitions.specs.Marks.{markBytes, marksOf, markedLiterals}
-use Rattle.definitions.specs.Groups.{Written, written}
+use Rattle.definitions.specs.Groups.{written}
 use Rattle.definitions.specs.ClosureCall.{operatorClosure, shown, closureCall}
 use Rattle.definitions.proofs.AnswerLaws.{not-finding}
 use Rattle.definitions.proofs.MarkBits.{newMarks, marks-length, new-literals, front-literals}

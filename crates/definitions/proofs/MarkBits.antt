@@ -1,19 +1,19 @@
 -- Marks by their bits: a bit tested and set, low bits cleared, ones counted, and the marks of a set. Whoever speaks of marks goes by
 -- these laws; no other file looks at bits. Assumes nothing.
-use mathlib.Core.Path.{_≡_, refl, sym, _∙_, ap, ap₂, subst}
-use mathlib.Core.Bool.{Bool, true, false, not, cond}
+use mathlib.Core.Path.{_≡_, refl, sym, _∙_, ap, ap₂}
+use mathlib.Core.Bool.{Bool, true, false, cond}
 use mathlib.Core.Logic.{_⊎_, inl, inr}
 use mathlib.Core.List.{List, [], _∷_, _++_, map}
-use Prim.Native.Nat.{ℕ, zero, suc, _+_, _-_, _*_, _/_, _%_, _^_, _≤_, _<_, min, max}
+use Prim.Native.Nat.{ℕ, zero, suc, _+_, _-_, _*_, _/_, _%_, _^_, _≤_, _<_, max}
 use native.Mathlib.Omega.{arith}
-use native.Mathlib.Nat.{pow-suc, add-zero, one-mul, mul-assoc, zero-add, mod-eq-of-lt, min-zero, max-zero}
-use lib.Dec.{eqb, ltb, leb}
+use native.Mathlib.Nat.{pow-suc, add-zero, one-mul, mul-assoc, zero-add, mod-eq-of-lt, max-zero}
+use lib.Dec.{eqb, ltb}
 use native.Mathlib.Decide.{ℕ-discrete, decLt}
 use lib.ListN.{length, getD, set, drop, replicate, length-set, length-replicate, getD-replicate, List·getD-append}
 use lib.Seq.{length-take-le, length-front, ext-getD, getD-append-add, getD-drop, getD-set-same, getD-set-other}
 use borrow.Author.Tests.{eq-eqb, ne-eqb, lt-ltb, le-ltb}
 use lib.Pow.{pow-pos, split, shl-exact, shr-shr, field, mod-mod-pow}
-use lib.Bits.{bitAnd, bitOr, and-step, or-step, and-mask, and-le-l, or-zero-r, shifted-half, shifted-even}
+use lib.Bits.{bitAnd, bitOr, or-step, and-mask, and-le-l, or-zero-r}
 use lib.Count.{ones, ones-step, ones-le}
 use Rattle.definitions.specs.Lists.{keep, range, below}
 use Rattle.definitions.specs.Closure.{has, bit}
@@ -46,6 +46,9 @@ unfolding bit
 digit zero h = refl
 digit (suc zero) h = refl
 digit (suc (suc r)) h = absurd (omega arith)
+
+halved : (k b : ℕ) → b / 2 ^ suc k ≡ b / 2 / 2 ^ k
+halved k b = ap (λ (e : ℕ). b / 2 ^ e) (omega arith) ∙ sym (shr-shr b 1 k)
 
 pub bit-none : (k : ℕ) → bitOf 0 k ≡ false
 unfolding bitOf
@@ -85,19 +88,10 @@ byte-below (true ∷ xs) = omega (arith, byte-below xs, pow-suc 2 (length xs))
 byte-below (false ∷ xs) = omega (arith, byte-below xs, pow-suc 2 (length xs))
 
 -- the test of bit k
-pub and-bit : (k b : ℕ) → bitAnd b (2 ^ k) ≡ cond (bitOf b k) (2 ^ k) 0
-unfolding bitOf bit
-and-bit zero b = and-mask b 1 ∙ sym (digit (b % 2) (omega arith))
-and-bit (suc k) b = and-next ∙ ap (λ (x : ℕ). x * 2) (and-bit k (b / 2)) ∙ doubled (bitOf (b / 2) k)
-  where
-    and-next : bitAnd b (2 ^ suc k) ≡ bitAnd (b / 2) (2 ^ k) * 2
-    and-next =
-        and-step b (2 ^ suc k) ∙ ap₂ (λ (x y : ℕ). bitAnd (b / 2) x * 2 + min (b % 2) y) (power-half k) (power-even k)
-        ∙ ap (λ (y : ℕ). bitAnd (b / 2) (2 ^ k) * 2 + y) (min-zero (b % 2)) ∙ add-zero (bitAnd (b / 2) (2 ^ k) * 2)
-
-    doubled : (x : Bool) → cond x (2 ^ k) 0 * 2 ≡ cond x (2 ^ suc k) 0
-    doubled true = sym (pow-suc 2 k)
-    doubled false = refl
+shifted-bit : (k b : ℕ) → eqb (b / 2 ^ k % 2) 1 ≡ bitOf b k
+unfolding bitOf
+shifted-bit zero b = let e : b / 2 ^ 0 ≡ b = omega arith in ap (λ (x : ℕ). eqb (x % 2) 1) e
+shifted-bit (suc k) b = ap (λ (x : ℕ). eqb (x % 2) 1) (halved k b) ∙ shifted-bit k (b / 2)
 
 -- bit k set
 or-lowest : (b : ℕ) → bitOr b 1 ≡ b / 2 * 2 + 1
@@ -131,24 +125,23 @@ or-others (suc k) b (suc j) ne = ap (λ (x : ℕ). bitOf x j) (or-half k b) ∙ 
 
 -- the u lowest bits cleared
 clear-next : (u b : ℕ) → b / 2 ^ suc u * 2 ^ suc u ≡ b / 2 / 2 ^ u * 2 ^ u * 2
-clear-next u b = ap₂ (λ (x y : ℕ). x * y) (quotient) (pow-suc 2 u) ∙ sym (mul-assoc (b / 2 / 2 ^ u) (2 ^ u) 2)
-  where
-    quotient : b / 2 ^ suc u ≡ b / 2 / 2 ^ u
-    quotient = ap (λ (e : ℕ). b / 2 ^ e) (omega arith) ∙ sym (shr-shr b 1 u)
+clear-next u b = ap₂ (λ (x y : ℕ). x * y) (halved u b) (pow-suc 2 u) ∙ sym (mul-assoc (b / 2 / 2 ^ u) (2 ^ u) 2)
 
 pub low-cleared : (u b j : ℕ) → j < u → bitOf (b / 2 ^ u * 2 ^ u) j ≡ false
 unfolding bitOf
 low-cleared zero b j h = absurd (omega arith)
 low-cleared (suc u) b zero h = ap (λ (x : ℕ). eqb (x % 2) 1) (clear-next u b) ∙ ap (λ (r : ℕ). eqb r 1) (even (b / 2 / 2 ^ u * 2 ^ u))
 low-cleared (suc u) b (suc j) h =
-    ap (λ (x : ℕ). bitOf (x / 2) j) (clear-next u b) ∙ ap (λ (x : ℕ). bitOf x j) (back (b / 2 / 2 ^ u * 2 ^ u)) ∙ low-cleared u (b / 2) j (let z = h in omega arith)
+    ap (λ (x : ℕ). bitOf (x / 2) j) (clear-next u b) ∙ ap (λ (x : ℕ). bitOf x j) (back (b / 2 / 2 ^ u * 2 ^ u))
+    ∙ low-cleared u (b / 2) j (let z = h in omega arith)
 
 pub high-kept : (u b j : ℕ) → u ≤ j → bitOf (b / 2 ^ u * 2 ^ u) j ≡ bitOf b j
 unfolding bitOf
 high-kept zero b j h = let e : b / 2 ^ 0 * 2 ^ 0 ≡ b = omega arith in ap (λ (x : ℕ). bitOf x j) e
 high-kept (suc u) b zero h = absurd (omega arith)
 high-kept (suc u) b (suc j) h =
-    ap (λ (x : ℕ). bitOf (x / 2) j) (clear-next u b) ∙ ap (λ (x : ℕ). bitOf x j) (back (b / 2 / 2 ^ u * 2 ^ u)) ∙ high-kept u (b / 2) j (let z = h in omega arith)
+    ap (λ (x : ℕ). bitOf (x / 2) j) (clear-next u b) ∙ ap (λ (x : ℕ). bitOf x j) (back (b / 2 / 2 ^ u * 2 ^ u))
+    ∙ high-kept u (b / 2) j (let z = h in omega arith)
 
 keep-first : (p : ℕ → Bool) (x : ℕ) (xs : List ℕ) → length (keep p (x ∷ xs)) ≡ bit (p x) + length (keep p xs)
 unfolding keep bit
@@ -213,15 +206,9 @@ pub alone-positive : (k : ℕ) → k < 8 → 0 < 1 * 2 ^ k % 256
 alone-positive k h = rw (bit-alone k h) (pow-pos k)
 
 -- the test of a mark
-pub test-mark : (ms : List ℕ) (l : ℕ) → not (eqb (bitAnd (getD ms (l / 8) 0) (1 * 2 ^ (l % 8) % 256)) 0) ≡ marked ms l
+pub test-mark : (ms : List ℕ) (l : ℕ) → eqb (getD ms (l / 8) 0 / 2 ^ (l % 8) % 2) 1 ≡ marked ms l
 unfolding marked
-test-mark ms l =
-    ap (λ (x : ℕ). not (eqb (bitAnd (getD ms (l / 8) 0) x) 0)) (bit-alone (l % 8) (omega arith))
-    ∙ ap (λ (x : ℕ). not (eqb x 0)) (and-bit (l % 8) (getD ms (l / 8) 0)) ∙ go (bitOf (getD ms (l / 8) 0) (l % 8))
-  where
-    go : (b : Bool) → not (eqb (cond b (2 ^ (l % 8)) 0) 0) ≡ b
-    go true = ap not (ne-eqb (2 ^ (l % 8)) 0 (λ e. let z = pow-pos (l % 8) in omega arith))
-    go false = refl
+test-mark ms l = shifted-bit (l % 8) (getD ms (l / 8) 0)
 
 -- a literal is marked
 module _ (ms : List ℕ) (l : ℕ) (inside : l / 8 < length ms) where
@@ -396,7 +383,9 @@ module _ (N : ℕ) (ms : List ℕ) where
       ∙ sym (count-last ms (N / 4) (2 * (N % 4)) (omega arith)) ∙ ap (λ (n : ℕ). length (keep (marked ms) (below n))) (sym parts)
 
   pub masked-low : getD ms (N / 4) 0 < 256 → ones (bitAnd (getD ms (N / 4) 0) (1 * 2 ^ (2 * (N % 4)) % 256 - 1)) ≤ 8
-  masked-low low = ones-byte (bitAnd (getD ms (N / 4) 0) (1 * 2 ^ (2 * (N % 4)) % 256 - 1)) (let z = and-le-l (getD ms (N / 4) 0) (1 * 2 ^ (2 * (N % 4)) % 256 - 1) in omega arith)
+  masked-low low =
+      let mask = 1 * 2 ^ (2 * (N % 4)) % 256 - 1 in
+      ones-byte (bitAnd (getD ms (N / 4) 0) mask) (let z = and-le-l (getD ms (N / 4) 0) mask in omega arith)
 
 -- ---- the marks of a set
 number-at : (f : ℕ → Bool) (d : Bool) (n k : ℕ) → k < n → getD (map f (below n)) k d ≡ f k

@@ -1,6 +1,6 @@
 -- The closure shown ("what a set says about one operator", document 02 §7; questions 1-9, 19, 13). Assumes nothing.
 use mathlib.Core.Path.{_≡_}
-use mathlib.Core.List.{List, _++_}
+use mathlib.Core.List.{List}
 use Prim.Native.Nat.{ℕ, _*_, _≤_, _<_}
 use lib.Dec.{ltb, leb}
 use lib.ListN.{length, drop}

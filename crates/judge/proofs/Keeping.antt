@@ -2,7 +2,7 @@
 use mathlib.Core.Bool.{Bool, true, false, not}
 use mathlib.Core.Path.{_≡_, refl, sym, _∙_, ap, subst}
 use mathlib.Core.List.{List, [], _∷_}
-use Prim.Native.Nat.{ℕ, _*_, _≤_, _<_}
+use Prim.Native.Nat.{ℕ, _≤_, _<_}
 use native.Mathlib.Nat.{mul-zero}
 use native.Mathlib.Omega.{arith}
 use lib.ListN.{length}
@@ -102,7 +102,13 @@ module _ (w c f : List ℕ) where
     keeps-marks : i < length (taskOf w .operators) → marks < markBytes (taskOf w .atoms) → refused (refusalAt 13 0 0) ≡ keeps w c f i marks
     unfolding keeps _>>=_ ask askAt
     keeps-marks inside h =
-        rw (read .task .found, read .clauses .read, read .clause .read, lt-ltb i (length (taskOf w .operators)) inside, lt-leb (markBytes (taskOf w .atoms)) marks h)
+        rw (
+          read .task .found,
+          read .clauses .read,
+          read .clause .read,
+          lt-ltb i (length (taskOf w .operators)) inside,
+          lt-leb (markBytes (taskOf w .atoms)) marks h,
+        )
 
     pub input-operator :
         length (taskOf w .operators) ≤ i → (v : Verdict) → verdictAnswer v ≡ refused (refusalAt 19 0 0) → InputAnswer w c f i marks v

@@ -7,8 +7,8 @@ use Prim.Native.Nat.{ℕ, _*_, _≤_, _<_}
 use lib.ListN.{length, getD}
 use Rattle.definitions.specs.Lists.{member}
 use Rattle.definitions.specs.Literal.{complement}
-use Rattle.definitions.specs.Closure.{has, closure, contradictory}
-use Rattle.definitions.specs.Marks.{markBytes, marked}
+use Rattle.definitions.specs.Closure.{closure, contradictory}
+use Rattle.definitions.specs.Marks.{markBytes}
 use Rattle.definitions.proofs.ListLaws.{decide, never, member-in, member-of}
 use Rattle.definitions.proofs.LiteralLaws.{below-at}
 use Rattle.definitions.proofs.ClosureLeast.{closure-holds}
@@ -19,7 +19,7 @@ use Rattle.clause.proofs.ClauseLaws.{clause-below}
 use Rattle.propagation.specs.declared.Pass.{Pass}
 use Rattle.propagation.specs.declared.Pass.the-variants as pass
 use Rattle.propagation.specs.Marks.{Marked, Asked, closingOf, Closes}
-use Rattle.propagation.specs.Walk.{setOf, In, Part, Lists, ClosedUnder, Clash, Sound, RestKept, Cleared, Room, Ready}
+use Rattle.propagation.specs.Walk.{setOf, In, Part, Lists, ClosedUnder, Sound, RestKept, Cleared, Room, Ready}
 use Rattle.propagation.specs.Walk.{Added, Seeded, Reached, Passed, Saturated, Closure, Propagated}
 use Rattle.propagation.proofs.Sets.{clash-of, clash-any}
 use Rattle.propagation.proofs.ClosureLaws.{closure-lowest, closure-under, closure-mono, clash-contradictory}
@@ -41,7 +41,9 @@ module _ (stops : Bool) (w s₀ s s′ : List ℕ) (r : Reached stops (clausesOf
   saturate-clash p = (p .0, λ T c q. p .1 T c (r .least T c q))
 
 -- what adding the literals of a list did, where no complement was met
-pub seeded-added : (stops : Bool) (s₀ ls s : List ℕ) (answer : Pass) → (answer ≡ pass.Contradictory → ⊥) → Sound stops s₀ → Seeded stops s₀ ls s answer → Added stops s₀ ls s
+pub seeded-added :
+    (stops : Bool) (s₀ ls s : List ℕ) (answer : Pass) → (answer ≡ pass.Contradictory → ⊥) → Sound stops s₀ → Seeded stops s₀ ls s answer
+    → Added stops s₀ ls s
 seeded-added stops s₀ ls s pass.Same ne sound p =
     subst (Added stops s₀ ls) (sym (p .0)) (record { sound = sound; above = λ l q. q; holds = p .1; least = λ T q z. q })
 seeded-added stops s₀ ls s pass.Grown ne sound p = p .0

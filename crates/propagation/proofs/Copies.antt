@@ -1,11 +1,11 @@
 -- Marks copied to the front of others stand for the same set. Assumes nothing.
 use mathlib.Core.Path.{_≡_, _∙_, ap}
-use mathlib.Core.List.{List, _++_}
-use Prim.Native.Nat.{ℕ, _*_, _/_, _≤_, _<_}
+use mathlib.Core.List.{List}
+use Prim.Native.Nat.{ℕ, _/_, _≤_, _<_}
 use native.Mathlib.Omega.{arith}
 use lib.ListN.{length, getD, take, drop, List·getD-append}
 use lib.Seq.{length-take-le, getD-take}
-use Rattle.definitions.specs.Marks.{markBytes, marked}
+use Rattle.definitions.specs.Marks.{markBytes}
 use Rattle.definitions.proofs.MarkBits.{mark-inside, marked-byte}
 use Rattle.writing.specs.Writing.{Wrote}
 use Rattle.writing.proofs.Writes.{wrote-size, wrote-front}

@@ -54,7 +54,9 @@ module _ (stops : Bool) (s₀ ls s : List ℕ) (i x : ℕ) (answer : Pass) (k : 
   -- what is left is the literal itself and those after it
   left : (T : List ℕ) → Part s T → In T x → (l : ℕ) → member l ls ≡ true → In T l ⊎ (member l (drop (i + 1) ls) ≡ true)
   unfolding member any
-  left T up here l m = ⊎-elim (λ p. inl (up l p)) (λ z. next (or-cases (eqb l x) (member l (drop (i + 1) ls)) (rw (left-here ls i 0 x at inside) at z))) (k .holds l m)
+  left T up here l m =
+      ⊎-elim (λ p. inl (up l p)) (λ z. next (or-cases (eqb l x) (member l (drop (i + 1) ls)) (rw (left-here ls i 0 x at inside) at z)))
+      (k .holds l m)
     where
       next : (eqb l x ≡ true) ⊎ (member l (drop (i + 1) ls) ≡ true) → In T l ⊎ (member l (drop (i + 1) ls) ≡ true)
       next (inl e) = inl (rw (eqb-true l x e) here)

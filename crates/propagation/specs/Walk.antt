@@ -87,6 +87,10 @@ pub record Ready (stops : Bool) (atoms : ℕ) (ws ms : List ℕ) : Type 0 where
   pub marks : Room stops atoms ms
   pub rows : ClausesRead atoms ws
 
+-- u is fill, or its complement is not marked
+abbrev pub KnownOpen : List ℕ → ℕ → Type 0
+KnownOpen ms u = (u ≡ fill → ⊥) → marked ms (complement u) ≡ false
+
 -- what a word w, whose complement is marked or not, adds to the scan of a row whose open literal so far is u, or fill if there is none
 abbrev pub Scanned : Bool → ℕ → ℕ → Scan → Type 0
 Scanned off w u scan.Same = (w ≡ fill → ⊥) → off ≡ true

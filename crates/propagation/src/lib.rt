@@ -4,7 +4,7 @@ use clause::WIDTH;
 use clause::place::RowPlace;
 use literal::Literal;
 ghost use mathlib.Core.Path.{_≡_};
-ghost use mathlib.Core.Bool.{true, _&&_};
+ghost use mathlib.Core.Bool.{true, not, _&&_};
 ghost use mathlib.Core.List.{List, _++_};
 ghost use Prim.Native.Nat.{ℕ, _*_, _/_, _<_};
 ghost use lib.ListN.{length, drop};
@@ -14,7 +14,7 @@ ghost use Rattle.definitions.specs.Closure.{has, closure};
 ghost use Rattle.definitions.specs.Marks.{markBytes, marked, marksOf};
 ghost use Rattle.clause.specs.Rows.{clausesOf};
 ghost use Rattle.propagation.specs.Marks.{Marked, ConsistentMarks, Asked, closingOf, Closes};
-ghost use Rattle.propagation.specs.Walk.{setOf, Room, Ready, RestKept, Scanned, Forcing, forcedOf, Seeded, Passed, Saturated, Propagated};
+ghost use Rattle.propagation.specs.Walk.{setOf, Room, Ready, RestKept, KnownOpen, Scanned, Forcing, forcedOf, Seeded, Passed, Saturated, Propagated};
 
 pub mod marks; // marks.rt: a bit for each literal
 
@@ -55,15 +55,26 @@ fn is_false(marks: &[u8], l: u16) -> bool
     marks::is_marked(marks, opposite.index())
 }
 
-// What `word` adds to the scan of a row whose first open literal is `first`, or fill if there is none.
-fn scan_word(marks: &[u8], word: u16, first: u16) -> Scan
-    requires { ⌜ ((word ≡ fill → ⊥) → complement word / 8 < length (now marks)) ⌝ }
+// Whether the complement of literal `l` is not marked, where that of `known`, unless it is fill, is known not to be.
+fn is_open(marks: &[u8], l: u16, known: u16) -> bool
+    requires { ⌜ (l < 65535) × (complement l / 8 < length (now marks)) × KnownOpen (now marks) known ⌝ }
+    ensures { λ r. ⌜ r ≡ not (marked (now (marks .entry)) (complement l)) ⌝ }
+{
+    if l == known {
+        return true;
+    }
+    !is_false(marks, l)
+}
+
+// What `word` adds to the scan of a row whose first open literal is `first`, or fill if there is none. `known` is as in `is_open`.
+fn scan_word(marks: &[u8], word: u16, first: u16, known: u16) -> Scan
+    requires { ⌜ ((word ≡ fill → ⊥) → complement word / 8 < length (now marks)) × KnownOpen (now marks) known ⌝ }
     ensures { λ r. ⌜ Scanned (marked (now (marks .entry)) (complement word)) word first r ⌝ }
 {
     if word == Literal::FILL {
         return Scan::Same;
     }
-    if is_false(marks, word) {
+    if !is_open(marks, word, known) {
         return Scan::Same;
     }
     if first != Literal::FILL {
@@ -119,13 +130,15 @@ fn force(row: &[u16], first: u16, marks: &mut [u8], atoms: usize, stops: bool) -
 
 // Walks over the clauses and the literals of each, and marks each literal that follows: a clause with two open literals forces nothing,
 // one with one forces it, one with none all of its literals. If `stops`, it is left at the first complement met. Of whole rows one begins
-// wherever words are left.
+// wherever words are left. Rows ascend, so that many begin with the same literal: `known` is an open literal that is not looked at again,
+// until something is marked, or fill.
 fn walk(clauses: &[u16], marks: &mut [u8], atoms: usize, stops: bool) -> Pass
     requires { ⌜ Ready stops atoms (now clauses) (now marks) ⌝ }
     ensures { λ r. ⌜ RestKept atoms (now (marks .entry)) (now (marks .exit))
         × Passed stops (now (clauses .entry)) (setOf atoms (now (marks .entry))) (setOf atoms (now (marks .exit))) r ⌝ }
 {
     let mut pass = Pass::Same;
+    let mut known = Literal::FILL;
     let mut place = RowPlace::first();
     'walk: while place.at < clauses.len() {
         let here = place;
@@ -134,13 +147,14 @@ fn walk(clauses: &[u16], marks: &mut [u8], atoms: usize, stops: bool) -> Pass
         let mut k: usize = 0;
         while k < WIDTH {
             let word = clauses[here.at + k];
-            let scan = scan_word(marks, word, first);
+            let scan = scan_word(marks, word, first, known);
             match scan {
                 Scan::Same => {}
                 Scan::First => {
                     first = word;
                 }
                 Scan::Second => {
+                    known = first;
                     continue 'walk;
                 }
             }
@@ -151,6 +165,7 @@ fn walk(clauses: &[u16], marks: &mut [u8], atoms: usize, stops: bool) -> Pass
             Pass::Same => {}
             Pass::Grown => {
                 pass = Pass::Grown;
+                known = Literal::FILL;
             }
             Pass::Contradictory => {
                 pass = Pass::Contradictory;

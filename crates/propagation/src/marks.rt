@@ -35,7 +35,7 @@ pub(crate) fn is_marked(marks: &[u8], l: usize) -> bool
     requires { ⌜ l / 8 < length (now marks) ⌝ }
     ensures { λ r. ⌜ r ≡ marked (now (marks .entry)) l ⌝ }
 {
-    marks[l / 8] & (1 << (l % 8)) != 0
+    (marks[l / 8] as usize >> (l % 8)) % 2 == 1
 }
 
 // Whether literal `l` is marked.

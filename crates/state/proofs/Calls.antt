@@ -18,9 +18,9 @@ use Rattle.task.specs.Reads.{taskOf}
 use Rattle.task.specs.Walk.{operatorIn}
 use Rattle.task.specs.Post.{BlockGiven}
 use Rattle.task.proofs.Questions.{reads}
-use Rattle.state.specs.Marks.{markFired, changed, unmarked}
+use Rattle.state.specs.Flags.{flagFired, changed, unflagged}
 use Rattle.state.specs.Post.{taskReader, applied, Standing, Applies}
-use Rattle.state.proofs.Marks.{marks-result, marks-gone}
+use Rattle.state.proofs.Flags.{flags-result, flags-gone}
 
 -- questions 1 to 7 and 18 are answered yes
 pub standing : (w s : List ℕ) → finding tt ≡ stateAnswer taskReader w s → Standing w s
@@ -60,17 +60,17 @@ module _ (s : List ℕ) (o : Operator) where
   unfolding applied applicable
   applied-done h s′ e = done s (applied s o) s′ (ap finding e ∙ question-yes 20 (applicable s o) _ h)
 
--- ---- the effects, by the marks of the rows that fire
-module _ (b s m : List ℕ) (a : Applies b s m) (m′ : List ℕ) (em : m′ ≡ markFired s (operatorIn b .rows) m) where
-  marked : m′ ≡ markFired s (operatorIn b .rows) (replicate (2 * length s) 0)
-  marked = em ∙ ap (markFired s (operatorIn b .rows)) (a .blank)
+-- ---- the effects, by the flags of the rows that fire
+module _ (b s m : List ℕ) (a : Applies b s m) (m′ : List ℕ) (em : m′ ≡ flagFired s (operatorIn b .rows) m) where
+  flagged : m′ ≡ flagFired s (operatorIn b .rows) (replicate (2 * length s) 0)
+  flagged = em ∙ ap (flagFired s (operatorIn b .rows)) (a .blank)
 
   -- the deletes are made true, and then the adds
   module _
-      (m₁ s₁ : List ℕ) (deletes : (s₁ ≡ changed false (operatorIn b .rows) m′ s) × (m₁ ≡ unmarked false (operatorIn b .rows) m′))
-      (m₂ s₂ : List ℕ) (adds : (s₂ ≡ changed true (operatorIn b .rows) m₁ s₁) × (m₂ ≡ unmarked true (operatorIn b .rows) m₁)) where
+      (m₁ s₁ : List ℕ) (deletes : (s₁ ≡ changed false (operatorIn b .rows) m′ s) × (m₁ ≡ unflagged false (operatorIn b .rows) m′))
+      (m₂ s₂ : List ℕ) (adds : (s₂ ≡ changed true (operatorIn b .rows) m₁ s₁) × (m₂ ≡ unflagged true (operatorIn b .rows) m₁)) where
     pub rows-applied : s₂ ≡ result s (operatorIn b)
-    rows-applied = adds .0 ∙ rw (deletes .0, deletes .1, marked) (marks-result s (operatorIn b))
+    rows-applied = adds .0 ∙ rw (deletes .0, deletes .1, flagged) (flags-result s (operatorIn b))
 
-    pub marks-cleared : m₂ ≡ m
-    marks-cleared = adds .1 ∙ rw (deletes .1, marked) (marks-gone s (operatorIn b) (2 * length s)) ∙ sym (a .blank)
+    pub flags-cleared : m₂ ≡ m
+    flags-cleared = adds .1 ∙ rw (deletes .1, flagged) (flags-gone s (operatorIn b) (2 * length s)) ∙ sym (a .blank)

@@ -35,7 +35,7 @@ pub record Standing (w s : List ℕ) : Type 0 where
   pub reads : Reads w
   pub size : length s ≡ taskOf w .atoms
 
--- the block of an operator, and marks of the literals of a state that are all zero
+-- the block of an operator, and flags of the literals of a state that are all zero
 pub record Applies (b s m : List ℕ) : Type 0 where
   pub parses : blockParses b ≡ true
   pub blank : m ≡ replicate (2 * length s) 0

@@ -12,7 +12,7 @@ ghost use Rattle.answer.specs.Answer.{verdictAnswer, testAnswer, countAnswer};
 ghost use Rattle.answer.specs.Reader.{stateAnswer};
 ghost use Rattle.task.specs.Reads.{taskOf, Reads};
 ghost use Rattle.task.specs.Walk.{blockParses, operatorIn};
-ghost use Rattle.state.specs.Marks.{setTrue};
+ghost use Rattle.state.specs.Flags.{setTrue};
 ghost use Rattle.state.specs.Post.{taskReader, Standing, Applies, applied};
 use answer::Counted;
 use answer::Refusal;
@@ -45,31 +45,31 @@ fn precondition_holds(block: &[u16], state: &[u8]) -> bool
     literal::all_true(state, &block[1..end])
 }
 
-// A step by the block of its operator, with marks that are all zero before and after: question 20.
-fn step_block(block: &[u16], state: &mut [u8], marks: &mut [u8]) -> Verdict
-    requires { ⌜ Applies (now block) (now state) (now marks) ⌝ }
+// A step by the block of its operator, with flags that are all zero before and after: question 20.
+fn step_block(block: &[u16], state: &mut [u8], flags: &mut [u8]) -> Verdict
+    requires { ⌜ Applies (now block) (now state) (now flags) ⌝ }
     ensures { λ r. ⌜ (outcome (verdictAnswer r) (now (state .exit))
         ≡ becomes (now (state .entry)) (applied (now (state .entry)) (operatorIn (now (block .entry)))))
-        × (now (marks .exit) ≡ now (marks .entry)) ⌝ }
+        × (now (flags .exit) ≡ now (flags .entry)) ⌝ }
 {
     if !precondition_holds(block, state) {
         return answer::refuse(Refusal::PRECONDITION);
     }
-    effect::apply(block, state, marks);
+    effect::apply(block, state, flags);
     Verdict::Fine
 }
 
-// A step in a task's state, with marks for its literals that are all zero before and after: questions 19 and 20.
-fn step_marked(image: &[u16], state: &mut [u8], operator: usize, marks: &mut [u8]) -> Verdict
-    requires { ⌜ Standing (now image) (now state) × (now marks ≡ replicate (2 * taskOf (now image) .atoms) 0) ⌝ }
+// A step in a task's state, with flags for its literals that are all zero before and after: questions 19 and 20.
+fn step_flagged(image: &[u16], state: &mut [u8], operator: usize, flags: &mut [u8]) -> Verdict
+    requires { ⌜ Standing (now image) (now state) × (now flags ≡ replicate (2 * taskOf (now image) .atoms) 0) ⌝ }
     ensures { λ r. ⌜ (outcome (verdictAnswer r) (now (state .exit))
         ≡ becomes (now (state .entry)) (step (taskOf (now (image .entry))) (now (state .entry)) operator))
-        × (now (marks .exit) ≡ now (marks .entry)) ⌝ }
+        × (now (flags .exit) ≡ now (flags .entry)) ⌝ }
 {
     if task::operators(image) <= operator {
         return answer::refuse(Refusal::OPERATOR_NUMBER);
     }
-    step_block(task::operator_block(image, operator), state, marks)
+    step_block(task::operator_block(image, operator), state, flags)
 }
 
 // A step in a task's state: questions 19 and 20.
@@ -78,9 +78,9 @@ fn step_read(image: &[u16], state: &mut [u8], operator: u16) -> Verdict
     ensures { λ r. ⌜ outcome (verdictAnswer r) (now (state .exit))
         ≡ becomes (now (state .entry)) (step (taskOf (now (image .entry))) (now (state .entry)) operator) ⌝ }
 {
-    let mut marks = [0u8; literal::MOST_LITERALS];
+    let mut flags = [0u8; literal::MOST_LITERALS];
     let count = 2 * task::atoms(image);
-    step_marked(image, state, literal::wide(operator), &mut marks[..count])
+    step_flagged(image, state, literal::wide(operator), &mut flags[..count])
 }
 
 // A step, done in the lent state.
@@ -95,15 +95,15 @@ pub fn step(image: &[u16], state: &mut [u8], operator: u16) -> Verdict
     step_read(image, state, operator)
 }
 
-// The steps of a list in a task's state, with marks for its literals that are all zero: questions 19 and 20 of each operator of the list.
-fn run_marked(image: &[u16], state: &mut [u8], list: &[u16], marks: &mut [u8]) -> Counted
-    requires { ⌜ Standing (now image) (now state) × (now marks ≡ replicate (2 * taskOf (now image) .atoms) 0) ⌝ }
+// The steps of a list in a task's state, with flags for its literals that are all zero: questions 19 and 20 of each operator of the list.
+fn run_flagged(image: &[u16], state: &mut [u8], list: &[u16], flags: &mut [u8]) -> Counted
+    requires { ⌜ Standing (now image) (now state) × (now flags ≡ replicate (2 * taskOf (now image) .atoms) 0) ⌝ }
     ensures { λ r. ⌜ outcome (countAnswer r) (now (state .exit))
         ≡ runFrom (step (taskOf (now (image .entry)))) (now (state .entry)) 0 (now (list .entry)) ⌝ }
 {
     let mut steps: usize = 0;
     while steps < list.len() {
-        let stepped = step_marked(image, state, literal::wide(list[steps]), marks);
+        let stepped = step_flagged(image, state, literal::wide(list[steps]), flags);
         match stepped {
             Verdict::Refused(f) => {
                 return Counted::Refused(Refusal {
@@ -125,9 +125,9 @@ fn run_read(image: &[u16], state: &mut [u8], list: &[u16]) -> Counted
     ensures { λ r. ⌜ outcome (countAnswer r) (now (state .exit))
         ≡ runFrom (step (taskOf (now (image .entry)))) (now (state .entry)) 0 (now (list .entry)) ⌝ }
 {
-    let mut marks = [0u8; literal::MOST_LITERALS];
+    let mut flags = [0u8; literal::MOST_LITERALS];
     let count = 2 * task::atoms(image);
-    run_marked(image, state, list, &mut marks[..count])
+    run_flagged(image, state, list, &mut flags[..count])
 }
 
 // A list run, done in the lent state. A refused one keeps the steps that it took.

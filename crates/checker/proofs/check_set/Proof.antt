@@ -79,7 +79,8 @@ slice-aggregate-check-kept c = search needs
 check-kept-requires : tie.Need-check-kept-requires
 check-kept-requires c κs =
     let d = initial-of (holds-of c) .before in
-    (read d, omega (arith, reading d .marked, ap markBytes (d .atoms .ensures .0)), omega (arith, read-count _ _ (read d .clauses), c .before .before .flags-room .ensures))
+    let counted = ap markBytes (d .atoms .ensures .0) in
+    (read d, omega (arith, reading d .marked, counted), omega (arith, read-count _ _ (read d .clauses), c .before .before .flags-room .ensures))
 
 same-length : tie.Need-same-length
 same-length c = search needs

@@ -1,6 +1,5 @@
 -- `propagation::close_fully`: the marks of the atoms are cleared, then those of the whole closure set.
 use native.Mathlib.Omega.{arith}
-use denote.Ref.{now}
 use Rattle.definitions.proofs.MarkBits.{newMarks}
 use Rattle.propagation.proofs.Closed.{ready-cleared, close-whole}
 use borrow.Author.Needs.{needs}

@@ -65,7 +65,9 @@ seed-requires : tie.Need-seed-requires
 seed-requires c κs =
     let l = c .before in
     let t = l .before in
-    (start-all t .pre .0, subst (λ (x : List ℕ). allBelow (2 * start-all t .args .atoms) x ≡ true) (all-of-row t ∙ sym (l .literals .ensures)) (start-all t .pre .1 .low))
+    let s = start-all t in
+    let low = subst (λ (x : List ℕ). allBelow (2 * s .args .atoms) x ≡ true) (all-of-row t ∙ sym (l .literals .ensures)) (s .pre .1 .low) in
+    (s .pre .0, low)
 
 same-length : tie.Need-same-length
 same-length c = search needs

@@ -11,7 +11,7 @@ use denote.Ref.{now}
 use Rattle.propagation.specs.declared.Pass.{Pass}
 use Rattle.propagation.specs.declared.Pass.the-variants.{Contradictory}
 use Rattle.propagation.proofs.Pass.{the-type}
-use Rattle.propagation.specs.Walk.{setOf, RestKept, Added, Seeded}
+use Rattle.propagation.specs.Walk.{setOf, Added, Seeded}
 use Rattle.propagation.proofs.View.{rest-on}
 use Rattle.propagation.proofs.Closed.{ready-on, seeded-added, propagate-clash, propagate-on}
 use borrow.Author.Needs.{needs}
@@ -71,7 +71,10 @@ added m =
     (start d .pre .0 .marks .sound) (d .seed .ensures .1)
 
 seed-requires : tie.Need-seed-requires
-seed-requires c κs = let s = c .before .before .before .before in (s .pre .0 .marks, s .pre .1)
+seed-requires c κs =
+    let k = c .before .before in
+    let s = k .before .before in
+    (s .pre .0 .marks, s .pre .1)
 
 enum-told : tie.Need-enum-told
 enum-told c = search needs

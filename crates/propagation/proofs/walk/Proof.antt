@@ -1,7 +1,7 @@
 -- `propagation::walk`: the state of the walk over the clauses, and within a row that of the scan.
-use Prim.Native.Nat.{ℕ, _≤_, _<_, _-_, _+_, _*_, _/_}
-use mathlib.Core.Path.{_≡_, sym, _∙_, subst}
-use mathlib.Core.Bool.{Bool, true}
+use Prim.Native.Nat.{ℕ, _≤_, _<_, _-_, _+_, _*_}
+use mathlib.Core.Path.{_≡_, refl, sym, _∙_, ap, subst}
+use mathlib.Core.Bool.{Bool, true, false}
 use mathlib.Core.Logic.{⊎-elim}
 use mathlib.Core.List.{List, List·Memᴰ}
 use native.Mathlib.Omega.{arith}
@@ -25,7 +25,7 @@ use Rattle.propagation.specs.declared.Pass.{Pass}
 use Rattle.propagation.specs.declared.Pass.the-variants.{Same, Grown, Contradictory}
 use Rattle.propagation.specs.declared.Scan.{Scan}
 use Rattle.propagation.specs.declared.Scan.the-variants as scan
-use Rattle.propagation.specs.Walk.{setOf, RestKept, Scanned, forcedOf, Forcing, Seeded, Ready, Passed}
+use Rattle.propagation.specs.Walk.{setOf, RestKept, KnownOpen, Scanned, forcedOf, Forcing, Seeded, Ready, Passed}
 use Rattle.propagation.proofs.Sets.{complement-below}
 use Rattle.propagation.proofs.View.{view-length, view-has, view-inside, rest-self, rest-on}
 use Rattle.propagation.proofs.Scans.{Scanning, scanned-on, scan-start, word-in, scan-same, scan-first, scan-second, scan-forced, scan-all, scan-forcing}
@@ -35,19 +35,27 @@ use borrow.Author.Needs.{needs}
 use Rattle.propagation.proofs.walk.Statement.{statement}
 use Rattle.propagation.proofs.walk.Tie as tie
 
+-- a literal whose complement is not in the set, or fill
+abbrev Open : ℕ → List ℕ → ℕ → Type 0
+Open atoms marks u = (u ≡ fill → ⊥) → (u < 2 * atoms) × (has (setOf atoms marks) (complement u) ≡ false)
+
+not-open : (atoms : ℕ) (marks : List ℕ) → Open atoms marks fill
+not-open atoms marks ne = absurd (ne refl)
+
 abbrev Inv-loop : tie.InvT-loop
-Inv-loop clauses marks atoms stops pass place here first₀ k₀ first k =
-    (k ≤ width) × Scanning clauses (setOf atoms marks) (here .at) k first
+Inv-loop clauses marks atoms stops pass known₀ place here first₀ k₀ known first k =
+    (k ≤ width) × Scanning clauses (setOf atoms marks) (here .at) k first × Open atoms marks known
 
 abbrev μ-loop : tie.MeasureT-loop
-μ-loop clauses marks atoms stops pass place here first₀ k₀ first k = width - k
+μ-loop clauses marks atoms stops pass known₀ place here first₀ k₀ known first k = width - k
 
 abbrev Inv-walk : tie.InvT-walk
-Inv-walk clauses marks₀ atoms stops pass₀ place₀ marks pass place =
+Inv-walk clauses marks₀ atoms stops pass₀ known₀ place₀ marks pass known place =
     Placed clauses place × RestKept atoms marks₀ marks × Walk stops clauses (setOf atoms marks₀) (setOf atoms marks) (place .at) pass
+    × Open atoms marks known
 
 abbrev μ-walk : tie.MeasureT-walk
-μ-walk clauses marks₀ atoms stops pass₀ place₀ marks pass place = rowCount clauses - place .number
+μ-walk clauses marks₀ atoms stops pass₀ known₀ place₀ marks pass known place = rowCount clauses - place .number
 
 -- at the outer loop's head: the clause words
 abbrev head : Type 0
@@ -143,26 +151,30 @@ row-below w l m =
 less-left : (w : outer) → let c = rowCount (words w) in c - w .next .result .number < c - at-head w .walk .place .number
 less-left w = fewer-left (at-row-of w) (w .next .ensures)
 
-abbrev On : outer → List ℕ → Pass → Type 0
-On w ms a =
+abbrev On : outer → List ℕ → Pass → ℕ → Type 0
+On w ms a u =
     Placed (words w) (w .next .result) × RestKept (atoms w) (marks-first w) ms
-    × Walk (stops w) (words w) (set-first w) (setOf (atoms w) ms) (w .next .result .at) a
+    × Walk (stops w) (words w) (set-first w) (setOf (atoms w) ms) (w .next .result .at) a × Open (atoms w) ms u
 
 on :
-    (w : outer) (ms : List ℕ) (a : Pass) → RestKept (atoms w) (marks-first w) ms
-    → Walk (stops w) (words w) (set-first w) (setOf (atoms w) ms) (position w + width) a → On w ms a
-on w ms a rest k = (
+    (w : outer) (ms : List ℕ) (a : Pass) (u : ℕ) → RestKept (atoms w) (marks-first w) ms
+    → Walk (stops w) (words w) (set-first w) (setOf (atoms w) ms) (position w + width) a → Open (atoms w) ms u → On w ms a u
+on w ms a u rest k unmarked = (
   placed-next (at-row-of w) (w .next .ensures),
   rest,
   subst (λ (x : ℕ). Walk (stops w) (words w) (set-first w) (setOf (atoms w) ms) x a) (sym (next-position (at-row-of w) (w .next .ensures))) k,
+  unmarked,
 )
 
 -- in the inner loop: the word
 abbrev inner : Type 0
 inner = tie.In-loop Inv-loop μ-loop Inv-walk μ-walk
 
+abbrev row-at : tie.At-loop Inv-loop μ-loop Inv-walk μ-walk → outer
+row-at h = h .before
+
 abbrev row-of : inner → outer
-row-of c = c .before .before
+row-of c = row-at (c .before)
 
 abbrev word : inner → ℕ
 word c = getD (words (row-of c)) (position (row-of c) + c .before .loop .k) 0
@@ -183,12 +195,19 @@ word-below c ne =
 complement-low : (c : inner) → (word c ≡ fill → ⊥) → complement (word c) < 2 * atoms (row-of c)
 complement-low c ne = complement-below (word c) (2 * atoms (row-of c)) (omega arith) (word-below c ne)
 
+-- the literal known to be open, by its mark
+known-open : (c : inner) → KnownOpen (marks-now (row-of c)) (c .before .loop .known)
+known-open c ne =
+    let w = row-of c in
+    let known = c .before .loop .inv .2 ne in
+    sym (view-has (atoms w) (marks-now w) _ (complement-below _ (2 * atoms w) (omega arith) (known .0))) ∙ known .1
+
 -- after the inner loop: the scan of the whole row
 abbrev after-row : Type 0
 after-row = tie.After-loop Inv-loop μ-loop Inv-walk μ-walk
 
 abbrev row : after-row → outer
-row c = c .before .before
+row c = row-at (c .before)
 
 abbrev opened : after-row → ℕ
 opened c = c .before .loop .first
@@ -275,19 +294,23 @@ module _ (f : followed) where
   all : (l : ℕ) → forces (set-now w) l (clauseAt (words w) (position w)) ≡ true → member l ls ≡ true
   all = scan-all (words w) (set-now w) (position w) k (opened a) (scanned a) (all-words a)
 
-  on-same : f .force .result ≡ Same → On w (f .force .last .1 .1 .0) (so-far w)
+  on-same : f .force .result ≡ Same → On w (f .force .last .1 .1 .0) (so-far w) (a .before .loop .known)
   on-same e =
-      on w (f .force .last .1 .1 .0) (so-far w) (rest-after f)
-      (force-same (stops w) (words w) (set-first w) (set-now w) (position w) (inside w) (so-far w) (state w) ls _ forced all (follows f Same e))
+      let p = follows f Same e in
+      on w (f .force .last .1 .1 .0) (so-far w) (a .before .loop .known) (rest-after f)
+      (force-same (stops w) (words w) (set-first w) (set-now w) (position w) (inside w) (so-far w) (state w) ls _ forced all p)
+      (λ ne. let q = a .before .loop .inv .2 ne in (q .0, ap (λ (s : List ℕ). has s (complement (a .before .loop .known))) (p .0) ∙ q .1))
 
-  on-more : f .force .result ≡ Grown → On w (f .force .last .1 .1 .0) Grown
+  on-more : f .force .result ≡ Grown → On w (f .force .last .1 .1 .0) Grown fill
   on-more e =
-      on w (f .force .last .1 .1 .0) Grown (rest-after f)
+      on w (f .force .last .1 .1 .0) Grown fill (rest-after f)
       (force-more (stops w) (words w) (set-first w) (set-now w) (position w) (inside w) (so-far w) (state w) ls _ forced all (follows f Grown e))
+      (not-open (atoms w) (f .force .last .1 .1 .0))
 
   left : f .force .result ≡ Contradictory → Passed (stops w) (words w) (set-first w) (setOf (atoms w) (f .force .last .1 .1 .0)) Contradictory
-  left e = force-clash (stops w) (words w) (set-first w) (set-now w) (position w) (inside w) (so-far w) (state w) ls (setOf (atoms w) (f .force .last .1 .1 .0)) forced all
-      (follows f Contradictory e)
+  left e =
+      force-clash (stops w) (words w) (set-first w) (set-now w) (position w) (inside w) (so-far w) (state w) ls
+      (setOf (atoms w) (f .force .last .1 .1 .0)) forced all (follows f Contradictory e)
 
 -- where its answer is looked at
 abbrev force-of : tie.After-slice-known2 Inv-loop μ-loop Inv-walk μ-walk → followed
@@ -300,10 +323,12 @@ abbrev start-of-first : tie.After-first Inv-loop μ-loop Inv-walk μ-walk → ti
 start-of-first c = c .before .before .before
 
 walk-holds : tie.Need-walk-holds Inv-loop μ-loop Inv-walk μ-walk
+unfolding fill
 walk-holds c = (
   placed-first (c .first .ensures),
   rest-self _ _,
   rw (first-position (c .first .ensures)) (walk-start _ _ _ (start-of-first c .pre .marks .sound)),
+  not-open _ _,
 )
 
 next-requires : tie.Need-next-requires Inv-loop μ-loop Inv-walk μ-walk
@@ -311,8 +336,11 @@ next-requires c κs = has-next (row-of-test c) (start-of (c .before .before) .go
 
 loop-holds : tie.Need-loop-holds Inv-loop μ-loop Inv-walk μ-walk
 unfolding fill
-loop-holds c =
-    (omega arith, scan-start (words c) (set-now c) (position c) (inside c) (right-row (atoms c) _ (row-right c)) (row-ascends c))
+loop-holds c = (
+  omega arith,
+  scan-start (words c) (set-now c) (position c) (inside c) (right-row (atoms c) _ (row-right c)) (row-ascends c),
+  at-head c .walk .inv .3,
+)
 
 add-word : tie.Need-add-word Inv-loop μ-loop Inv-walk μ-walk
 add-word c = omega (arith, in-range (c .before))
@@ -326,7 +354,7 @@ shared-slice-read-word c = in-range (c .before .before)
 scan-word-requires : tie.Need-scan-word-requires Inv-loop μ-loop Inv-walk μ-walk
 scan-word-requires c κs =
     let i = c .before .before .before in
-    λ ne. omega (arith, mark-inside (atoms (row-of i)) (complement (word i)) (complement-low i ne), room (row-of i))
+    (λ ne. omega (arith, mark-inside (atoms (row-of i)) (complement (word i)) (complement-low i ne), room (row-of i)), known-open i)
 
 enum-told : tie.Need-enum-told Inv-loop μ-loop Inv-walk μ-walk
 enum-told c = c .match .keys1
@@ -347,8 +375,9 @@ walk-again c =
     let w = row-of i in
     let l = i .before .loop in
     let two = scan-second (words w) (set-now w) (position w) (l .k) (l .first) (l .inv .1) (in-width i) (added o scan.Second (c .enum-told3 .given .1)) in
-    on w (marks-now w) (so-far w) (rest-now w)
+    on w (marks-now w) (so-far w) (l .first) (rest-now w)
     (pass-row (stops w) (words w) (set-first w) (set-now w) (position w) (inside w) (so-far w) (state w) two)
+    (λ ne. let f = l .inv .1 .found ne in (rw (view-length (atoms w) (marks-now w)) at (f .2), f .1))
 
 add-k : tie.Need-add-k Inv-loop μ-loop Inv-walk μ-walk
 unfolding width
@@ -376,6 +405,7 @@ loop-again c =
           let below = view-inside (atoms w) (marks-now w) (word i) (word-below i (first .0)) in
           subst Scans (sym (a .2)) (scan-first (words w) (set-now w) (position w) (l .k) (l .first) (l .inv .1) (in-width i) below first))
           (c .match .came),
+      l .inv .2,
     )
 
 row-requires : tie.Need-row-requires Inv-loop μ-loop Inv-walk μ-walk
@@ -386,10 +416,11 @@ force-requires c κs =
     let r = c .before in
     let a = r .before in
     let w = row a in
-    let k = a .before .loop .k in (
+    let k = a .before .loop .k in
+    let size = view-length (atoms w) (marks-now w) in (
       room-on (stops w) (atoms w) (words w) (marks-first w) (marks-now w) (ready w) (rest-now w) (state w .reached .sound),
       subst (λ (x : List ℕ). Forcing (atoms w) (set-now w) x (opened a)) (sym (row-is r))
-          (scan-forcing (words w) (set-now w) (position w) k (opened a) (scanned a) (all-words a) (atoms w) (view-length (atoms w) (marks-now w)) (row-below w)),
+          (scan-forcing (words w) (set-now w) (position w) k (opened a) (scanned a) (all-words a) (atoms w) size (row-below w)),
     )
 
 enum-told-4 : tie.Need-enum-told-4 Inv-loop μ-loop Inv-walk μ-walk
@@ -408,6 +439,7 @@ walk-less-3 : tie.Need-walk-less-3 Inv-loop μ-loop Inv-walk μ-walk
 walk-less-3 c = less-left (row (scan-of (force-of (c .before .before))))
 
 walk-again-3 : tie.Need-walk-again-3 Inv-loop μ-loop Inv-walk μ-walk
+unfolding fill
 walk-again-3 c = on-more (force-of (c .before .before)) (c .enum-told5 .given .1)
 
 enum-told-6 : tie.Need-enum-told-6 Inv-loop μ-loop Inv-walk μ-walk

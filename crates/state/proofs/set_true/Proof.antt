@@ -3,8 +3,8 @@ use Prim.Native.Nat.{_≤_, _-_}
 use mathlib.Core.Path.{_≡_, refl, sym, _∙_}
 use native.Mathlib.Omega.{arith}
 use lib.ListN.{length, drop}
-use Rattle.state.specs.Marks.{setTrue}
-use Rattle.state.proofs.Marks.{set-on, set-end}
+use Rattle.state.specs.Flags.{setTrue}
+use Rattle.state.proofs.Flags.{set-on, set-end}
 use borrow.Author.Needs.{needs}
 use Rattle.state.proofs.set_true.Statement.{statement}
 use Rattle.state.proofs.set_true.Tie as tie

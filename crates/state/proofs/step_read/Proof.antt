@@ -1,4 +1,4 @@
--- `state::step_read`: the marks that are lent are zeros.
+-- `state::step_read`: the flags that are lent are zeros.
 use mathlib.Core.Path.{sym, ap, _∙_}
 use Prim.Native.Nat.{ℕ, _*_}
 use native.Mathlib.Omega.{arith}
@@ -8,23 +8,23 @@ use Rattle.definitions.specs.Answer.{becomes}
 use Rattle.definitions.specs.Literal.{mostLiterals}
 use Rattle.definitions.specs.Step.{step}
 use Rattle.task.specs.Reads.{taskOf}
-use Rattle.state.proofs.Marks.{take-zeros}
+use Rattle.state.proofs.Flags.{take-zeros}
 use borrow.Author.Needs.{needs}
 use Rattle.state.proofs.step_read.Statement.{statement}
 use Rattle.state.proofs.step_read.Tie as tie
 
 -- where the atoms were counted, and the start
-abbrev counted : tie.After-marks → tie.After-atoms
+abbrev counted : tie.After-flags → tie.After-atoms
 counted c = c .before .before .before
 
 abbrev start : tie.After-atoms → tie.Start
 start c = c .before .before .before
 
 -- where the step was made
-abbrev stepped : tie.After-marks2 → tie.After-step-marked
+abbrev stepped : tie.After-flags2 → tie.After-step-flagged
 stepped c = c .before .before .before
 
-abbrev lent : tie.After-step-marked → tie.After-marks
+abbrev lent : tie.After-step-flagged → tie.After-flags
 lent c = c .before
 
 atoms-requires : tie.Need-atoms-requires
@@ -36,14 +36,14 @@ mul-count c = search needs
 wide-requires : tie.Need-wide-requires
 wide-requires c κs = search needs
 
-array-borrow-prefix-marks : tie.Need-array-borrow-prefix-marks
-array-borrow-prefix-marks c = search needs
+array-borrow-prefix-flags : tie.Need-array-borrow-prefix-flags
+array-borrow-prefix-flags c = search needs
 
-slice-aggregate-step-marked : tie.Need-slice-aggregate-step-marked
-slice-aggregate-step-marked c = sym (length-take-le (2 * counted c .atoms .result) (replicate {A = ℕ} mostLiterals 0) (omega arith))
+slice-aggregate-step-flagged : tie.Need-slice-aggregate-step-flagged
+slice-aggregate-step-flagged c = sym (length-take-le (2 * counted c .atoms .result) (replicate {A = ℕ} mostLiterals 0) (omega arith))
 
-step-marked-requires : tie.Need-step-marked-requires
-step-marked-requires c κs =
+step-flagged-requires : tie.Need-step-flagged-requires
+step-flagged-requires c κs =
     let n = counted c in
     (start n .pre, take-zeros (2 * n .atoms .result) mostLiterals (omega arith) ∙ ap (λ (k : ℕ). replicate (2 * k) 0) (n .atoms .ensures .0))
 
@@ -56,7 +56,7 @@ returns c =
     let l = lent d in
     let a = start (counted l) .args in
     let s = a .state .now in
-    d .step-marked .ensures .0 ∙ ap (λ (i : ℕ). becomes s (step (taskOf (a .image .now)) s i)) (l .before .wide .ensures .0)
+    d .step-flagged .ensures .0 ∙ ap (λ (i : ℕ). becomes s (step (taskOf (a .image .now)) s i)) (l .before .wide .ensures .0)
 
 pub step-read-spec : {M : Type 1} → statement M
 step-read-spec =
@@ -65,8 +65,8 @@ step-read-spec =
     atoms-requires
     mul-count
     wide-requires
-    array-borrow-prefix-marks
-    slice-aggregate-step-marked
-    step-marked-requires
+    array-borrow-prefix-flags
+    slice-aggregate-step-flagged
+    step-flagged-requires
     same-length
     returns)

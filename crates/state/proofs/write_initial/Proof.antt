@@ -4,8 +4,8 @@ use mathlib.Core.List.{List}
 use Prim.Native.Nat.{ℕ}
 use lib.ListN.{length, replicate}
 use Rattle.task.specs.Reads.{taskOf}
-use Rattle.state.specs.Marks.{setTrue}
-use Rattle.state.proofs.Marks.{initial-made}
+use Rattle.state.specs.Flags.{setTrue}
+use Rattle.state.proofs.Flags.{initial-made}
 use borrow.Author.Needs.{needs}
 use Rattle.state.proofs.write_initial.Statement.{statement}
 use Rattle.state.proofs.write_initial.Tie as tie

@@ -1,6 +1,6 @@
 -- `judge::bulk::judge_guaranteed`: where the closure of the precondition is contradictory no clause fails, else the rows tell. Assumes nothing.
 use Prim.Native.Nat.{ℕ}
-use mathlib.Core.Path.{_≡_, _∙_}
+use mathlib.Core.Path.{_∙_}
 use mathlib.Core.List.{List}
 use Rattle.propagation.proofs.MarkedSets.{says-consistent, says-contradictory}
 use Rattle.judge.proofs.BlockRows.{precondition-low}

@@ -1,7 +1,6 @@
 -- `propagation::marks::add`: the literal's bit is set where it was not.
 use mathlib.Core.Path.{refl, sym, _∙_}
 use Rattle.definitions.proofs.MarkBits.{set-mark, mark-length, mark-here, mark-others}
-use Rattle.propagation.specs.Walk.{OneMore}
 use denote.Ref.{now}
 use borrow.Author.Needs.{needs}
 use Rattle.propagation.proofs.marks.add.Statement.{statement}

@@ -1,12 +1,9 @@
 -- `propagation::marks::copy`: the bytes of the marks, copied to the front.
 use mathlib.Core.Path.{_≡_, sym}
-use mathlib.Core.List.{List}
-use Prim.Native.Nat.{ℕ, _≤_}
 use native.Mathlib.Omega.{arith}
 use lib.ListN.{length, take}
 use lib.Seq.{length-take-le}
 use denote.Ref.{now}
-use Rattle.definitions.specs.Marks.{markBytes}
 use Rattle.propagation.proofs.Copies.{copied-marks}
 use borrow.Author.Needs.{needs}
 use Rattle.propagation.proofs.marks.copy.Statement.{statement}

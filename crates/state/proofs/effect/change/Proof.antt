@@ -1,4 +1,4 @@
--- `state::effect::change`: what all rows make of the state and the marks is what the rows that are left make of them so far.
+-- `state::effect::change`: what all rows make of the state and the flags is what the rows that are left make of them so far.
 use mathlib.Core.Path.{_≡_, refl, sym, _∙_, ap}
 use mathlib.Core.Bool.{true}
 use mathlib.Core.List.{List}
@@ -8,25 +8,25 @@ use borrow.Author.Tests.{not-true, not-false}
 use Rattle.definitions.specs.Image.{Row}
 use Rattle.task.specs.Walk.{operatorIn, parsesAt, rowsAt}
 use Rattle.task.proofs.Blocks.{rows-none}
-use Rattle.state.specs.Marks.{changed, unmarked}
-use Rattle.state.proofs.Marks.{changed-other, changed-next, changed-end, unmarked-other, unmarked-next, unmarked-end}
+use Rattle.state.specs.Flags.{changed, unflagged}
+use Rattle.state.proofs.Flags.{changed-other, changed-next, changed-end, unflagged-other, unflagged-next, unflagged-end}
 use borrow.Author.Needs.{needs}
 use Rattle.state.proofs.effect.change.Statement.{statement}
 use Rattle.state.proofs.effect.change.Tie as tie
 
--- the rows that are left parse; lengths stay; state and marks
+-- the rows that are left parse; lengths stay; state and flags
 abbrev Inv-loop : tie.InvT-loop
-Inv-loop block marks₀ adds state₀ at₀ left₀ marks state at left =
+Inv-loop block flags₀ adds state₀ at₀ left₀ flags state at left =
     (parsesAt block at left ≡ true)
-    × (length marks ≡ length marks₀)
+    × (length flags ≡ length flags₀)
     × (length state ≡ length state₀)
-    × (changed adds (operatorIn block .rows) marks₀ state₀ ≡ changed adds (rowsAt block at left) marks state)
-    × (unmarked adds (operatorIn block .rows) marks₀ ≡ unmarked adds (rowsAt block at left) marks)
+    × (changed adds (operatorIn block .rows) flags₀ state₀ ≡ changed adds (rowsAt block at left) flags state)
+    × (unflagged adds (operatorIn block .rows) flags₀ ≡ unflagged adds (rowsAt block at left) flags)
 
 abbrev μ-loop : tie.MeasureT-loop
-μ-loop block marks₀ adds state₀ at₀ left₀ marks state at left = left
+μ-loop block flags₀ adds state₀ at₀ left₀ flags state at left = left
 
--- the places of a turn: the loop, the row that was read, the sign of its effect, its mark, the change
+-- the places of a turn: the loop, the row that was read, the sign of its effect, its flag, the change
 abbrev at-loop : tie.After-row Inv-loop μ-loop → tie.At-loop Inv-loop μ-loop
 at-loop c = c .before .before
 
@@ -36,8 +36,8 @@ row-of c = c .before
 abbrev right-sign : tie.After-has Inv-loop μ-loop → tie.Else1 Inv-loop μ-loop
 right-sign c = c .before .before
 
-abbrev mark-of : tie.After-make-true Inv-loop μ-loop → tie.After-has Inv-loop μ-loop
-mark-of c = c .before .before
+abbrev flag-of : tie.After-make-true Inv-loop μ-loop → tie.After-has Inv-loop μ-loop
+flag-of c = c .before .before
 
 abbrev at-state : tie.After-put Inv-loop μ-loop → tie.After-state Inv-loop μ-loop
 at-state c = c .before .before .before
@@ -51,11 +51,11 @@ put-of c = c .before .before
 abbrev head-of : tie.After-struct-known Inv-loop μ-loop → tie.After-head Inv-loop μ-loop
 head-of c = c .before
 
-abbrev at-marks : tie.After-head Inv-loop μ-loop → tie.After-shared-slice-known Inv-loop μ-loop
-at-marks c = c .before .before .before
+abbrev at-flags : tie.After-head Inv-loop μ-loop → tie.After-shared-slice-known Inv-loop μ-loop
+at-flags c = c .before .before .before
 
 abbrev start : tie.After-head Inv-loop μ-loop → tie.Start Inv-loop μ-loop
-start c = at-marks c .before
+start c = at-flags c .before
 
 head-requires : tie.Need-head-requires Inv-loop μ-loop
 head-requires c κs = search needs
@@ -71,8 +71,8 @@ loop-holds c =
       h .head .ensures .parses,
       refl,
       refl,
-      ap (λ (rs : List Row). changed (a .adds) rs (a .marks .now) (a .state .now)) rows,
-      ap (λ (rs : List Row). unmarked (a .adds) rs (a .marks .now)) rows,
+      ap (λ (rs : List Row). changed (a .adds) rs (a .flags .now) (a .state .now)) rows,
+      ap (λ (rs : List Row). unflagged (a .adds) rs (a .flags .now)) rows,
     )
 
 row-requires : tie.Need-row-requires Inv-loop μ-loop
@@ -100,7 +100,7 @@ loop-again c =
       i .1,
       i .2,
       i .3 ∙ changed-other _ _ _ _ _ (r .row) _ other,
-      i .4 ∙ unmarked-other _ _ _ _ _ (r .row) other,
+      i .4 ∙ unflagged-other _ _ _ _ _ (r .row) other,
     )
 
 has-requires : tie.Need-has-requires Inv-loop μ-loop
@@ -119,7 +119,7 @@ loop-again-2 : tie.Need-loop-again-2 Inv-loop μ-loop
 loop-again-2 c =
     let p = put-of c in
     let t = made-of p in
-    let m = mark-of t in
+    let m = flag-of t in
     let g = right-sign m .before in
     let i = at-loop (row-of g) .loop .inv in
     let r = row-of g .row .ensures in
@@ -128,7 +128,7 @@ loop-again-2 c =
       p .put .kept .0 ∙ i .1,
       t .make-true .kept .1 .0 ∙ i .2,
       i .3 ∙ changed-next _ _ _ _ _ (r .row) sign _ (p .put .ensures) _ _ _ (m .has .ensures) (t .make-true .ensures),
-      i .4 ∙ unmarked-next _ _ _ _ _ (r .row) sign _ (p .put .ensures),
+      i .4 ∙ unflagged-next _ _ _ _ _ (r .row) sign _ (p .put .ensures),
     )
 
 same-length : tie.Need-same-length Inv-loop μ-loop
@@ -141,7 +141,7 @@ returns : tie.Need-returns Inv-loop μ-loop
 returns c =
     let l = c .before .loop in
     let none = rows-none _ (l .at) (l .left) (omega arith) in
-    (sym (l .inv .3 ∙ changed-end _ _ none _ _), sym (l .inv .4 ∙ unmarked-end _ _ none _))
+    (sym (l .inv .3 ∙ changed-end _ _ none _ _), sym (l .inv .4 ∙ unflagged-end _ _ none _))
 
 pub change-spec : {M : Type 1} → statement M
 change-spec =

@@ -4,7 +4,7 @@ use Prim.Native.Nat.{ℕ}
 use lib.ListN.{set}
 use lib.Seq.{set-out}
 use Rattle.definitions.specs.Literal.{positive}
-use Rattle.state.specs.Marks.{makeTrue}
+use Rattle.state.specs.Flags.{makeTrue}
 use borrow.Author.Needs.{needs}
 use Rattle.state.proofs.effect.make_true.Statement.{statement}
 use Rattle.state.proofs.effect.make_true.Tie as tie
@@ -13,10 +13,10 @@ use Rattle.state.proofs.effect.make_true.Tie as tie
 abbrev start : tie.After-atom → tie.Start
 start c = c .before .before
 
--- the state that the literal makes, where it is marked and where not
+-- the state that the literal makes, where it is flagged and where not
 made :
-    (c : tie.After-atom) (b : Bool) → start c .args .marked ≡ b → let s = start c .args in
-    makeTrue b (s .state .now) (s .l .code) ≡ makeTrue (s .marked) (s .state .now) (s .l .code)
+    (c : tie.After-atom) (b : Bool) → start c .args .flagged ≡ b → let s = start c .args in
+    makeTrue b (s .state .now) (s .l .code) ≡ makeTrue (s .flagged) (s .state .now) (s .l .code)
 made c b e = let s = start c .args in ap (λ (t : Bool). makeTrue t (s .state .now) (s .l .code)) (sym e)
 
 atom-requires : tie.Need-atom-requires

@@ -1,4 +1,4 @@
--- `state::run_marked`: the run of the whole list is that of what is left of it, from the state so far.
+-- `state::run_flagged`: the run of the whole list is that of what is left of it, from the state so far.
 use Prim.Native.Nat.{_-_}
 use mathlib.Core.Path.{_≡_, refl, sym, ap, _∙_}
 use lib.ListN.{length}
@@ -11,14 +11,14 @@ use Rattle.answer.proofs.Laws.{outcome-of}
 use Rattle.answer.proofs.ReaderCalls.{Running, running-start, running-on, running-stop, running-end}
 use Rattle.task.specs.Reads.{taskOf}
 use borrow.Author.Needs.{needs}
-use Rattle.state.proofs.run_marked.Statement.{statement}
-use Rattle.state.proofs.run_marked.Tie as tie
+use Rattle.state.proofs.run_flagged.Statement.{statement}
+use Rattle.state.proofs.run_flagged.Tie as tie
 
 abbrev Inv-loop : tie.InvT-loop
-Inv-loop image state₀ list marks₀ steps₀ state marks steps = Running (step (taskOf image)) list state₀ state steps × (marks ≡ marks₀)
+Inv-loop image state₀ list flags₀ steps₀ state flags steps = Running (step (taskOf image)) list state₀ state steps × (flags ≡ flags₀)
 
 abbrev μ-loop : tie.MeasureT-loop
-μ-loop image state₀ list marks₀ steps₀ state marks steps = length list - steps
+μ-loop image state₀ list flags₀ steps₀ state flags steps = length list - steps
 
 -- the loop and the start, at a step, and where its answer is looked at
 abbrev at-slice : tie.At-loop Inv-loop μ-loop → tie.After-slice-known Inv-loop μ-loop
@@ -27,7 +27,7 @@ at-slice c = c .before .before .before
 abbrev start : tie.At-loop Inv-loop μ-loop → tie.Start Inv-loop μ-loop
 start c = at-slice c .before .before
 
-abbrev number : tie.After-step-marked Inv-loop μ-loop → tie.After-wide Inv-loop μ-loop
+abbrev number : tie.After-step-flagged Inv-loop μ-loop → tie.After-wide Inv-loop μ-loop
 number c = c .before .before
 
 abbrev at-in-loop : tie.After-wide Inv-loop μ-loop → tie.In-loop Inv-loop μ-loop
@@ -39,15 +39,15 @@ loop-of c = at-in-loop c .before
 abbrev at-state : tie.After-slice-known4 Inv-loop μ-loop → tie.After-state Inv-loop μ-loop
 at-state c = c .before .before .before
 
-abbrev made : tie.After-slice-known4 Inv-loop μ-loop → tie.After-step-marked Inv-loop μ-loop
+abbrev made : tie.After-slice-known4 Inv-loop μ-loop → tie.After-step-flagged Inv-loop μ-loop
 made c = at-state c .before
 
 -- the outcome of the step, by its answer
 of-step :
-    (d : tie.After-step-marked Inv-loop μ-loop) (v : Verdict) → d .step-marked .result ≡ v → let l = loop-of (number d) in
-    outcome (verdictAnswer v) (d .step-marked .last .1 .0)
+    (d : tie.After-step-flagged Inv-loop μ-loop) (v : Verdict) → d .step-flagged .result ≡ v → let l = loop-of (number d) in
+    outcome (verdictAnswer v) (d .step-flagged .last .1 .0)
     ≡ becomes (l .loop .state) (step (taskOf (start l .args .image .now)) (l .loop .state) (number d .wide .result))
-of-step d v e = outcome-of _ _ _ _ (ap verdictAnswer (sym e)) (d .step-marked .ensures .0)
+of-step d v e = outcome-of _ _ _ _ (ap verdictAnswer (sym e)) (d .step-flagged .ensures .0)
 
 loop-holds : tie.Need-loop-holds Inv-loop μ-loop
 loop-holds c = (running-start _ _ _, refl)
@@ -61,8 +61,8 @@ shared-slice-read-wide c = search needs
 wide-requires : tie.Need-wide-requires Inv-loop μ-loop
 wide-requires c κs = search needs
 
-step-marked-requires : tie.Need-step-marked-requires Inv-loop μ-loop
-step-marked-requires c κs =
+step-flagged-requires : tie.Need-step-flagged-requires Inv-loop μ-loop
+step-flagged-requires c κs =
     let l = loop-of (c .before) in
     let s = start l in
     (record { reads = s .pre .0 .reads; size = l .loop .inv .0 .size ∙ s .pre .0 .size }, l .loop .inv .1 ∙ s .pre .1)
@@ -73,12 +73,12 @@ enum-known-stepped c = search needs
 same-length : tie.Need-same-length Inv-loop μ-loop
 same-length c =
     let d = made (c .before .before .before) in
-    d .step-marked .kept .1 .0 ∙ loop-of (number d) .loop .inv .0 .size
+    d .step-flagged .kept .1 .0 ∙ loop-of (number d) .loop .inv .0 .size
 
 same-length-2 : tie.Need-same-length-2 Inv-loop μ-loop
 same-length-2 c =
     let d = made (c .before .before .before) in
-    ap length (d .step-marked .ensures .1 ∙ loop-of (number d) .loop .inv .1)
+    ap length (d .step-flagged .ensures .1 ∙ loop-of (number d) .loop .inv .1)
 
 returns : tie.Need-returns Inv-loop μ-loop
 unfolding refusedAfter
@@ -101,9 +101,9 @@ loop-again : tie.Need-loop-again Inv-loop μ-loop
 loop-again c =
     let d = made (c .before .before) in
     let l = loop-of (number d) in (
-      running-on _ _ _ _ _ (l .loop .inv .0) _ _ (at-in-loop (number d) .loop-test .taken) (number d .wide .ensures .0) (d .step-marked .kept .1 .0)
+      running-on _ _ _ _ _ (l .loop .inv .0) _ _ (at-in-loop (number d) .loop-test .taken) (number d .wide .ensures .0) (d .step-flagged .kept .1 .0)
           (of-step d _ (c .enum-told .given .1)),
-      d .step-marked .ensures .1 ∙ l .loop .inv .1,
+      d .step-flagged .ensures .1 ∙ l .loop .inv .1,
     )
 
 same-length-3 : tie.Need-same-length-3 Inv-loop μ-loop
@@ -115,8 +115,8 @@ same-length-4 c = ap length (c .before .loop .inv .1)
 returns-2 : tie.Need-returns-2 Inv-loop μ-loop
 returns-2 c = running-end _ _ _ _ _ (c .before .loop .inv .0) (c .loop-test .left)
 
-pub run-marked-spec : {M : Type 1} → statement M
-run-marked-spec =
+pub run-flagged-spec : {M : Type 1} → statement M
+run-flagged-spec =
     tie.close
     (tie.spec
     Inv-loop
@@ -125,7 +125,7 @@ run-marked-spec =
     mul-wide
     shared-slice-read-wide
     wide-requires
-    step-marked-requires
+    step-flagged-requires
     enum-known-stepped
     same-length
     same-length-2

@@ -1,4 +1,4 @@
--- `state::effect::mark_fired`: the marks of all rows are those of the rows that are left, added to the marks so far.
+-- `state::effect::flag_fired`: the flags of all rows are those of the rows that are left, added to the flags so far.
 use mathlib.Core.Path.{_≡_, refl, sym, ap, _∙_}
 use mathlib.Core.Bool.{true}
 use mathlib.Core.List.{List}
@@ -8,19 +8,19 @@ use Rattle.definitions.specs.Image.{Row}
 use Rattle.definitions.specs.Step.{fires}
 use Rattle.task.specs.Walk.{operatorIn, parsesAt, rowsAt}
 use Rattle.task.proofs.Blocks.{rows-none}
-use Rattle.state.specs.Marks.{markFired}
-use Rattle.state.proofs.Marks.{fired-next, fired-end}
+use Rattle.state.specs.Flags.{flagFired}
+use Rattle.state.proofs.Flags.{fired-next, fired-end}
 use borrow.Author.Needs.{needs}
-use Rattle.state.proofs.effect.mark_fired.Statement.{statement}
-use Rattle.state.proofs.effect.mark_fired.Tie as tie
+use Rattle.state.proofs.effect.flag_fired.Statement.{statement}
+use Rattle.state.proofs.effect.flag_fired.Tie as tie
 
 abbrev Inv-loop : tie.InvT-loop
-Inv-loop block state marks₀ at₀ left₀ marks at left =
-    (length marks ≡ length marks₀) ×
-    ((parsesAt block at left ≡ true) × (markFired state (operatorIn block .rows) marks₀ ≡ markFired state (rowsAt block at left) marks))
+Inv-loop block state flags₀ at₀ left₀ flags at left =
+    (length flags ≡ length flags₀) ×
+    ((parsesAt block at left ≡ true) × (flagFired state (operatorIn block .rows) flags₀ ≡ flagFired state (rowsAt block at left) flags))
 
 abbrev μ-loop : tie.MeasureT-loop
-μ-loop block state marks₀ at₀ left₀ marks at left = left
+μ-loop block state flags₀ at₀ left₀ flags at left = left
 
 head-requires : tie.Need-head-requires Inv-loop μ-loop
 head-requires c κs = search needs
@@ -63,7 +63,7 @@ loop-holds : tie.Need-loop-holds Inv-loop μ-loop
 loop-holds c =
     let h = c .before .head .ensures in
     let a = at-start-from-struct-known c .args in
-    (refl, (h .parses, ap (λ (rs : List Row). markFired (a .state .now) rs (a .marks .now)) (sym (h .rows))))
+    (refl, (h .parses, ap (λ (rs : List Row). flagFired (a .state .now) rs (a .flags .now)) (sym (h .rows))))
 
 row-requires : tie.Need-row-requires Inv-loop μ-loop
 row-requires c κs = (c .before .loop .inv .1 .0, omega arith)
@@ -113,8 +113,8 @@ returns c =
     let l = c .before .loop in
     sym (l .inv .1 .1 ∙ fired-end _ _ _ (rows-none _ (l .at) (l .left) (omega arith)))
 
-pub mark-fired-spec : {M : Type 1} → statement M
-mark-fired-spec =
+pub flag-fired-spec : {M : Type 1} → statement M
+flag-fired-spec =
     tie.close
     (tie.spec
     Inv-loop

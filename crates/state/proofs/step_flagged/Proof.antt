@@ -1,4 +1,4 @@
--- `state::step_marked`: question 19, then the operator's block.
+-- `state::step_flagged`: question 19, then the operator's block.
 use Prim.Native.Nat.{_<_}
 use mathlib.Core.Path.{refl, ap, _∙_}
 use native.Mathlib.Omega.{arith}
@@ -10,8 +10,8 @@ use Rattle.task.specs.Reads.{taskOf}
 use Rattle.state.specs.Post.{applied}
 use Rattle.state.proofs.Calls.{step-19, step-there, applies}
 use borrow.Author.Needs.{needs}
-use Rattle.state.proofs.step_marked.Statement.{statement}
-use Rattle.state.proofs.step_marked.Tie as tie
+use Rattle.state.proofs.step_flagged.Statement.{statement}
+use Rattle.state.proofs.step_flagged.Tie as tie
 
 -- where the operator's number is right, and the start
 abbrev at-shared-slice : tie.After-operators → tie.After-shared-slice-known
@@ -69,8 +69,8 @@ returns-2 c =
       d .step-block .ensures .1,
     )
 
-pub step-marked-spec : {M : Type 1} → statement M
-step-marked-spec =
+pub step-flagged-spec : {M : Type 1} → statement M
+step-flagged-spec =
     tie.close
     (tie.spec
     operators-requires

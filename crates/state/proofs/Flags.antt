@@ -1,4 +1,4 @@
--- Laws of the marks: their walks, and that they are the effects of the fired rows. Assumes nothing.
+-- Laws of the flags: their walks, and that they are the effects of the fired rows. Assumes nothing.
 use mathlib.Core.Path.{_≡_, refl, sym, ap, subst, _∙_}
 use mathlib.Core.Logic.{_⊎_, inl, inr}
 use mathlib.Core.List.{List, [], _∷_, map, List·Memᴰ}
@@ -25,7 +25,7 @@ use Rattle.literal.specs.Literal.{literalOf, hasSign}
 use Rattle.literal.specs.Mark.{markIf}
 use Rattle.literal.proofs.Mark.{mark-is, put-at, put-each-at, put-length}
 use Rattle.literal.proofs.Sign.{literal-atom, literal-positive, sign-self, sign-own, other-atom}
-use Rattle.state.specs.Marks.{setTrue, markFired, makeTrue, changed, unmarked}
+use Rattle.state.specs.Flags.{setTrue, flagFired, makeTrue, changed, unflagged}
 
 -- the effects of rows, fired or not
 abbrev effectsOf : List Row → List ℕ
@@ -44,10 +44,10 @@ set-end s xs i h = rw (drop-of-length-le xs {i = i} h)
 pub fired-next :
     (s : List ℕ) (rows rest : List Row) (r : Row) (t : Bool) (m m′ : List ℕ)
     → rows ≡ r ∷ rest → t ≡ fires s r → m′ ≡ markIf t m (r .effect)
-    → markFired s rows m ≡ markFired s rest m′
+    → flagFired s rows m ≡ flagFired s rest m′
 fired-next s rows rest r t m m′ er et em = rw (er, em, et, mark-is (fires s r) m (r .effect))
 
-pub fired-end : (s : List ℕ) (rows : List Row) (m : List ℕ) → rows ≡ [] → markFired s rows m ≡ m
+pub fired-end : (s : List ℕ) (rows : List Row) (m : List ℕ) → rows ≡ [] → flagFired s rows m ≡ m
 fired-end s rows m e = rw e
 
 -- a row of the other sign, and one of the sign
@@ -55,8 +55,8 @@ module _ (adds : Bool) (m : List ℕ) (rows rest : List Row) (r : Row) (er : row
   pub changed-other : (s : List ℕ) → hasSign adds (r .effect) ≡ false → changed adds rows m s ≡ changed adds rest m s
   changed-other s e = rw (er, e)
 
-  pub unmarked-other : hasSign adds (r .effect) ≡ false → unmarked adds rows m ≡ unmarked adds rest m
-  unmarked-other e = rw (er, e)
+  pub unflagged-other : hasSign adds (r .effect) ≡ false → unflagged adds rows m ≡ unflagged adds rest m
+  unflagged-other e = rw (er, e)
 
   module _ (e : hasSign adds (r .effect) ≡ true) (m′ : List ℕ) (em : m′ ≡ set m (r .effect) 0) where
     pub changed-next :
@@ -64,28 +64,28 @@ module _ (adds : Bool) (m : List ℕ) (rows rest : List Row) (r : Row) (er : row
         → changed adds rows m s ≡ changed adds rest m′ s′
     changed-next s s′ b eb es = rw (er, e, em, es, eb)
 
-    pub unmarked-next : unmarked adds rows m ≡ unmarked adds rest m′
-    unmarked-next = rw (er, e, em)
+    pub unflagged-next : unflagged adds rows m ≡ unflagged adds rest m′
+    unflagged-next = rw (er, e, em)
 
 module _ (adds : Bool) (rows : List Row) (er : rows ≡ []) where
   pub changed-end : (m s : List ℕ) → changed adds rows m s ≡ s
   changed-end m s = rw er
 
-  pub unmarked-end : (m : List ℕ) → unmarked adds rows m ≡ m
-  unmarked-end m = rw er
+  pub unflagged-end : (m : List ℕ) → unflagged adds rows m ≡ m
+  unflagged-end m = rw er
 
--- ---- one pass: the value of an atom, and the marks
+-- ---- one pass: the value of an atom, and the flags
 -- a row of the sign has effect l
 abbrev clears : Bool → ℕ → List Row → Bool
 clears adds l rows = any (λ r. eqb (r .effect) l && hasSign adds (r .effect)) rows
 
-unmarked-at :
+unflagged-at :
     (adds : Bool) (rows : List Row) (m : List ℕ) (l : ℕ) → l < length m
-    → getD (unmarked adds rows m) l 0 ≡ cond (clears adds l rows) 0 (getD m l 0)
-unmarked-at adds rows m l h = put-at 0 (λ r. r .effect) (λ r. hasSign adds (r .effect)) rows m l h
+    → getD (unflagged adds rows m) l 0 ≡ cond (clears adds l rows) 0 (getD m l 0)
+unflagged-at adds rows m l h = put-at 0 (λ r. r .effect) (λ r. hasSign adds (r .effect)) rows m l h
 
-unmarked-length : (adds : Bool) (rows : List Row) (m : List ℕ) → length (unmarked adds rows m) ≡ length m
-unmarked-length adds = put-length 0 (λ r. r .effect) (λ r. hasSign adds (r .effect))
+unflagged-length : (adds : Bool) (rows : List Row) (m : List ℕ) → length (unflagged adds rows m) ≡ length m
+unflagged-length adds = put-length 0 (λ r. r .effect) (λ r. hasSign adds (r .effect))
 
 clears-by :
     (adds : Bool) (l : ℕ) (rows : List Row) {r : Row} → List·Memᴰ r rows → l ≡ r .effect → hasSign adds l ≡ true
@@ -135,7 +135,7 @@ made-other : (b : Bool) (a e : ℕ) (s : List ℕ) → (b ≡ true → a ≡ ato
 made-other true a e s ne = getD-set-other s (atom e) a (cond (positive e) 1 0) 0 (ne refl)
 made-other false a e s ne = refl
 
--- an atom changes in a pass exactly if its literal of that sign is marked, and the effect of a row
+-- an atom changes in a pass exactly if its literal of that sign is flagged, and the effect of a row
 pass-at :
     (adds : Bool) (a : ℕ) (rows : List Row) (m s : List ℕ) → literalOf a adds < length m → a < length s
     → getD (changed adds rows m s) a 0 ≡ cond (has m (literalOf a adds) && member (literalOf a adds) (effectsOf rows)) (cond adds 1 0) (getD s a 0)
@@ -180,17 +180,17 @@ pass-at adds a (r ∷ rows) m s low inside =
           h,
         )
 
--- ---- the marks of an operator, from none
+-- ---- the flags of an operator, from none
 module _ (s : List ℕ) (o : Operator) where
-  abbrev marks : ℕ → List ℕ
-  marks n = markFired s (o .rows) (replicate n 0)
+  abbrev flags : ℕ → List ℕ
+  flags n = flagFired s (o .rows) (replicate n 0)
 
   -- an effect that fired is that of a row
   fired-row : (l : ℕ) → member l (effects s o) ≡ true → member l (effectsOf (o .rows)) ≡ true
   fired-row l h = let f = fired-of s o l h in rw (f .same) (member-in (map-in (λ r. r .effect) (f .mem)))
 
-  marks-at : (n l : ℕ) → l < n → getD (marks n) l 0 ≡ cond (member l (effects s o)) 1 0
-  marks-at n l h =
+  flags-at : (n l : ℕ) → l < n → getD (flags n) l 0 ≡ cond (member l (effects s o)) 1 0
+  flags-at n l h =
       put-at 1 (λ r. r .effect) (fires s) (o .rows) (replicate n 0) l (rw length-replicate h)
       ∙ ap (cond fired 1) (getD-replicate n l 0 0 h)
       ∙ ap (λ (b : Bool). cond b 1 0) (same-bool fired (member l (effects s o)) forth back)
@@ -210,26 +210,26 @@ module _ (s : List ℕ) (o : Operator) where
           let f = fired-of s o l k in
           any-in (λ r. eqb (r .effect) l && fires s r) (f .mem) (and-both (eq-eqb (f .row .effect) l (sym (f .same))) (f .fired))
 
-  marks-length : (n : ℕ) → length (marks n) ≡ n
-  marks-length n = put-length 1 (λ r. r .effect) (fires s) (o .rows) (replicate n 0) ∙ length-replicate n 0
+  flags-length : (n : ℕ) → length (flags n) ≡ n
+  flags-length n = put-length 1 (λ r. r .effect) (fires s) (o .rows) (replicate n 0) ∙ length-replicate n 0
 
-  -- an effect is that of an add or of a delete, so that both passes leave no mark
-  pub marks-gone : (n : ℕ) → unmarked true (o .rows) (unmarked false (o .rows) (marks n)) ≡ replicate n 0
-  marks-gone n =
+  -- an effect is that of an add or of a delete, so that both passes leave no flag
+  pub flags-gone : (n : ℕ) → unflagged true (o .rows) (unflagged false (o .rows) (flags n)) ≡ replicate n 0
+  flags-gone n =
       ext-getD 0 gone (replicate n 0) (long ∙ sym (length-replicate n 0))
       (λ l h. let low : l < n = omega (arith, long) in at l low ∙ sym (getD-replicate n l 0 0 low))
     where
       first : List ℕ
-      first = unmarked false (o .rows) (marks n)
+      first = unflagged false (o .rows) (flags n)
 
       gone : List ℕ
-      gone = unmarked true (o .rows) first
+      gone = unflagged true (o .rows) first
 
       first-long : length first ≡ n
-      first-long = unmarked-length false (o .rows) (marks n) ∙ marks-length n
+      first-long = unflagged-length false (o .rows) (flags n) ∙ flags-length n
 
       long : length gone ≡ n
-      long = unmarked-length true (o .rows) first ∙ first-long
+      long = unflagged-length true (o .rows) first ∙ first-long
 
       by : (b : Bool) (l : ℕ) → positive l ≡ b → member l (effects s o) ≡ true → clears b l (o .rows) ≡ true
       by b l e h =
@@ -254,41 +254,41 @@ module _ (s : List ℕ) (o : Operator) where
 
       at : (l : ℕ) → l < n → getD gone l 0 ≡ 0
       at l low =
-          unmarked-at true (o .rows) first l (omega (arith, first-long))
+          unflagged-at true (o .rows) first l (omega (arith, first-long))
           ∙ ap (cond (clears true l (o .rows)) 0)
-          (unmarked-at false (o .rows) (marks n) l (omega (arith, marks-length n))
-          ∙ ap (cond (clears false l (o .rows)) 0) (marks-at n l low))
+          (unflagged-at false (o .rows) (flags n) l (omega (arith, flags-length n))
+          ∙ ap (cond (clears false l (o .rows)) 0) (flags-at n l low))
           ∙ clear l (positive l) (member l (effects s o)) refl refl
 
-  -- ---- the marks of the literals of s: first the deletes and then the adds made true is the step
-  abbrev marked : List ℕ
-  marked = marks (2 * length s)
+  -- ---- the flags of the literals of s: first the deletes and then the adds made true is the step
+  abbrev flagged : List ℕ
+  flagged = flags (2 * length s)
 
-  marked-has : (l : ℕ) → l < 2 * length s → has marked l ≡ member l (effects s o)
+  flagged-has : (l : ℕ) → l < 2 * length s → has flagged l ≡ member l (effects s o)
   unfolding has
-  marked-has l h = ap (λ (x : ℕ). eqb x 1) (marks-at (2 * length s) l h) ∙ go (member l (effects s o))
+  flagged-has l h = ap (λ (x : ℕ). eqb x 1) (flags-at (2 * length s) l h) ∙ go (member l (effects s o))
     where
       go : (b : Bool) → eqb (cond b 1 0) 1 ≡ b
       go true = refl
       go false = refl
 
-  -- the marks of the adds are there after the deletes
+  -- the flags of the adds are there after the deletes
   deletes-done : List ℕ
-  deletes-done = unmarked false (o .rows) marked
+  deletes-done = unflagged false (o .rows) flagged
 
-  adds-marked : (a : ℕ) → a < length s → has deletes-done (2 * a) ≡ member (2 * a) (effects s o)
+  adds-flagged : (a : ℕ) → a < length s → has deletes-done (2 * a) ≡ member (2 * a) (effects s o)
   unfolding has deletes-done hasSign
-  adds-marked a h = ap (λ (x : ℕ). eqb x 1) there ∙ marked-has (2 * a) (omega arith)
+  adds-flagged a h = ap (λ (x : ℕ). eqb x 1) there ∙ flagged-has (2 * a) (omega arith)
     where
       no-delete : clears false (2 * a) (o .rows) ≡ false
       no-delete = refuted (λ k. never (clears-sign false (2 * a) (o .rows) k) (ap (λ (p : Bool). Bool·beq p false) (positive-even a)))
 
-      there : getD deletes-done (2 * a) 0 ≡ getD marked (2 * a) 0
+      there : getD deletes-done (2 * a) 0 ≡ getD flagged (2 * a) 0
       there =
-          unmarked-at false (o .rows) marked (2 * a) (omega (arith, marks-length (2 * length s)))
-          ∙ ap (λ (b : Bool). cond b 0 (getD marked (2 * a) 0)) no-delete
+          unflagged-at false (o .rows) flagged (2 * a) (omega (arith, flags-length (2 * length s)))
+          ∙ ap (λ (b : Bool). cond b 0 (getD flagged (2 * a) 0)) no-delete
 
-  -- a pass with such marks
+  -- a pass with such flags
   pass-fired :
       (adds : Bool) (m t : List ℕ) (a : ℕ) → literalOf a adds < length m → a < length t
       → has m (literalOf a adds) ≡ member (literalOf a adds) (effects s o)
@@ -307,23 +307,23 @@ module _ (s : List ℕ) (o : Operator) where
       go (inl h) = and-both h (fired-row l h) ∙ sym h
       go (inr h) = rw h
 
-  pub marks-result : changed true (o .rows) (unmarked false (o .rows) marked) (changed false (o .rows) marked s) ≡ result s o
+  pub flags-result : changed true (o .rows) (unflagged false (o .rows) flagged) (changed false (o .rows) flagged s) ≡ result s o
   unfolding result after deletes-done
-  marks-result =
+  flags-result =
       ext-getD 0 (changed true (o .rows) deletes-done t) (result s o) (long ∙ sym (table-length (after s (effects s o)) (length s)))
       (λ a h.
       let low : a < length s = omega (arith, long) in
-      let size = unmarked-length false (o .rows) marked ∙ marks-length (2 * length s) in
-      pass-fired true deletes-done t a (omega (arith, size)) (omega (arith, low, size-t)) (adds-marked a low)
+      let size = unflagged-length false (o .rows) flagged ∙ flags-length (2 * length s) in
+      pass-fired true deletes-done t a (omega (arith, size)) (omega (arith, low, size-t)) (adds-flagged a low)
       ∙ ap (cond (member (2 * a) (effects s o)) 1)
-      (pass-fired false marked s a (omega (arith, low, marks-length (2 * length s))) low (marked-has (2 * a + 1) (omega arith)))
+      (pass-fired false flagged s a (omega (arith, low, flags-length (2 * length s))) low (flagged-has (2 * a + 1) (omega arith)))
       ∙ sym (value-at s o a low))
     where
       t : List ℕ
-      t = changed false (o .rows) marked s
+      t = changed false (o .rows) flagged s
 
       size-t : length t ≡ length s
-      size-t = changed-length false (o .rows) marked s
+      size-t = changed-length false (o .rows) flagged s
 
       long : length (changed true (o .rows) deletes-done t) ≡ length s
       long = changed-length true (o .rows) deletes-done t ∙ size-t

@@ -1,4 +1,4 @@
--- Marks of literals, and the state that they make: what the walks of a step work out. Assumes nothing.
+-- Flags of literals, and the state that they make: what the walks of a step work out. Assumes nothing.
 use Prim.Native.Nat.{ℕ}
 use mathlib.Core.List.{List, [], _∷_}
 use mathlib.Core.Bool.{Bool, true, false, cond, _&&_}
@@ -14,20 +14,20 @@ use Rattle.literal.specs.Mark.{putWhere}
 abbrev pub setTrue : List ℕ → List ℕ → List ℕ
 setTrue = putWhere 1 (λ a. a) (λ a. true)
 
--- marks with those of the effects of the rows that fire in s
-abbrev pub markFired : List ℕ → List Row → List ℕ → List ℕ
-markFired s = putWhere 1 (λ r. r .effect) (fires s)
+-- flags with those of the effects of the rows that fire in s
+abbrev pub flagFired : List ℕ → List Row → List ℕ → List ℕ
+flagFired s = putWhere 1 (λ r. r .effect) (fires s)
 
 -- literal l made true in s, if the test holds
 abbrev pub makeTrue : Bool → List ℕ → ℕ → List ℕ
 makeTrue true s l = set s (atom l) (cond (positive l) 1 0)
 makeTrue false s l = s
 
--- the marks without the effects of the adds, or of the deletes
-abbrev pub unmarked : Bool → List Row → List ℕ → List ℕ
-unmarked adds = putWhere 0 (λ r. r .effect) (λ r. hasSign adds (r .effect))
+-- the flags without the effects of the adds, or of the deletes
+abbrev pub unflagged : Bool → List Row → List ℕ → List ℕ
+unflagged adds = putWhere 0 (λ r. r .effect) (λ r. hasSign adds (r .effect))
 
--- the state with the marked effects of the adds, or of the deletes, made true, one after the other, each mark cleared then
+-- the state with the flagged effects of the adds, or of the deletes, made true, one after the other, each flag cleared then
 abbrev pub changed : Bool → List Row → List ℕ → List ℕ → List ℕ
 changed adds [] m s = s
 changed adds (r ∷ rs) m s =
