@@ -64,7 +64,8 @@ module _ (w c : List ℕ) (i marks : ℕ) where
 
 -- a refusal leaves the marks
 pub call-refused :
-    (w c : List ℕ) (i : ℕ) (ms : List ℕ) (r : Refusal) → refused r ≡ closureCall w c i ms → outcome (refused r) ms ≡ written ms (closureCall w c i ms)
+    (w c : List ℕ) (i : ℕ) (ms : List ℕ) (r : Refusal) → refused r ≡ closureCall w c i ms
+    → outcome (refused r) ms ≡ written ms (closureCall w c i ms)
 unfolding written
 call-refused w c i ms r e = rw (sym e)
 
@@ -111,7 +112,8 @@ module _ (w c : List ℕ) (i : ℕ) (ms : List ℕ) (a : Asks w c i (length ms))
       → new ≡ marksOf atoms (closure atoms (clausesOf c) (take (end - 1) (drop 1 b))) ms ++ drop (markBytes atoms) ms
       → number ≡ length (markedLiterals atoms new) → outcome (finding number) new ≡ written ms (finding (shown (taskOf w) (clausesOf c) i ms))
   unfolding written shown newMarks
-  show-done new number made count = ap₂ (λ (n : ℕ) (s : List ℕ). outcome (finding n) s) number-is (same ∙ ap (λ (n : ℕ). front ++ drop n ms) (sym size))
+  show-done new number made count =
+      ap₂ (λ (n : ℕ) (s : List ℕ). outcome (finding n) s) number-is (same ∙ ap (λ (n : ℕ). front ++ drop n ms) (sym size))
     where
       N : ℕ
       N = taskOf w .atoms

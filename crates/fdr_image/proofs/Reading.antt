@@ -82,7 +82,8 @@ read-operators D w i (suc k) = go (fdrOperatorOf (part w (i + 4))) refl (read-op
     go none e rec = rw (e, readFdrOperators)
     go (some o) e rec =
         rw (e, readFdrOperators)
-        (ask-and (fdrOperatorRight D o) more (readFdrOperators D w (suc i) k >>= λ os. finding (o ∷ os)) (finding (o ∷ map (operatorThere w) (range (suc i) k)))
+        (ask-and (fdrOperatorRight D o) more (readFdrOperators D w (suc i) k >>= λ os. finding (o ∷ os))
+        (finding (o ∷ map (operatorThere w) (range (suc i) k)))
         (found-and more (readFdrOperators D w (suc i) k) (map (operatorThere w) (range (suc i) k)) (λ os. o ∷ os) rec))
 
 -- the task that is read
@@ -187,12 +188,14 @@ fdr-read w r =
     }
 
 -- ---- blocks
-some-right : (D : List Domain) (q : Option FdrOperator) → blockRight D q ≡ true → (someOperator q ≡ true) × (fdrOperatorRight D (operatorOr q) ≡ true)
+some-right :
+    (D : List Domain) (q : Option FdrOperator) → blockRight D q ≡ true → (someOperator q ≡ true) × (fdrOperatorRight D (operatorOr q) ≡ true)
 unfolding blockRight someOperator operatorOr
 some-right D none h = never h refl
 some-right D (some o) h = (refl, h)
 
-block-some : (D : List Domain) (b : List ℕ) → blockRight D (fdrOperatorOf b) ≡ true → (blockParses b ≡ true) × (fdrOperatorRight D (operatorIn b) ≡ true)
+block-some :
+    (D : List Domain) (b : List ℕ) → blockRight D (fdrOperatorOf b) ≡ true → (blockParses b ≡ true) × (fdrOperatorRight D (operatorIn b) ≡ true)
 unfolding blockParses operatorIn
 block-some D b h = some-right D (fdrOperatorOf b) h
 
@@ -328,7 +331,8 @@ unfolding goalRight
 goal-even D g h = rw (eq-eqb (length g % 2) 0 h)
 
 -- the walk over the operators, with k′ + 1 left at operator i
-module _ (D : List Domain) (w b : List ℕ) (i k k′ : ℕ) (more : k ≡ suc k′) (eb : b ≡ part w (i + 4)) (r : Bool) (er : r ≡ blockRight D (fdrOperatorOf b)) where
+module _ (D : List Domain) (w b : List ℕ) (i k k′ : ℕ) (more : k ≡ suc k′) (eb : b ≡ part w (i + 4)) (r : Bool)
+    (er : r ≡ blockRight D (fdrOperatorOf b)) where
   pub operators-off : r ≡ false → all (blockThere D w) (range i k) ≡ false
   operators-off h = range-all-off (blockThere D w) i k k′ more (rw (← eb, ← er) h)
 

@@ -86,9 +86,6 @@ module _ (N : ℕ) (w L s₀ ls ms : List ℕ) (rows : ClausesRead N w) (room : 
     (start : Part s₀ (closure N (clausesOf w) L))
     (listed : Lists ls (closure N (clausesOf w) L))
     (given : (T : List ℕ) → Part s₀ T → Lists ls T → (l : ℕ) → l < 2 * N → member l L ≡ true → In T l) where
-  K : List ℕ
-  K = closure N (clausesOf w) L
-
   under : ClosedUnder (clausesOf w) (closure N (clausesOf w) L)
   under = closure-under N (clausesOf w) (clause-below N w (read-right N w rows)) L
 

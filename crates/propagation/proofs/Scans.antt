@@ -100,7 +100,9 @@ module _ (w s : List ℕ) (at k u : ℕ) (r : Scanning w s at k u) where
     come : (l : ℕ) → List·Memᴰ l (restAt w at k) → List·Memᴰ l (restAt w at (k + 1)) ⊎ ((l ≡ word) × (word ≡ fill → ⊥))
     come l m = go (ℕ-discrete word fill)
       where
-        split : (word ≡ fill → ⊥) → List·Memᴰ l (word ∷ restAt w at (k + 1)) → List·Memᴰ l (restAt w at (k + 1)) ⊎ ((l ≡ word) × (word ≡ fill → ⊥))
+        split :
+            (word ≡ fill → ⊥) → List·Memᴰ l (word ∷ restAt w at (k + 1))
+            → List·Memᴰ l (restAt w at (k + 1)) ⊎ ((l ≡ word) × (word ≡ fill → ⊥))
         split ne (List·Memᴰ·head e) = inr (e, ne)
         split ne (List·Memᴰ·tail q) = inl q
 
@@ -211,7 +213,8 @@ module _ (w s : List ℕ) (at k u : ℕ) (r : Scanning w s at k u) where
         go (yes e) = rw (forced-all (take width (drop at w)) u e) (member-in (forces-in s l (clauseAt w at) fo))
         go (no ne) = rw (forced-one (take width (drop at w)) u ne) (member-in (same ne (ℕ-discrete u l)))
 
-    pub scan-forcing : (N : ℕ) → length s ≡ 2 * N → ((l : ℕ) → List·Memᴰ l (clauseAt w at) → l < 2 * N) → Forcing N s (take width (drop at w)) u
+    pub scan-forcing :
+        (N : ℕ) → length s ≡ 2 * N → ((l : ℕ) → List·Memᴰ l (clauseAt w at) → l < 2 * N) → Forcing N s (take width (drop at w)) u
     unfolding clauseAt allBelow all
     scan-forcing N size low = record { low = go (ℕ-discrete u fill); opened = λ ne. r .found ne .1 }
       where

@@ -81,7 +81,9 @@ module _ (stops : Bool) (s₀ ls s : List ℕ) (i x : ℕ) (answer : Pass) (k : 
       }
 
 -- the whole list
-pub seed-end : (stops : Bool) (s₀ ls s : List ℕ) (i : ℕ) (answer : Pass) → Seeding stops s₀ ls s i answer → length ls ≤ i → Seeded stops s₀ ls s answer
+pub seed-end :
+    (stops : Bool) (s₀ ls s : List ℕ) (i : ℕ) (answer : Pass) → Seeding stops s₀ ls s i answer → length ls ≤ i
+    → Seeded stops s₀ ls s answer
 unfolding member
 seed-end stops s₀ ls s i answer k past = go answer (k .growth)
   where
@@ -97,8 +99,8 @@ seed-end stops s₀ ls s i answer k past = go answer (k .growth)
 unfoldable pub grownIf : Bool → Pass → Pass
 grownIf b answer = cond b Grown answer
 
-module _ (stops : Bool) (N : ℕ) (s₀ ls ms ms′ : List ℕ) (i x : ℕ) (answer : Pass) (k : Seeding stops s₀ ls (setOf N ms) i answer) (at : x ≡ getD ls i 0)
-    (inside : i < length ls) (low : x < 2 * N) (off : stops ≡ true → has (setOf N ms) (complement x) ≡ false) where
+module _ (stops : Bool) (N : ℕ) (s₀ ls ms ms′ : List ℕ) (i x : ℕ) (answer : Pass) (k : Seeding stops s₀ ls (setOf N ms) i answer)
+    (at : x ≡ getD ls i 0) (inside : i < length ls) (low : x < 2 * N) (off : stops ≡ true → has (setOf N ms) (complement x) ≡ false) where
   pub seed-adds : (b : Bool) → Adds ms x ms′ b → RestKept N ms ms′ × Seeding stops s₀ ls (setOf N ms′) (i + 1) (grownIf b answer)
   unfolding grownIf
   seed-adds true more = (

@@ -41,7 +41,9 @@ walk-start stops w s sound =
       behind = λ f m. inl (rw from-start m);
     }
 
-pub walk-end : (stops : Bool) (w s₀ s : List ℕ) (at : ℕ) (answer : Pass) → length w < at + width → Walk stops w s₀ s at answer → Passed stops w s₀ s answer
+pub walk-end :
+    (stops : Bool) (w s₀ s : List ℕ) (at : ℕ) (answer : Pass) → length w < at + width → Walk stops w s₀ s at answer
+    → Passed stops w s₀ s answer
 walk-end stops w s₀ s at Same h k =
     (k .growth, λ f m. ⊎-elim (λ z. absurd (elim (rw (from-end w at h) at z) [ ])) (λ d. d) (k .behind f m))
 walk-end stops w s₀ s at Grown h k = (k .reached, k .growth)
@@ -106,6 +108,7 @@ module _ (stops : Bool) (w s₀ s : List ℕ) (at : ℕ) (h : at + width ≤ len
     force-clash p = (p .0, λ T c z. p .1 T (k .reached .least T c z) (in-closed T c (k .reached .least T c z)))
 
 -- ---- from walk to walk
-pub reached-on : (stops : Bool) (C : List (List ℕ)) (s₀ s s′ : List ℕ) → Reached stops C s₀ s → Reached stops C s s′ → Reached stops C s₀ s′
+pub reached-on :
+    (stops : Bool) (C : List (List ℕ)) (s₀ s s′ : List ℕ) → Reached stops C s₀ s → Reached stops C s s′ → Reached stops C s₀ s′
 reached-on stops C s₀ s s′ r r′ =
     record { sound = r′ .sound; above = λ l p. r′ .above l (r .above l p); least = λ T c p. r′ .least T c (r .least T c p) }

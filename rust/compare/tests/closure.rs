@@ -274,14 +274,7 @@ fn structured_tasks() {
     let rng = &mut Rng::new(1003);
     let mut tally = Tally::new("kb_closure, structured tasks");
     let mut findings = [0; 2];
-    let tasks = [
-        structured::ring(30),
-        structured::gripper(5, 2, 2),
-        structured::blocks(4),
-        structured::briefcase(4, 3),
-        structured::transport(2, 4, 4),
-        structured::changer(3, 4),
-    ];
+    let tasks = structured::one_of_each();
     for (image, n) in tasks
         .iter()
         .flat_map(|task| [1, 2, 3].map(|n| (task.image(), n)))

@@ -116,14 +116,7 @@ fn gripper() {
 /// Larger structured tasks, whole.
 #[test]
 fn structured_tasks() {
-    let tasks = [
-        structured::ring(30),
-        structured::gripper(5, 2, 2),
-        structured::blocks(4),
-        structured::briefcase(4, 3),
-        structured::transport(2, 4, 4),
-        structured::changer(3, 4),
-    ];
+    let tasks = structured::one_of_each();
     for task in tasks {
         let image = task.image();
         let task = reference::task::read(&image).expect("a right image");

@@ -186,3 +186,15 @@ pub fn changer(trays: u16, docks: u16) -> TaskSpec {
         operators,
     }
 }
+
+/// A task of each kind, larger than those that are gone through whole.
+pub fn one_of_each() -> [TaskSpec; 6] {
+    [
+        ring(30),
+        gripper(5, 2, 2),
+        blocks(4),
+        briefcase(4, 3),
+        transport(2, 4, 4),
+        changer(3, 4),
+    ]
+}

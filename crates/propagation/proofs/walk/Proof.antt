@@ -28,7 +28,8 @@ use Rattle.propagation.specs.declared.Scan.the-variants as scan
 use Rattle.propagation.specs.Walk.{setOf, RestKept, KnownOpen, Scanned, forcedOf, Forcing, Seeded, Ready, Passed}
 use Rattle.propagation.proofs.Sets.{complement-below}
 use Rattle.propagation.proofs.View.{view-length, view-has, view-inside, rest-self, rest-on}
-use Rattle.propagation.proofs.Scans.{Scanning, scanned-on, scan-start, word-in, scan-same, scan-first, scan-second, scan-forced, scan-all, scan-forcing}
+use Rattle.propagation.proofs.Scans.{Scanning, scanned-on, scan-start, word-in, scan-same, scan-first, scan-second}
+use Rattle.propagation.proofs.Scans.{scan-forced, scan-all, scan-forcing}
 use Rattle.propagation.proofs.Steps.{Walk, walk-start, walk-end, this, pass-row, force-same, force-more, force-clash}
 use Rattle.propagation.proofs.Closed.{room-on}
 use borrow.Author.Needs.{needs}
