@@ -58,10 +58,14 @@ module _ (w : List ℕ) (at k : ℕ) (h : k < width) (inside : at + width ≤ le
   unfolding restAt
   rest-next ne = clause-on (take width (drop at w)) k (getD w (at + k) 0) row-word row-length ne
 
+  pub rest-none : getD w (at + k) 0 ≡ fill → restAt w at k ≡ []
+  unfolding restAt
+  rest-none e = clause-stop (take width (drop at w)) k (getD w (at + k) 0) row-word row-length e
+
   -- the row is that of its clause: after a fill stands only fill
   pub rest-fill : rowOf (clauseOf (take width (drop at w))) ≡ take width (drop at w) → getD w (at + k) 0 ≡ fill → restAt w at k ≡ restAt w at (k + 1)
   unfolding restAt rowOf
   rest-fill same e =
       let row = take width (drop at w) in
-      clause-stop row k (getD w (at + k) 0) row-word row-length e
+      rest-none e
       ∙ sym (rw add-one (filled (width - length (clauseOf row)) k row (sym same) row-length (sym row-word ∙ e)))

@@ -1,26 +1,27 @@
 -- The scan of a row for its open literals, and what it says of the row's clause. Assumes nothing.
 use mathlib.Core.Path.{_≡_, refl, sym, _∙_}
-use mathlib.Core.Bool.{Bool, true, false}
+use mathlib.Core.Bool.{Bool, true, false, not, _&&_}
 use mathlib.Core.Logic.{_⊎_, inl, inr, ⊎-elim}
 use mathlib.Core.List.{List, [], _∷_, List·Memᴰ, List·Memᴰ·head, List·Memᴰ·tail}
 use Prim.Native.Nat.{ℕ, _+_, _*_, _≤_, _<_}
 use native.Mathlib.Omega.{arith}
 use native.Mathlib.Decide.{ℕ-discrete}
-use lib.Dec.{ltb}
-use lib.ListN.{length, getD, take, drop}
-use borrow.Author.Tests.{eq-eqb, ne-eqb, lt-ltb}
+use lib.Dec.{eqb, ltb}
+use lib.ListN.{length, getD, take, drop, set}
+use borrow.Author.Tests.{eq-eqb, ne-eqb, eqb-true, eqb-false, not-true, lt-ltb}
 use Rattle.definitions.specs.Lists.{all, member, ascending}
 use Rattle.definitions.specs.Literal.{fill, complement, allBelow}
 use Rattle.definitions.specs.Clauses.{width, rowOf, clauseOf}
 use Rattle.definitions.specs.Closure.{has, forces}
-use Rattle.definitions.proofs.ListLaws.{never, and-both, all-of, member-in, member-of, above-low, later-ascends}
+use Rattle.definitions.specs.Marks.{marked}
+use Rattle.definitions.proofs.ListLaws.{decide, never, and-both, and-left, and-right, all-of, member-in, member-of, above-low, later-ascends}
 use Rattle.clause.specs.Rows.{clauseAt}
 use Rattle.clause.proofs.Words.{clause-fill, clause-cons, clause-none}
-use Rattle.clause.proofs.Rest.{restAt, rest-start, rest-end, rest-next, rest-fill}
+use Rattle.clause.proofs.Rest.{restAt, rest-start, rest-end, rest-next, rest-none, rest-fill}
 use Rattle.propagation.specs.declared.Scan.{Scan}
 use Rattle.propagation.specs.declared.Scan.the-variants as scan
-use Rattle.propagation.specs.Walk.{In, ClosedAt, Scanned, forcedOf, Forcing}
-use Rattle.propagation.proofs.Sets.{forces-in, forces-others, forces-by}
+use Rattle.propagation.specs.Walk.{In, ClosedAt, Scanned, secondOpen, forcedOf, Forcing, Added}
+use Rattle.propagation.proofs.Sets.{complement-other, set-same, set-in, in-set, forces-in, forces-others, forces-by}
 
 -- no literal of a clause is fill
 no-fill : (row : List ℕ) (l : ℕ) → List·Memᴰ l (clauseOf row) → l ≡ fill → ⊥
@@ -224,3 +225,67 @@ module _ (w s : List ℕ) (at k u : ℕ) (r : Scanning w s at k u) where
             (all-of (λ x. ltb x (2 * N)) (clauseOf (take width (drop at w))) (λ x m. lt-ltb x (2 * N) (low x m)))
         go (no ne) =
             rw (forced-one (take width (drop at w)) u ne) (and-both (lt-ltb u (2 * N) (let z = r .found ne .2 in omega arith)) refl)
+
+-- ---- a row whose second word is an open literal
+pub record SecondOpen (w ms : List ℕ) (at u : ℕ) : Type 0 where
+  pub first : getD w at 0 ≡ u
+  pub literal : getD w (at + 1) 0 ≡ fill → ⊥
+  pub unmarked : marked ms (complement (getD w (at + 1) 0)) ≡ false
+
+pub second-parts : (w ms : List ℕ) (at u : ℕ) → secondOpen w ms at u ≡ true → SecondOpen w ms at u
+unfolding secondOpen
+second-parts w ms at u e =
+    let second = getD w (at + 1) 0 in
+    let rest = and-right (eqb (getD w at 0) u) (not (eqb second fill) && not (marked ms (complement second))) e in
+    record {
+      first = eqb-true (getD w at 0) u (and-left (eqb (getD w at 0) u) (not (eqb second fill) && not (marked ms (complement second))) e);
+      literal = eqb-false second fill (not-true (eqb second fill) (and-left (not (eqb second fill)) (not (marked ms (complement second))) rest));
+      unmarked = not-true (marked ms (complement second)) (and-right (not (eqb second fill)) (not (marked ms (complement second))) rest);
+    }
+
+module _ (w s : List ℕ) (at : ℕ) (r : Scanning w s at 0 fill) (ne : getD w (at + 1) 0 ≡ fill → ⊥) where
+  some : 0 < width
+  unfolding width
+  some = omega arith
+
+  more : 1 < width
+  unfolding width
+  more = omega arith
+
+  pub second-in : List·Memᴰ (getD w (at + 1) 0) (clauseAt w at)
+  second-in = part-next w s at 0 fill r some (getD w (at + 1) 0) (rw (rest-next w at 1 more (r .inside) ne) (List·Memᴰ·head refl))
+
+  -- where it begins with u, which is open, there are two: nothing is forced
+  module _ (u : ℕ) (first : getD w at 0 ≡ u) where
+    first-word : getD w (at + 0) 0 ≡ u
+    first-word =
+        let e : at + 0 ≡ at = omega arith in
+        rw e first
+
+    -- after a fill stands only fill
+    first-literal : u ≡ fill → ⊥
+    first-literal e = elim (rw (sym (rest-start w at) ∙ rest-none w at 0 some (r .inside) (first-word ∙ e)) at second-in) [ ]
+
+    pub second-open :
+        ((u ≡ fill → ⊥) → (u < length s) × (has s (complement u) ≡ false)) → has s (complement (getD w (at + 1) 0)) ≡ false
+        → ClosedAt s (clauseAt w at)
+    second-open known off =
+        let k = known first-literal in
+        let one = scan-first w s at 0 fill r some (rw first-word (k .0)) (rw first-word (first-literal, k .1, refl)) in
+        scan-second w s at 1 u (rw first-word at one) more (ne, off, first-literal)
+
+-- an open literal that is marked stays open
+pub still-open :
+    (stops : Bool) (s s′ row : List ℕ) (u : ℕ) → (u ≡ fill → ⊥) → u < length s → has s (complement u) ≡ false
+    → Added stops s (forcedOf row u) s′ → has s′ (complement u) ≡ false
+still-open stops s s′ row u ne inside off added = go (decide (has s′ (complement u)))
+  where
+    one : (l : ℕ) → List·Memᴰ l (u ∷ []) → In (set s u 1) l
+    one l (List·Memᴰ·head e) = rw e (set-same s u inside)
+    one l (List·Memᴰ·tail z) = elim z [ ]
+
+    go : (has s′ (complement u) ≡ true) ⊎ (has s′ (complement u) ≡ false) → has s′ (complement u) ≡ false
+    go (inl e) =
+        let low = added .least (set s u 1) (set-in s u inside) (λ l m. one l (member-of l (u ∷ []) (rw (forced-one row u ne) at m))) in
+        absurd (⊎-elim (complement-other u) (λ p. never {A = ⊥} p off) (in-set s u inside (complement u) (low (complement u) e)))
+    go (inr e) = e

@@ -6,7 +6,7 @@ use literal::Literal;
 ghost use mathlib.Core.Path.{_≡_};
 ghost use mathlib.Core.Bool.{true, not, _&&_};
 ghost use mathlib.Core.List.{List, _++_};
-ghost use Prim.Native.Nat.{ℕ, _*_, _/_, _<_};
+ghost use Prim.Native.Nat.{ℕ, _+_, _*_, _/_, _<_};
 ghost use lib.ListN.{length, drop};
 ghost use Rattle.definitions.specs.Literal.{fill, complement, allBelow};
 ghost use Rattle.definitions.specs.Clauses.{clauseOf};
@@ -14,7 +14,8 @@ ghost use Rattle.definitions.specs.Closure.{has, closure};
 ghost use Rattle.definitions.specs.Marks.{markBytes, marked, marksOf};
 ghost use Rattle.clause.specs.Rows.{clausesOf};
 ghost use Rattle.propagation.specs.Marks.{Marked, ConsistentMarks, Asked, closingOf, Closes};
-ghost use Rattle.propagation.specs.Walk.{setOf, Room, Ready, RestKept, KnownOpen, Scanned, Forcing, forcedOf, Seeded, Passed, Saturated, Propagated};
+ghost use Rattle.propagation.specs.Walk.{setOf, Room, Ready, RestKept, Scanned, secondOpen, SecondInside, Forcing, forcedOf, Seeded};
+ghost use Rattle.propagation.specs.Walk.{Passed, Saturated, Propagated};
 
 pub mod marks; // marks.rt: a bit for each literal
 
@@ -55,32 +56,37 @@ fn is_false(marks: &[u8], l: u16) -> bool
     marks::is_marked(marks, opposite.index())
 }
 
-// Whether the complement of literal `l` is not marked, where that of `known`, unless it is fill, is known not to be.
-fn is_open(marks: &[u8], l: u16, known: u16) -> bool
-    requires { ⌜ (l < 65535) × (complement l / 8 < length (now marks)) × KnownOpen (now marks) known ⌝ }
-    ensures { λ r. ⌜ r ≡ not (marked (now (marks .entry)) (complement l)) ⌝ }
-{
-    if l == known {
-        return true;
-    }
-    !is_false(marks, l)
-}
-
-// What `word` adds to the scan of a row whose first open literal is `first`, or fill if there is none. `known` is as in `is_open`.
-fn scan_word(marks: &[u8], word: u16, first: u16, known: u16) -> Scan
-    requires { ⌜ ((word ≡ fill → ⊥) → complement word / 8 < length (now marks)) × KnownOpen (now marks) known ⌝ }
+// What `word` adds to the scan of a row whose first open literal is `first`, or fill if there is none.
+fn scan_word(marks: &[u8], word: u16, first: u16) -> Scan
+    requires { ⌜ ((word ≡ fill → ⊥) → complement word / 8 < length (now marks)) ⌝ }
     ensures { λ r. ⌜ Scanned (marked (now (marks .entry)) (complement word)) word first r ⌝ }
 {
     if word == Literal::FILL {
         return Scan::Same;
     }
-    if !is_open(marks, word, known) {
+    if is_false(marks, word) {
         return Scan::Same;
     }
     if first != Literal::FILL {
         return Scan::Second;
     }
     Scan::First
+}
+
+// Whether the row at word `at` begins with `known`, and its second word is an open literal. Where `known` is open, that is two open
+// literals, found without looking at the first one's mark.
+fn second_is_open(clauses: &[u16], at: usize, marks: &[u8], known: u16) -> bool
+    requires { ⌜ (at + 1 < length (now clauses)) × SecondInside (now clauses) (now marks) at ⌝ }
+    ensures { λ r. ⌜ r ≡ secondOpen (now (clauses .entry)) (now (marks .entry)) at known ⌝ }
+{
+    if clauses[at] != known {
+        return false;
+    }
+    let second = clauses[at + 1];
+    if second == Literal::FILL {
+        return false;
+    }
+    !is_false(marks, second)
 }
 
 // Whether propagation stops at literal `l`: if `stops`, and its complement is marked.
@@ -130,8 +136,8 @@ fn force(row: &[u16], first: u16, marks: &mut [u8], atoms: usize, stops: bool) -
 
 // Walks over the clauses and the literals of each, and marks each literal that follows: a clause with two open literals forces nothing,
 // one with one forces it, one with none all of its literals. If `stops`, it is left at the first complement met. Of whole rows one begins
-// wherever words are left. Rows ascend, so that many begin with the same literal: `known` is an open literal that is not looked at again,
-// until something is marked, or fill.
+// wherever words are left. Rows ascend, so that many begin with the same literal: `known` is the open literal of the last row that was
+// scanned, or fill. Marking it leaves it open, so that the rows that begin with it need not be scanned from their first literal on.
 fn walk(clauses: &[u16], marks: &mut [u8], atoms: usize, stops: bool) -> Pass
     requires { ⌜ Ready stops atoms (now clauses) (now marks) ⌝ }
     ensures { λ r. ⌜ RestKept atoms (now (marks .entry)) (now (marks .exit))
@@ -143,11 +149,14 @@ fn walk(clauses: &[u16], marks: &mut [u8], atoms: usize, stops: bool) -> Pass
     'walk: while place.at < clauses.len() {
         let here = place;
         place = place.next();
+        if second_is_open(clauses, here.at, marks, known) {
+            continue 'walk;
+        }
         let mut first = Literal::FILL;
         let mut k: usize = 0;
         while k < WIDTH {
             let word = clauses[here.at + k];
-            let scan = scan_word(marks, word, first, known);
+            let scan = scan_word(marks, word, first);
             match scan {
                 Scan::Same => {}
                 Scan::First => {
@@ -160,12 +169,12 @@ fn walk(clauses: &[u16], marks: &mut [u8], atoms: usize, stops: bool) -> Pass
             }
             k += 1;
         }
+        known = first;
         let forced = force(here.row(clauses), first, marks, atoms, stops);
         match forced {
             Pass::Same => {}
             Pass::Grown => {
                 pass = Pass::Grown;
-                known = Literal::FILL;
             }
             Pass::Contradictory => {
                 pass = Pass::Contradictory;

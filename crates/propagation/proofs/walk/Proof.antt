@@ -17,6 +17,7 @@ use Rattle.definitions.proofs.LiteralLaws.{list-ascends}
 use Rattle.definitions.proofs.MarkBits.{mark-inside}
 use Rattle.clause.specs.Rows.{rowCount, clauseAt, RightRows}
 use Rattle.clause.specs.Place.{Placed, AtRow}
+use Rattle.clause.specs.declared.place.RowPlace.{RowPlace}
 use Rattle.clause.proofs.RowPlaces.{placed-first, first-position, row-begins, row-ends, row-words}
 use Rattle.clause.proofs.RowPlaces.{has-next, placed-next, next-position, fewer-left}
 use Rattle.clause.proofs.ReadLaws.{read-right}
@@ -25,11 +26,12 @@ use Rattle.propagation.specs.declared.Pass.{Pass}
 use Rattle.propagation.specs.declared.Pass.the-variants.{Same, Grown, Contradictory}
 use Rattle.propagation.specs.declared.Scan.{Scan}
 use Rattle.propagation.specs.declared.Scan.the-variants as scan
-use Rattle.propagation.specs.Walk.{setOf, RestKept, KnownOpen, Scanned, forcedOf, Forcing, Seeded, Ready, Passed}
+use Rattle.propagation.specs.Walk.{setOf, RestKept, Scanned, forcedOf, Forcing, Seeded, Ready, Passed}
 use Rattle.propagation.proofs.Sets.{complement-below}
 use Rattle.propagation.proofs.View.{view-length, view-has, view-inside, rest-self, rest-on}
 use Rattle.propagation.proofs.Scans.{Scanning, scanned-on, scan-start, word-in, scan-same, scan-first, scan-second}
 use Rattle.propagation.proofs.Scans.{scan-forced, scan-all, scan-forcing}
+use Rattle.propagation.proofs.Scans.{second-parts, second-in, second-open, still-open}
 use Rattle.propagation.proofs.Steps.{Walk, walk-start, walk-end, this, pass-row, force-same, force-more, force-clash}
 use Rattle.propagation.proofs.Closed.{room-on}
 use borrow.Author.Needs.{needs}
@@ -43,17 +45,23 @@ Open atoms marks u = (u ≡ fill → ⊥) → (u < 2 * atoms) × (has (setOf ato
 not-open : (atoms : ℕ) (marks : List ℕ) → Open atoms marks fill
 not-open atoms marks ne = absurd (ne refl)
 
+-- between two rows: the marks at the start and now, the answer so far, the literal known to be open, and the next row's place
+record Going (clauses marks₀ marks : List ℕ) (atoms : ℕ) (stops : Bool) (pass : Pass) (known : ℕ) (place : RowPlace) : Type 0 where
+  placed : Placed clauses place
+  rest : RestKept atoms marks₀ marks
+  state : Walk stops clauses (setOf atoms marks₀) (setOf atoms marks) (place .at) pass
+  opened : Open atoms marks known
+
 abbrev Inv-loop : tie.InvT-loop
 Inv-loop clauses marks atoms stops pass known₀ place here first₀ k₀ known first k =
-    (k ≤ width) × Scanning clauses (setOf atoms marks) (here .at) k first × Open atoms marks known
+    (k ≤ width) × Scanning clauses (setOf atoms marks) (here .at) k first
 
 abbrev μ-loop : tie.MeasureT-loop
 μ-loop clauses marks atoms stops pass known₀ place here first₀ k₀ known first k = width - k
 
 abbrev Inv-walk : tie.InvT-walk
 Inv-walk clauses marks₀ atoms stops pass₀ known₀ place₀ marks pass known place =
-    Placed clauses place × RestKept atoms marks₀ marks × Walk stops clauses (setOf atoms marks₀) (setOf atoms marks) (place .at) pass
-    × Open atoms marks known
+    Going clauses marks₀ marks atoms stops pass known place
 
 abbrev μ-walk : tie.MeasureT-walk
 μ-walk clauses marks₀ atoms stops pass₀ known₀ place₀ marks pass known place = rowCount clauses - place .number
@@ -76,7 +84,7 @@ rows-at h = read-right (start-of h .args .atoms) (words-of h) (start-of h .pre .
 
 -- where there is a row
 row-of-test : (t : tie.Then1 Inv-loop μ-loop Inv-walk μ-walk) → let h = t .before .before in AtRow (words-of h) (h .walk .place)
-row-of-test t = let h = t .before .before in row-begins (h .walk .inv .0) (rows-at h .ascending .whole) (t .if1 .taken)
+row-of-test t = let h = t .before .before in row-begins (h .walk .inv .placed) (rows-at h .ascending .whole) (t .if1 .taken)
 
 -- in the outer loop: the clause words, the marks at the start and now, their sets, the row's position, and the answer so far
 abbrev outer : Type 0
@@ -122,10 +130,10 @@ ready : (w : outer) → Ready (stops w) (atoms w) (words w) (marks-first w)
 ready w = start w .pre
 
 rest-now : (w : outer) → RestKept (atoms w) (marks-first w) (marks-now w)
-rest-now w = at-head w .walk .inv .1
+rest-now w = at-head w .walk .inv .rest
 
 state : (w : outer) → Walk (stops w) (words w) (set-first w) (set-now w) (position w) (so-far w)
-state w = at-head w .walk .inv .2
+state w = at-head w .walk .inv .state
 
 room : (w : outer) → markBytes (atoms w) ≤ length (marks-now w)
 room w = rw (rest-now w .same-length) (ready w .marks .room)
@@ -153,26 +161,43 @@ less-left : (w : outer) → let c = rowCount (words w) in c - w .next .result .n
 less-left w = fewer-left (at-row-of w) (w .next .ensures)
 
 abbrev On : outer → List ℕ → Pass → ℕ → Type 0
-On w ms a u =
-    Placed (words w) (w .next .result) × RestKept (atoms w) (marks-first w) ms
-    × Walk (stops w) (words w) (set-first w) (setOf (atoms w) ms) (w .next .result .at) a × Open (atoms w) ms u
+On w ms a u = Going (words w) (marks-first w) ms (atoms w) (stops w) a u (w .next .result)
 
 on :
     (w : outer) (ms : List ℕ) (a : Pass) (u : ℕ) → RestKept (atoms w) (marks-first w) ms
     → Walk (stops w) (words w) (set-first w) (setOf (atoms w) ms) (position w + width) a → Open (atoms w) ms u → On w ms a u
-on w ms a u rest k unmarked = (
-  placed-next (at-row-of w) (w .next .ensures),
-  rest,
-  subst (λ (x : ℕ). Walk (stops w) (words w) (set-first w) (setOf (atoms w) ms) x a) (sym (next-position (at-row-of w) (w .next .ensures))) k,
-  unmarked,
-)
+on w ms a u rest k unmarked =
+    let next = next-position (at-row-of w) (w .next .ensures) in
+    record {
+      placed = placed-next (at-row-of w) (w .next .ensures);
+      rest = rest;
+      state = subst (λ (x : ℕ). Walk (stops w) (words w) (set-first w) (setOf (atoms w) ms) x a) (sym next) k;
+      opened = unmarked;
+    }
+
+-- the scan of the row begins
+scan-of-row : (w : outer) → Scanning (words w) (set-now w) (position w) 0 fill
+scan-of-row w = scan-start (words w) (set-now w) (position w) (inside w) (right-row (atoms w) _ (row-right w)) (row-ascends w)
+
+-- its second word
+abbrev second : outer → ℕ
+second w = getD (words w) (position w + 1) 0
+
+second-low : (w : outer) → (second w ≡ fill → ⊥) → complement (second w) < 2 * atoms w
+second-low w ne =
+    complement-below (second w) (2 * atoms w) (omega arith)
+    (row-below w (second w) (second-in (words w) (set-now w) (position w) (scan-of-row w) ne))
+
+-- after its first two words were looked at
+abbrev row-asked : tie.After-second-is-open Inv-loop μ-loop Inv-walk μ-walk → outer
+row-asked c = c .before .before
 
 -- in the inner loop: the word
 abbrev inner : Type 0
 inner = tie.In-loop Inv-loop μ-loop Inv-walk μ-walk
 
 abbrev row-at : tie.At-loop Inv-loop μ-loop Inv-walk μ-walk → outer
-row-at h = h .before
+row-at h = row-asked (h .before .before)
 
 abbrev row-of : inner → outer
 row-of c = row-at (c .before)
@@ -196,13 +221,6 @@ word-below c ne =
 complement-low : (c : inner) → (word c ≡ fill → ⊥) → complement (word c) < 2 * atoms (row-of c)
 complement-low c ne = complement-below (word c) (2 * atoms (row-of c)) (omega arith) (word-below c ne)
 
--- the literal known to be open, by its mark
-known-open : (c : inner) → KnownOpen (marks-now (row-of c)) (c .before .loop .known)
-known-open c ne =
-    let w = row-of c in
-    let known = c .before .loop .inv .2 ne in
-    sym (view-has (atoms w) (marks-now w) _ (complement-below _ (2 * atoms w) (omega arith) (known .0))) ∙ known .1
-
 -- after the inner loop: the scan of the whole row
 abbrev after-row : Type 0
 after-row = tie.After-loop Inv-loop μ-loop Inv-walk μ-walk
@@ -215,6 +233,9 @@ opened c = c .before .loop .first
 
 scanned : (c : after-row) → Scanning (words (row c)) (set-now (row c)) (position (row c)) (c .before .loop .k) (opened c)
 scanned c = c .before .loop .inv .1
+
+open-below : (c : after-row) → (opened c ≡ fill → ⊥) → opened c < 2 * atoms (row c)
+open-below c ne = rw (view-length (atoms (row c)) (marks-now (row c))) at (scanned c .found ne .2)
 
 all-words : (c : after-row) → width ≤ c .before .loop .k
 unfolding width
@@ -295,23 +316,30 @@ module _ (f : followed) where
   all : (l : ℕ) → forces (set-now w) l (clauseAt (words w) (position w)) ≡ true → member l ls ≡ true
   all = scan-all (words w) (set-now w) (position w) k (opened a) (scanned a) (all-words a)
 
-  on-same : f .force .result ≡ Same → On w (f .force .last .1 .1 .0) (so-far w) (a .before .loop .known)
+  abbrev after : List ℕ
+  after = f .force .last .1 .1 .0
+
+  low : (opened a ≡ fill → ⊥) → opened a < 2 * atoms w
+  low ne = open-below a ne
+
+  on-same : f .force .result ≡ Same → On w after (so-far w) (opened a)
   on-same e =
       let p = follows f Same e in
-      on w (f .force .last .1 .1 .0) (so-far w) (a .before .loop .known) (rest-after f)
+      on w after (so-far w) (opened a) (rest-after f)
       (force-same (stops w) (words w) (set-first w) (set-now w) (position w) (inside w) (so-far w) (state w) ls _ forced all p)
-      (λ ne. let q = a .before .loop .inv .2 ne in (q .0, ap (λ (s : List ℕ). has s (complement (a .before .loop .known))) (p .0) ∙ q .1))
+      (λ ne. (low ne, ap (λ (s : List ℕ). has s (complement (opened a))) (p .0) ∙ scanned a .found ne .1))
 
-  on-more : f .force .result ≡ Grown → On w (f .force .last .1 .1 .0) Grown fill
+  on-more : f .force .result ≡ Grown → On w after Grown (opened a)
   on-more e =
-      on w (f .force .last .1 .1 .0) Grown fill (rest-after f)
-      (force-more (stops w) (words w) (set-first w) (set-now w) (position w) (inside w) (so-far w) (state w) ls _ forced all (follows f Grown e))
-      (not-open (atoms w) (f .force .last .1 .1 .0))
+      let p = follows f Grown e in
+      on w after Grown (opened a) (rest-after f)
+      (force-more (stops w) (words w) (set-first w) (set-now w) (position w) (inside w) (so-far w) (state w) ls _ forced all p)
+      (λ ne. let f = scanned a .found ne in (low ne, still-open (stops w) (set-now w) _ _ (opened a) ne (f .2) (f .1) (p .0)))
 
-  left : f .force .result ≡ Contradictory → Passed (stops w) (words w) (set-first w) (setOf (atoms w) (f .force .last .1 .1 .0)) Contradictory
+  left : f .force .result ≡ Contradictory → Passed (stops w) (words w) (set-first w) (setOf (atoms w) after) Contradictory
   left e =
       force-clash (stops w) (words w) (set-first w) (set-now w) (position w) (inside w) (so-far w) (state w) ls
-      (setOf (atoms w) (f .force .last .1 .1 .0)) forced all (follows f Contradictory e)
+      (setOf (atoms w) after) forced all (follows f Contradictory e)
 
 -- where its answer is looked at
 abbrev force-of : tie.After-slice-known2 Inv-loop μ-loop Inv-walk μ-walk → followed
@@ -325,23 +353,42 @@ start-of-first c = c .before .before .before
 
 walk-holds : tie.Need-walk-holds Inv-loop μ-loop Inv-walk μ-walk
 unfolding fill
-walk-holds c = (
-  placed-first (c .first .ensures),
-  rest-self _ _,
-  rw (first-position (c .first .ensures)) (walk-start _ _ _ (start-of-first c .pre .marks .sound)),
-  not-open _ _,
-)
+walk-holds c =
+    record {
+      placed = placed-first (c .first .ensures);
+      rest = rest-self _ _;
+      state = rw (first-position (c .first .ensures)) (walk-start _ _ _ (start-of-first c .pre .marks .sound));
+      opened = not-open _ _;
+    }
 
 next-requires : tie.Need-next-requires Inv-loop μ-loop Inv-walk μ-walk
 next-requires c κs = has-next (row-of-test c) (start-of (c .before .before) .good .0 .0)
 
+second-is-open-requires : tie.Need-second-is-open-requires Inv-loop μ-loop Inv-walk μ-walk
+unfolding width
+second-is-open-requires c κs =
+    let w = c .before in
+    (omega (arith, inside w), λ ne. omega (arith, mark-inside (atoms w) (complement (second w)) (second-low w ne), room w))
+
+walk-less : tie.Need-walk-less Inv-loop μ-loop Inv-walk μ-walk
+walk-less c = less-left (row-asked (c .before))
+
+walk-again : tie.Need-walk-again Inv-loop μ-loop Inv-walk μ-walk
+walk-again c =
+    let w = row-asked (c .before) in
+    let u = at-head w .walk .known in
+    let known = at-head w .walk .inv .opened in
+    let p = second-parts (words w) (marks-now w) (position w) u (sym (c .before .second-is-open .ensures) ∙ c .if2 .taken) in
+    let off = view-has (atoms w) (marks-now w) (complement (second w)) (second-low w (p .literal)) ∙ p .unmarked in
+    let inside-set : (u ≡ fill → ⊥) → (u < length (set-now w)) × (has (set-now w) (complement u) ≡ false) =
+    λ ne. (view-inside (atoms w) (marks-now w) u (known ne .0), known ne .1) in
+    let two = second-open (words w) (set-now w) (position w) (scan-of-row w) (p .literal) u (p .first) inside-set off in
+    on w (marks-now w) (so-far w) u (rest-now w)
+    (pass-row (stops w) (words w) (set-first w) (set-now w) (position w) (inside w) (so-far w) (state w) two) known
+
 loop-holds : tie.Need-loop-holds Inv-loop μ-loop Inv-walk μ-walk
 unfolding fill
-loop-holds c = (
-  omega arith,
-  scan-start (words c) (set-now c) (position c) (inside c) (right-row (atoms c) _ (row-right c)) (row-ascends c),
-  at-head c .walk .inv .3,
-)
+loop-holds c = (omega arith, scan-of-row (row-asked (c .before)))
 
 add-word : tie.Need-add-word Inv-loop μ-loop Inv-walk μ-walk
 add-word c = omega (arith, in-range (c .before))
@@ -355,7 +402,7 @@ shared-slice-read-word c = in-range (c .before .before)
 scan-word-requires : tie.Need-scan-word-requires Inv-loop μ-loop Inv-walk μ-walk
 scan-word-requires c κs =
     let i = c .before .before .before in
-    (λ ne. omega (arith, mark-inside (atoms (row-of i)) (complement (word i)) (complement-low i ne), room (row-of i)), known-open i)
+    λ ne. omega (arith, mark-inside (atoms (row-of i)) (complement (word i)) (complement-low i ne), room (row-of i))
 
 enum-told : tie.Need-enum-told Inv-loop μ-loop Inv-walk μ-walk
 enum-told c = c .match .keys1
@@ -366,11 +413,11 @@ enum-told-2 c = c .match .keys2
 enum-told-3 : tie.Need-enum-told-3 Inv-loop μ-loop Inv-walk μ-walk
 enum-told-3 c = c .match .keys3
 
-walk-less : tie.Need-walk-less Inv-loop μ-loop Inv-walk μ-walk
-walk-less c = less-left (row-of (at (looked-by c)))
+walk-less-2 : tie.Need-walk-less-2 Inv-loop μ-loop Inv-walk μ-walk
+walk-less-2 c = less-left (row-of (at (looked-by c)))
 
-walk-again : tie.Need-walk-again Inv-loop μ-loop Inv-walk μ-walk
-walk-again c =
+walk-again-2 : tie.Need-walk-again-2 Inv-loop μ-loop Inv-walk μ-walk
+walk-again-2 c =
     let o = looked-by c in
     let i = at o in
     let w = row-of i in
@@ -406,7 +453,6 @@ loop-again c =
           let below = view-inside (atoms w) (marks-now w) (word i) (word-below i (first .0)) in
           subst Scans (sym (a .2)) (scan-first (words w) (set-now w) (position w) (l .k) (l .first) (l .inv .1) (in-width i) below first))
           (c .match .came),
-      l .inv .2,
     )
 
 row-requires : tie.Need-row-requires Inv-loop μ-loop Inv-walk μ-walk
@@ -427,31 +473,31 @@ force-requires c κs =
 enum-told-4 : tie.Need-enum-told-4 Inv-loop μ-loop Inv-walk μ-walk
 enum-told-4 c = c .match2 .keys1
 
-walk-less-2 : tie.Need-walk-less-2 Inv-loop μ-loop Inv-walk μ-walk
-walk-less-2 c = less-left (row (scan-of (force-of (c .before .before))))
-
-walk-again-2 : tie.Need-walk-again-2 Inv-loop μ-loop Inv-walk μ-walk
-walk-again-2 c = on-same (force-of (c .before .before)) (c .enum-told4 .given .1)
-
-enum-told-5 : tie.Need-enum-told-5 Inv-loop μ-loop Inv-walk μ-walk
-enum-told-5 c = c .match2 .keys2
-
 walk-less-3 : tie.Need-walk-less-3 Inv-loop μ-loop Inv-walk μ-walk
 walk-less-3 c = less-left (row (scan-of (force-of (c .before .before))))
 
 walk-again-3 : tie.Need-walk-again-3 Inv-loop μ-loop Inv-walk μ-walk
+walk-again-3 c = on-same (force-of (c .before .before)) (c .enum-told4 .given .1)
+
+enum-told-5 : tie.Need-enum-told-5 Inv-loop μ-loop Inv-walk μ-walk
+enum-told-5 c = c .match2 .keys2
+
+walk-less-4 : tie.Need-walk-less-4 Inv-loop μ-loop Inv-walk μ-walk
+walk-less-4 c = less-left (row (scan-of (force-of (c .before .before))))
+
+walk-again-4 : tie.Need-walk-again-4 Inv-loop μ-loop Inv-walk μ-walk
 unfolding fill
-walk-again-3 c = on-more (force-of (c .before .before)) (c .enum-told5 .given .1)
+walk-again-4 c = on-more (force-of (c .before .before)) (c .enum-told5 .given .1)
 
 enum-told-6 : tie.Need-enum-told-6 Inv-loop μ-loop Inv-walk μ-walk
 enum-told-6 c = c .match2 .keys3
 
 same-length : tie.Need-same-length Inv-loop μ-loop Inv-walk μ-walk
-same-length c = c .before .before .walk .inv .1 .same-length
+same-length c = c .before .before .walk .inv .rest .same-length
 
 returns : tie.Need-returns Inv-loop μ-loop Inv-walk μ-walk
 unfolding width
-returns c = let l = c .before .before .walk in (l .inv .1, walk-end _ _ _ _ _ _ (omega (arith, c .if1 .left)) (l .inv .2))
+returns c = let l = c .before .before .walk in (l .inv .rest, walk-end _ _ _ _ _ _ (omega (arith, c .if1 .left)) (l .inv .state))
 
 same-length-2 : tie.Need-same-length-2 Inv-loop μ-loop Inv-walk μ-walk
 same-length-2 c = rest-after (force-of (c .before .before)) .same-length
@@ -470,6 +516,9 @@ walk-spec =
     first-requires
     walk-holds
     next-requires
+    second-is-open-requires
+    walk-less
+    walk-again
     loop-holds
     add-word
     mul-word
@@ -478,19 +527,19 @@ walk-spec =
     enum-told
     enum-told-2
     enum-told-3
-    walk-less
-    walk-again
+    walk-less-2
+    walk-again-2
     add-k
     loop-less
     loop-again
     row-requires
     force-requires
     enum-told-4
-    walk-less-2
-    walk-again-2
-    enum-told-5
     walk-less-3
     walk-again-3
+    enum-told-5
+    walk-less-4
+    walk-again-4
     enum-told-6
     same-length
     returns
