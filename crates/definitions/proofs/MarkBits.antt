@@ -325,7 +325,9 @@ module _ (N : ℕ) (ms : List ℕ) where
         go (no ne) = part-other l ne ∙ whole-high l (omega arith)
 
 -- ---- marks counted
-keep-parts : (p : ℕ → Bool) (start a b : ℕ) → length (keep p (range start (a + b))) ≡ length (keep p (range start a)) + length (keep p (range (start + a) b))
+keep-parts :
+    (p : ℕ → Bool) (start a b : ℕ)
+    → length (keep p (range start (a + b))) ≡ length (keep p (range start a)) + length (keep p (range (start + a) b))
 unfolding range keep
 keep-parts p start zero b =
     let none : 0 + b ≡ b = omega arith in

@@ -43,5 +43,6 @@ pub record Shows (N : ℕ) (K ms : List ℕ) (x : Written) (ms′ : List ℕ) : 
 -- of every finding
 abbrev pub ClosureShown : Type 0
 ClosureShown =
-    (w c : List ℕ) (i : ℕ) (ms : List ℕ) (t : Task) (C : List (List ℕ)) (x : Written) → readTask w ≡ finding t → readClauses (t .atoms) c ≡ finding C
+    (w c : List ℕ) (i : ℕ) (ms : List ℕ) (t : Task) (C : List (List ℕ)) (x : Written)
+    → readTask w ≡ finding t → readClauses (t .atoms) c ≡ finding C
     → closureCall w c i ms ≡ finding x → Shows (t .atoms) (operatorClosure t C i) ms x (written ms (finding x) .lent)

@@ -137,7 +137,9 @@ module _ (N : ℕ) (C : List (List ℕ)) where
             (closure-under (a ++ b))
 
         given : (l : ℕ) → l < 2 * N → List·Memᴰ l a ⊎ List·Memᴰ l b → In (closure N C (elements K ++ b)) l
-        given l k (inl z) = closure-holds N C (elements K ++ b) l k (member-in (Memᴰ·append-left b (element-in K l k (closure-holds N C a l k (member-in z)))))
+        given l k (inl z) =
+            let held = closure-holds N C a l k (member-in z) in
+            closure-holds N C (elements K ++ b) l k (member-in (Memᴰ·append-left b (element-in K l k held)))
         given l k (inr z) = closure-holds N C (elements K ++ b) l k (member-in (Memᴰ·append-right (elements K) z))
 
         from : Part (closure N C (a ++ b)) (closure N C (elements K ++ b))

@@ -1,6 +1,6 @@
 -- The scan of a row for its open literals, and what it says of the row's clause. Assumes nothing.
 use mathlib.Core.Path.{_≡_, refl, sym, _∙_}
-use mathlib.Core.Bool.{Bool, true, false, not, _&&_}
+use mathlib.Core.Bool.{Bool, true, false, not}
 use mathlib.Core.Logic.{_⊎_, inl, inr, ⊎-elim}
 use mathlib.Core.List.{List, [], _∷_, List·Memᴰ, List·Memᴰ·head, List·Memᴰ·tail}
 use Prim.Native.Nat.{ℕ, _+_, _*_, _≤_, _<_}
@@ -8,7 +8,7 @@ use native.Mathlib.Omega.{arith}
 use native.Mathlib.Decide.{ℕ-discrete}
 use lib.Dec.{eqb, ltb}
 use lib.ListN.{length, getD, take, drop, set}
-use borrow.Author.Tests.{eq-eqb, ne-eqb, eqb-true, eqb-false, not-true, lt-ltb}
+use borrow.Author.Tests.{eq-eqb, ne-eqb, eqb-false, not-true, not-false, lt-ltb}
 use Rattle.definitions.specs.Lists.{all, member, ascending}
 use Rattle.definitions.specs.Literal.{fill, complement, allBelow}
 use Rattle.definitions.specs.Clauses.{width, rowOf, clauseOf}
@@ -20,8 +20,8 @@ use Rattle.clause.proofs.Words.{clause-fill, clause-cons, clause-none}
 use Rattle.clause.proofs.Rest.{restAt, rest-start, rest-end, rest-next, rest-none, rest-fill}
 use Rattle.propagation.specs.declared.Scan.{Scan}
 use Rattle.propagation.specs.declared.Scan.the-variants as scan
-use Rattle.propagation.specs.Walk.{In, ClosedAt, Scanned, secondOpen, forcedOf, Forcing, Added}
-use Rattle.propagation.proofs.Sets.{complement-other, set-same, set-in, in-set, forces-in, forces-others, forces-by}
+use Rattle.propagation.specs.Walk.{In, ClosedAt, openWord, Scanned, forcedOf, Forcing, Added}
+use Rattle.propagation.proofs.Sets.{complement-other, in-below, set-same, set-in, in-set, forces-in, forces-others, forces-by}
 
 -- no literal of a clause is fill
 no-fill : (row : List ℕ) (l : ℕ) → List·Memᴰ l (clauseOf row) → l ≡ fill → ⊥
@@ -40,6 +40,18 @@ clause-fills : (w : List ℕ) (at l : ℕ) → List·Memᴰ l (clauseAt w at) �
 unfolding clauseAt
 clause-fills w at l m = no-fill (take width (drop at w)) l m
 
+-- a word that is an open literal, and one that is not
+pub open-word : (ms : List ℕ) (w : ℕ) → openWord ms w ≡ true → (w ≡ fill → ⊥) × (marked ms (complement w) ≡ false)
+unfolding openWord
+open-word ms w e = (
+  eqb-false w fill (not-true (eqb w fill) (and-left (not (eqb w fill)) (not (marked ms (complement w))) e)),
+  not-true (marked ms (complement w)) (and-right (not (eqb w fill)) (not (marked ms (complement w))) e),
+)
+
+pub shut-word : (ms : List ℕ) (w : ℕ) → openWord ms w ≡ false → (w ≡ fill → ⊥) → marked ms (complement w) ≡ true
+unfolding openWord
+shut-word ms w e ne = not-false (marked ms (complement w)) (rw (ne-eqb w fill ne) at e)
+
 -- the complement, said otherwise
 pub scanned-on : (off off′ : Bool) (w u : ℕ) (v : Scan) → ((w ≡ fill → ⊥) → off′ ≡ off) → Scanned off w u v → Scanned off′ w u v
 scanned-on off off′ w u scan.Same same p = λ ne. same ne ∙ p ne
@@ -54,6 +66,13 @@ forced-all row u e = rw (eq-eqb u fill e)
 pub forced-one : (row : List ℕ) (u : ℕ) → (u ≡ fill → ⊥) → forcedOf row u ≡ u ∷ []
 unfolding forcedOf
 forced-one row u ne = rw (ne-eqb u fill ne)
+
+-- a literal whose complement is not in the set, or fill
+abbrev pub Open : List ℕ → ℕ → Type 0
+Open s u = (u ≡ fill → ⊥) → (u < length s) × (has s (complement u) ≡ false)
+
+pub not-open : (s : List ℕ) → Open s fill
+not-open s ne = absurd (ne refl)
 
 -- The scan of the row that starts at a word, up to its word k: u is the open literal found, or fill.
 pub record Scanning (w s : List ℕ) (at k u : ℕ) : Type 0 where
@@ -80,6 +99,9 @@ scan-start w s at h same up =
     }
 
 module _ (w s : List ℕ) (at k u : ℕ) (r : Scanning w s at k u) where
+  pub scan-open : Open s u
+  scan-open ne = let f = r .found ne in (f .2, f .1)
+
   abbrev Seen : ℕ → ℕ → ℕ → Type 0
   Seen k′ v l = List·Memᴰ l (restAt w at k′) ⊎ ((l ≡ v) ⊎ In s (complement l))
 
@@ -227,22 +249,6 @@ module _ (w s : List ℕ) (at k u : ℕ) (r : Scanning w s at k u) where
             rw (forced-one (take width (drop at w)) u ne) (and-both (lt-ltb u (2 * N) (let z = r .found ne .2 in omega arith)) refl)
 
 -- ---- a row whose second word is an open literal
-pub record SecondOpen (w ms : List ℕ) (at u : ℕ) : Type 0 where
-  pub first : getD w at 0 ≡ u
-  pub literal : getD w (at + 1) 0 ≡ fill → ⊥
-  pub unmarked : marked ms (complement (getD w (at + 1) 0)) ≡ false
-
-pub second-parts : (w ms : List ℕ) (at u : ℕ) → secondOpen w ms at u ≡ true → SecondOpen w ms at u
-unfolding secondOpen
-second-parts w ms at u e =
-    let second = getD w (at + 1) 0 in
-    let rest = and-right (eqb (getD w at 0) u) (not (eqb second fill) && not (marked ms (complement second))) e in
-    record {
-      first = eqb-true (getD w at 0) u (and-left (eqb (getD w at 0) u) (not (eqb second fill) && not (marked ms (complement second))) e);
-      literal = eqb-false second fill (not-true (eqb second fill) (and-left (not (eqb second fill)) (not (marked ms (complement second))) rest));
-      unmarked = not-true (marked ms (complement second)) (and-right (not (eqb second fill)) (not (marked ms (complement second))) rest);
-    }
-
 module _ (w s : List ℕ) (at : ℕ) (r : Scanning w s at 0 fill) (ne : getD w (at + 1) 0 ≡ fill → ⊥) where
   some : 0 < width
   unfolding width
@@ -266,20 +272,22 @@ module _ (w s : List ℕ) (at : ℕ) (r : Scanning w s at 0 fill) (ne : getD w (
     first-literal : u ≡ fill → ⊥
     first-literal e = elim (rw (sym (rest-start w at) ∙ rest-none w at 0 some (r .inside) (first-word ∙ e)) at second-in) [ ]
 
-    pub second-open :
-        ((u ≡ fill → ⊥) → (u < length s) × (has s (complement u) ≡ false)) → has s (complement (getD w (at + 1) 0)) ≡ false
-        → ClosedAt s (clauseAt w at)
+    pub second-open : Open s u → has s (complement (getD w (at + 1) 0)) ≡ false → ClosedAt s (clauseAt w at)
     second-open known off =
         let k = known first-literal in
         let one = scan-first w s at 0 fill r some (rw first-word (k .0)) (rw first-word (first-literal, k .1, refl)) in
         scan-second w s at 1 u (rw first-word at one) more (ne, off, first-literal)
 
 -- an open literal that is marked stays open
-pub still-open :
-    (stops : Bool) (s s′ row : List ℕ) (u : ℕ) → (u ≡ fill → ⊥) → u < length s → has s (complement u) ≡ false
-    → Added stops s (forcedOf row u) s′ → has s′ (complement u) ≡ false
-still-open stops s s′ row u ne inside off added = go (decide (has s′ (complement u)))
+pub still-open : (stops : Bool) (s s′ row : List ℕ) (u : ℕ) → Open s u → Added stops s (forcedOf row u) s′ → Open s′ u
+still-open stops s s′ row u known added ne = (in-below s′ u (added .holds u listed), go (decide (has s′ (complement u))))
   where
+    inside : u < length s
+    inside = known ne .0
+
+    listed : member u (forcedOf row u) ≡ true
+    listed = rw (forced-one row u ne) (member-in (List·Memᴰ·head refl))
+
     one : (l : ℕ) → List·Memᴰ l (u ∷ []) → In (set s u 1) l
     one l (List·Memᴰ·head e) = rw e (set-same s u inside)
     one l (List·Memᴰ·tail z) = elim z [ ]
@@ -287,5 +295,5 @@ still-open stops s s′ row u ne inside off added = go (decide (has s′ (comple
     go : (has s′ (complement u) ≡ true) ⊎ (has s′ (complement u) ≡ false) → has s′ (complement u) ≡ false
     go (inl e) =
         let low = added .least (set s u 1) (set-in s u inside) (λ l m. one l (member-of l (u ∷ []) (rw (forced-one row u ne) at m))) in
-        absurd (⊎-elim (complement-other u) (λ p. never {A = ⊥} p off) (in-set s u inside (complement u) (low (complement u) e)))
+        absurd (⊎-elim (complement-other u) (λ p. never {A = ⊥} p (known ne .1)) (in-set s u inside (complement u) (low (complement u) e)))
     go (inr e) = e

@@ -5,7 +5,7 @@ use mathlib.Core.Bool.{Bool, true, false, cond, not, _&&_}
 use mathlib.Core.List.{List, [], _∷_, map, List·Memᴰ}
 use Prim.Native.Nat.{ℕ, _+_, _-_, _*_, _/_, _≤_, _<_}
 use lib.Dec.{eqb}
-use lib.ListN.{length, getD}
+use lib.ListN.{length}
 use Rattle.definitions.specs.Lists.{below, member}
 use Rattle.definitions.specs.Literal.{mostAtoms, fill, complement, allBelow}
 use Rattle.definitions.specs.Clauses.{clauseOf}
@@ -87,21 +87,19 @@ pub record Ready (stops : Bool) (atoms : ℕ) (ws ms : List ℕ) : Type 0 where
   pub marks : Room stops atoms ms
   pub rows : ClausesRead atoms ws
 
+-- a word is an open literal: no fill, and its complement is not marked
+unfoldable pub openWord : List ℕ → ℕ → Bool
+openWord ms w = not (eqb w fill) && not (marked ms (complement w))
+
+-- the byte of the complement's mark is there, where a word is no fill
+abbrev pub ComplementInside : List ℕ → ℕ → Type 0
+ComplementInside ms w = (w ≡ fill → ⊥) → complement w / 8 < length ms
+
 -- what a word w, whose complement is marked or not, adds to the scan of a row whose open literal so far is u, or fill if there is none
 abbrev pub Scanned : Bool → ℕ → ℕ → Scan → Type 0
 Scanned off w u scan.Same = (w ≡ fill → ⊥) → off ≡ true
 Scanned off w u scan.First = (w ≡ fill → ⊥) × (off ≡ false) × (u ≡ fill)
 Scanned off w u scan.Second = (w ≡ fill → ⊥) × (off ≡ false) × (u ≡ fill → ⊥)
-
--- the row at a word begins with literal u, and its second word is a literal whose complement is not marked
-unfoldable pub secondOpen : List ℕ → List ℕ → ℕ → ℕ → Bool
-secondOpen ws ms at u =
-    let second = getD ws (at + 1) 0 in
-    eqb (getD ws at 0) u && (not (eqb second fill) && not (marked ms (complement second)))
-
--- the mark of that complement is there
-abbrev pub SecondInside : List ℕ → List ℕ → ℕ → Type 0
-SecondInside ws ms at = (getD ws (at + 1) 0 ≡ fill → ⊥) → complement (getD ws (at + 1) 0) / 8 < length ms
 
 -- the literals that follow from a row: its only open literal u, or, where that is fill, all
 unfoldable pub forcedOf : List ℕ → ℕ → List ℕ

@@ -4,17 +4,18 @@ use clause::WIDTH;
 use clause::place::RowPlace;
 use literal::Literal;
 ghost use mathlib.Core.Path.{_≡_};
-ghost use mathlib.Core.Bool.{true, not, _&&_};
+ghost use mathlib.Core.Bool.{true, _&&_};
 ghost use mathlib.Core.List.{List, _++_};
 ghost use Prim.Native.Nat.{ℕ, _+_, _*_, _/_, _<_};
-ghost use lib.ListN.{length, drop};
+ghost use lib.Dec.{eqb};
+ghost use lib.ListN.{length, getD, drop};
 ghost use Rattle.definitions.specs.Literal.{fill, complement, allBelow};
 ghost use Rattle.definitions.specs.Clauses.{clauseOf};
 ghost use Rattle.definitions.specs.Closure.{has, closure};
 ghost use Rattle.definitions.specs.Marks.{markBytes, marked, marksOf};
 ghost use Rattle.clause.specs.Rows.{clausesOf};
 ghost use Rattle.propagation.specs.Marks.{Marked, ConsistentMarks, Asked, closingOf, Closes};
-ghost use Rattle.propagation.specs.Walk.{setOf, Room, Ready, RestKept, Scanned, secondOpen, SecondInside, Forcing, forcedOf, Seeded};
+ghost use Rattle.propagation.specs.Walk.{setOf, Room, Ready, RestKept, ComplementInside, openWord, Scanned, Forcing, forcedOf, Seeded};
 ghost use Rattle.propagation.specs.Walk.{Passed, Saturated, Propagated};
 
 pub mod marks; // marks.rt: a bit for each literal
@@ -56,15 +57,23 @@ fn is_false(marks: &[u8], l: u16) -> bool
     marks::is_marked(marks, opposite.index())
 }
 
-// What `word` adds to the scan of a row whose first open literal is `first`, or fill if there is none.
-fn scan_word(marks: &[u8], word: u16, first: u16) -> Scan
-    requires { ⌜ ((word ≡ fill → ⊥) → complement word / 8 < length (now marks)) ⌝ }
-    ensures { λ r. ⌜ Scanned (marked (now (marks .entry)) (complement word)) word first r ⌝ }
+// Whether a word is an open literal: no fill, and its complement is not marked.
+fn is_open(marks: &[u8], word: u16) -> bool
+    requires { ⌜ ComplementInside (now marks) word ⌝ }
+    ensures { λ r. ⌜ r ≡ openWord (now (marks .entry)) word ⌝ }
 {
     if word == Literal::FILL {
-        return Scan::Same;
+        return false;
     }
-    if is_false(marks, word) {
+    !is_false(marks, word)
+}
+
+// What `word` adds to the scan of a row whose first open literal is `first`, or fill if there is none.
+fn scan_word(marks: &[u8], word: u16, first: u16) -> Scan
+    requires { ⌜ ComplementInside (now marks) word ⌝ }
+    ensures { λ r. ⌜ Scanned (marked (now (marks .entry)) (complement word)) word first r ⌝ }
+{
+    if !is_open(marks, word) {
         return Scan::Same;
     }
     if first != Literal::FILL {
@@ -76,17 +85,14 @@ fn scan_word(marks: &[u8], word: u16, first: u16) -> Scan
 // Whether the row at word `at` begins with `known`, and its second word is an open literal. Where `known` is open, that is two open
 // literals, found without looking at the first one's mark.
 fn second_is_open(clauses: &[u16], at: usize, marks: &[u8], known: u16) -> bool
-    requires { ⌜ (at + 1 < length (now clauses)) × SecondInside (now clauses) (now marks) at ⌝ }
-    ensures { λ r. ⌜ r ≡ secondOpen (now (clauses .entry)) (now (marks .entry)) at known ⌝ }
+    requires { ⌜ (at + 1 < length (now clauses)) × ComplementInside (now marks) (getD (now clauses) (at + 1) 0) ⌝ }
+    ensures { λ r. ⌜ r ≡ (eqb (getD (now (clauses .entry)) at 0) known
+        && openWord (now (marks .entry)) (getD (now (clauses .entry)) (at + 1) 0)) ⌝ }
 {
     if clauses[at] != known {
         return false;
     }
-    let second = clauses[at + 1];
-    if second == Literal::FILL {
-        return false;
-    }
-    !is_false(marks, second)
+    is_open(marks, clauses[at + 1])
 }
 
 // Whether propagation stops at literal `l`: if `stops`, and its complement is marked.

@@ -51,7 +51,8 @@ pub fn holds(marks: &[u8], l: usize) -> bool
 
 // Whether all literals of a list are marked.
 pub fn holds_all(marks: &[u8], literals: &[u16]) -> bool
-    ensures { λ r. ⌜ ((atoms : ℕ) (S : List ℕ) → Marked atoms (now (marks .entry)) S → allBelow (2 * atoms) (now (literals .entry)) ≡ true → r ≡ allIn S (now (literals .entry))) ⌝ }
+    ensures { λ r. ⌜ ((atoms : ℕ) (S : List ℕ) → Marked atoms (now (marks .entry)) S → allBelow (2 * atoms) (now (literals .entry)) ≡ true
+        → r ≡ allIn S (now (literals .entry))) ⌝ }
 {
     let mut i: usize = 0;
     while i < literals.len() {

@@ -80,7 +80,8 @@ returns c =
     let a = start-all t .args in
     let s = setOf (a .atoms) (now (a .marks)) in
     let s′ = setOf (a .atoms) (d .seed .last .1 .0) in
-    (d .seed .ensures .0, subst (λ (x : List ℕ). Seeded (a .stops) s x s′ (d .seed .result)) (l .literals .ensures ∙ sym (all-of-row t)) (d .seed .ensures .1))
+    let same = l .literals .ensures ∙ sym (all-of-row t) in
+    (d .seed .ensures .0, subst (λ (x : List ℕ). Seeded (a .stops) s x s′ (d .seed .result)) same (d .seed .ensures .1))
 
 wide-requires : tie.Need-wide-requires
 wide-requires c κs = search needs

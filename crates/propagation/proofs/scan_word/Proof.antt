@@ -1,51 +1,32 @@
--- `propagation::scan_word`: a word that is no fill is open or not, and the first open one or another.
+-- `propagation::scan_word`: a word is an open literal or not, and the first of its row or another.
 use mathlib.Core.Path.{_≡_, sym, _∙_}
-use mathlib.Core.Bool.{true, false}
-use native.Mathlib.Omega.{arith}
+use mathlib.Core.Bool.{false}
 use denote.Ref.{now}
+use borrow.Author.Tests.{not-true, not-false}
 use Rattle.definitions.specs.Literal.{fill, complement}
 use Rattle.definitions.specs.Marks.{marked}
+use Rattle.propagation.proofs.Scans.{open-word, shut-word}
+use borrow.Author.Needs.{needs}
 use Rattle.propagation.proofs.scan_word.Statement.{statement}
 use Rattle.propagation.proofs.scan_word.Tie as tie
 
--- where the complement was looked at: the word is no fill
-abbrev not-fill : tie.After-is-false → tie.Else1
-not-fill d = d .before
+is-open-requires : tie.Need-is-open-requires
+is-open-requires c κs = search needs
 
-abbrev start : tie.After-is-false → tie.Start
-start d = not-fill d .before .before
-
--- where it is marked, and where it is not
-closed : (t : tie.Then2) → let a = start (t .before) .args in marked (now (a .marks)) (complement (a .word)) ≡ true
-closed t = sym (t .before .is-false .ensures) ∙ t .if2 .taken
-
-opened : (e : tie.Else2) → let a = start (e .before) .args in marked (now (a .marks)) (complement (a .word)) ≡ false
-opened e = sym (e .before .is-false .ensures) ∙ e .if2 .left
+-- where it is an open literal
+opened : (e : tie.Else1) → let a = e .before .before .before .args in (a .word ≡ fill → ⊥) × (marked (now (a .marks)) (complement (a .word)) ≡ false)
+opened e = open-word _ _ (sym (e .before .is-open .ensures) ∙ not-false _ (e .if1 .left))
 
 returns : tie.Need-returns
-unfolding fill
-returns c = λ ne. absurd (ne (c .if1 .taken))
-
-is-false-requires : tie.Need-is-false-requires
-unfolding fill
-is-false-requires c κs =
-    let s = c .before .before in
-    (omega (arith, c .if1 .left, s .fits), s .pre (c .if1 .left))
+returns c = shut-word _ _ (sym (c .before .is-open .ensures) ∙ not-true _ (c .if1 .taken))
 
 returns-2 : tie.Need-returns-2
-returns-2 c = λ _. closed c
+unfolding fill
+returns-2 c = let o = opened (c .before) in (o .0, o .1, c .if2 .taken)
 
 returns-3 : tie.Need-returns-3
 unfolding fill
-returns-3 c =
-    let e = c .before in
-    (not-fill (e .before) .if1 .left, opened e, c .if3 .taken)
-
-returns-4 : tie.Need-returns-4
-unfolding fill
-returns-4 c =
-    let e = c .before in
-    (not-fill (e .before) .if1 .left, opened e, c .if3 .left)
+returns-3 c = let o = opened (c .before) in (o .0, o .1, c .if2 .left)
 
 pub scan-word-spec : {M : Type 1} → statement M
-scan-word-spec = tie.close (tie.spec returns is-false-requires returns-2 returns-3 returns-4)
+scan-word-spec = tie.close (tie.spec is-open-requires returns returns-2 returns-3)

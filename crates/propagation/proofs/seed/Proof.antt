@@ -97,7 +97,9 @@ adds a b e =
     (subst (λ (x : ℕ). Adds (marks-now (t .before)) x (a .add .last .0) (a .add .result)) (a .before .wide .ensures .0) (a .add .ensures))
 
 -- where propagation does not stop at the literal, its complement is not in the set
-not-there : (a : added) → let h = new-of a .before in start h .args .stops ≡ true → has (setOf (atoms h) (marks-now h)) (complement (at (new-of a))) ≡ false
+not-there :
+    (a : added) → let h = new-of a .before in
+    start h .args .stops ≡ true → has (setOf (atoms h) (marks-now h)) (complement (at (new-of a))) ≡ false
 not-there a e =
     let t = new-of a in
     let there = marked (marks-now (t .before)) (complement (at t)) in

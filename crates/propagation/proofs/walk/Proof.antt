@@ -1,10 +1,11 @@
 -- `propagation::walk`: the state of the walk over the clauses, and within a row that of the scan.
-use Prim.Native.Nat.{ℕ, _≤_, _<_, _-_, _+_, _*_}
-use mathlib.Core.Path.{_≡_, refl, sym, _∙_, ap, subst}
-use mathlib.Core.Bool.{Bool, true, false}
+use Prim.Native.Nat.{ℕ, _≤_, _<_, _-_, _+_, _*_, _/_}
+use mathlib.Core.Path.{_≡_, sym, _∙_, subst}
+use mathlib.Core.Bool.{Bool, true}
 use mathlib.Core.Logic.{⊎-elim}
 use mathlib.Core.List.{List, List·Memᴰ}
 use native.Mathlib.Omega.{arith}
+use lib.Dec.{eqb}
 use lib.ListN.{length, getD, take, drop}
 use denote.Ref.{now}
 use Rattle.definitions.specs.Lists.{member, ascending}
@@ -14,6 +15,7 @@ use Rattle.definitions.specs.Closure.{has, forces}
 use Rattle.definitions.specs.Marks.{markBytes, marked}
 use Rattle.definitions.proofs.RowsRead.{right-row, right-list}
 use Rattle.definitions.proofs.LiteralLaws.{list-ascends}
+use Rattle.definitions.proofs.ListLaws.{and-left, and-right}
 use Rattle.definitions.proofs.MarkBits.{mark-inside}
 use Rattle.clause.specs.Rows.{rowCount, clauseAt, RightRows}
 use Rattle.clause.specs.Place.{Placed, AtRow}
@@ -26,31 +28,25 @@ use Rattle.propagation.specs.declared.Pass.{Pass}
 use Rattle.propagation.specs.declared.Pass.the-variants.{Same, Grown, Contradictory}
 use Rattle.propagation.specs.declared.Scan.{Scan}
 use Rattle.propagation.specs.declared.Scan.the-variants as scan
-use Rattle.propagation.specs.Walk.{setOf, RestKept, Scanned, forcedOf, Forcing, Seeded, Ready, Passed}
+use Rattle.propagation.specs.Walk.{setOf, RestKept, openWord, Scanned, forcedOf, Forcing, Seeded, Ready, Passed}
 use Rattle.propagation.proofs.Sets.{complement-below}
 use Rattle.propagation.proofs.View.{view-length, view-has, view-inside, rest-self, rest-on}
 use Rattle.propagation.proofs.Scans.{Scanning, scanned-on, scan-start, word-in, scan-same, scan-first, scan-second}
 use Rattle.propagation.proofs.Scans.{scan-forced, scan-all, scan-forcing}
-use Rattle.propagation.proofs.Scans.{second-parts, second-in, second-open, still-open}
+use Rattle.propagation.proofs.Scans.{Open, not-open, scan-open, open-word, second-in, second-open, still-open}
 use Rattle.propagation.proofs.Steps.{Walk, walk-start, walk-end, this, pass-row, force-same, force-more, force-clash}
 use Rattle.propagation.proofs.Closed.{room-on}
+use borrow.Author.Tests.{eqb-true}
 use borrow.Author.Needs.{needs}
 use Rattle.propagation.proofs.walk.Statement.{statement}
 use Rattle.propagation.proofs.walk.Tie as tie
-
--- a literal whose complement is not in the set, or fill
-abbrev Open : ℕ → List ℕ → ℕ → Type 0
-Open atoms marks u = (u ≡ fill → ⊥) → (u < 2 * atoms) × (has (setOf atoms marks) (complement u) ≡ false)
-
-not-open : (atoms : ℕ) (marks : List ℕ) → Open atoms marks fill
-not-open atoms marks ne = absurd (ne refl)
 
 -- between two rows: the marks at the start and now, the answer so far, the literal known to be open, and the next row's place
 record Going (clauses marks₀ marks : List ℕ) (atoms : ℕ) (stops : Bool) (pass : Pass) (known : ℕ) (place : RowPlace) : Type 0 where
   placed : Placed clauses place
   rest : RestKept atoms marks₀ marks
   state : Walk stops clauses (setOf atoms marks₀) (setOf atoms marks) (place .at) pass
-  opened : Open atoms marks known
+  opened : Open (setOf atoms marks) known
 
 abbrev Inv-loop : tie.InvT-loop
 Inv-loop clauses marks atoms stops pass known₀ place here first₀ k₀ known first k =
@@ -165,7 +161,7 @@ On w ms a u = Going (words w) (marks-first w) ms (atoms w) (stops w) a u (w .nex
 
 on :
     (w : outer) (ms : List ℕ) (a : Pass) (u : ℕ) → RestKept (atoms w) (marks-first w) ms
-    → Walk (stops w) (words w) (set-first w) (setOf (atoms w) ms) (position w + width) a → Open (atoms w) ms u → On w ms a u
+    → Walk (stops w) (words w) (set-first w) (setOf (atoms w) ms) (position w + width) a → Open (setOf (atoms w) ms) u → On w ms a u
 on w ms a u rest k unmarked =
     let next = next-position (at-row-of w) (w .next .ensures) in
     record {
@@ -183,10 +179,19 @@ scan-of-row w = scan-start (words w) (set-now w) (position w) (inside w) (right-
 abbrev second : outer → ℕ
 second w = getD (words w) (position w + 1) 0
 
-second-low : (w : outer) → (second w ≡ fill → ⊥) → complement (second w) < 2 * atoms w
-second-low w ne =
-    complement-below (second w) (2 * atoms w) (omega arith)
-    (row-below w (second w) (second-in (words w) (set-now w) (position w) (scan-of-row w) ne))
+second-of-row : (w : outer) → (second w ≡ fill → ⊥) → List·Memᴰ (second w) (clauseAt (words w) (position w))
+second-of-row w = second-in (words w) (set-now w) (position w) (scan-of-row w)
+
+-- the complements of its literals: below 2N, their marks are there, and they are in the set if they are marked
+module _ (w : outer) (l : ℕ) (m : List·Memᴰ l (clauseAt (words w) (position w))) where
+  complement-low : complement l < 2 * atoms w
+  complement-low = complement-below l (2 * atoms w) (omega arith) (row-below w l m)
+
+  complement-inside : complement l / 8 < length (marks-now w)
+  complement-inside = omega (arith, mark-inside (atoms w) (complement l) complement-low, room w)
+
+  complement-marked : has (set-now w) (complement l) ≡ marked (marks-now w) (complement l)
+  complement-marked = view-has (atoms w) (marks-now w) (complement l) complement-low
 
 -- after its first two words were looked at
 abbrev row-asked : tie.After-second-is-open Inv-loop μ-loop Inv-walk μ-walk → outer
@@ -212,14 +217,11 @@ in-width c = c .loop-test .taken
 in-range : (c : inner) → position (row-of c) + c .before .loop .k < length (words (row-of c))
 in-range c = omega (arith, inside (row-of c), in-width c)
 
-word-below : (c : inner) → (word c ≡ fill → ⊥) → word c < 2 * atoms (row-of c)
-word-below c ne =
+word-of-row : (c : inner) → (word c ≡ fill → ⊥) → List·Memᴰ (word c) (clauseAt (words (row-of c)) (position (row-of c)))
+word-of-row c =
     let w = row-of c in
     let l = c .before .loop in
-    row-below w (word c) (word-in (words w) (set-now w) (position w) (l .k) (l .first) (l .inv .1) (in-width c) ne)
-
-complement-low : (c : inner) → (word c ≡ fill → ⊥) → complement (word c) < 2 * atoms (row-of c)
-complement-low c ne = complement-below (word c) (2 * atoms (row-of c)) (omega arith) (word-below c ne)
+    word-in (words w) (set-now w) (position w) (l .k) (l .first) (l .inv .1) (in-width c)
 
 -- after the inner loop: the scan of the whole row
 abbrev after-row : Type 0
@@ -234,8 +236,8 @@ opened c = c .before .loop .first
 scanned : (c : after-row) → Scanning (words (row c)) (set-now (row c)) (position (row c)) (c .before .loop .k) (opened c)
 scanned c = c .before .loop .inv .1
 
-open-below : (c : after-row) → (opened c ≡ fill → ⊥) → opened c < 2 * atoms (row c)
-open-below c ne = rw (view-length (atoms (row c)) (marks-now (row c))) at (scanned c .found ne .2)
+row-open : (c : after-row) → Open (set-now (row c)) (opened c)
+row-open c = scan-open (words (row c)) (set-now (row c)) (position (row c)) (c .before .loop .k) (opened c) (scanned c)
 
 all-words : (c : after-row) → width ≤ c .before .loop .k
 unfolding width
@@ -259,7 +261,7 @@ added c v e =
     let i = at c in
     let w = row-of i in
     scanned-on (marked (marks-now w) (complement (word i))) _ (word i) (i .before .loop .first) v
-    (λ ne. view-has (atoms w) (marks-now w) (complement (word i)) (complement-low i ne))
+    (λ ne. complement-marked w (word i) (word-of-row i ne))
     (subst (λ (x : Scan). Scanned (marked (marks-now w) (complement (word i))) (word i) (i .before .loop .first) x) e (c .scan-word .ensures))
 
 -- where there is a second open literal
@@ -319,22 +321,19 @@ module _ (f : followed) where
   abbrev after : List ℕ
   after = f .force .last .1 .1 .0
 
-  low : (opened a ≡ fill → ⊥) → opened a < 2 * atoms w
-  low ne = open-below a ne
-
   on-same : f .force .result ≡ Same → On w after (so-far w) (opened a)
   on-same e =
       let p = follows f Same e in
       on w after (so-far w) (opened a) (rest-after f)
       (force-same (stops w) (words w) (set-first w) (set-now w) (position w) (inside w) (so-far w) (state w) ls _ forced all p)
-      (λ ne. (low ne, ap (λ (s : List ℕ). has s (complement (opened a))) (p .0) ∙ scanned a .found ne .1))
+      (subst (λ (s : List ℕ). Open s (opened a)) (sym (p .0)) (row-open a))
 
   on-more : f .force .result ≡ Grown → On w after Grown (opened a)
   on-more e =
       let p = follows f Grown e in
       on w after Grown (opened a) (rest-after f)
       (force-more (stops w) (words w) (set-first w) (set-now w) (position w) (inside w) (so-far w) (state w) ls _ forced all p)
-      (λ ne. let f = scanned a .found ne in (low ne, still-open (stops w) (set-now w) _ _ (opened a) ne (f .2) (f .1) (p .0)))
+      (still-open (stops w) (set-now w) _ _ (opened a) (row-open a) (p .0))
 
   left : f .force .result ≡ Contradictory → Passed (stops w) (words w) (set-first w) (setOf (atoms w) after) Contradictory
   left e =
@@ -358,7 +357,7 @@ walk-holds c =
       placed = placed-first (c .first .ensures);
       rest = rest-self _ _;
       state = rw (first-position (c .first .ensures)) (walk-start _ _ _ (start-of-first c .pre .marks .sound));
-      opened = not-open _ _;
+      opened = not-open _;
     }
 
 next-requires : tie.Need-next-requires Inv-loop μ-loop Inv-walk μ-walk
@@ -368,7 +367,7 @@ second-is-open-requires : tie.Need-second-is-open-requires Inv-loop μ-loop Inv-
 unfolding width
 second-is-open-requires c κs =
     let w = c .before in
-    (omega (arith, inside w), λ ne. omega (arith, mark-inside (atoms w) (complement (second w)) (second-low w ne), room w))
+    (omega (arith, inside w), λ ne. complement-inside w (second w) (second-of-row w ne))
 
 walk-less : tie.Need-walk-less Inv-loop μ-loop Inv-walk μ-walk
 walk-less c = less-left (row-asked (c .before))
@@ -377,12 +376,12 @@ walk-again : tie.Need-walk-again Inv-loop μ-loop Inv-walk μ-walk
 walk-again c =
     let w = row-asked (c .before) in
     let u = at-head w .walk .known in
+    let both = sym (c .before .second-is-open .ensures) ∙ c .if2 .taken in
+    let first = eqb-true (getD (words w) (position w) 0) u (and-left _ (openWord (marks-now w) (second w)) both) in
+    let o = open-word (marks-now w) (second w) (and-right (eqb (getD (words w) (position w) 0) u) _ both) in
+    let off = complement-marked w (second w) (second-of-row w (o .0)) ∙ o .1 in
     let known = at-head w .walk .inv .opened in
-    let p = second-parts (words w) (marks-now w) (position w) u (sym (c .before .second-is-open .ensures) ∙ c .if2 .taken) in
-    let off = view-has (atoms w) (marks-now w) (complement (second w)) (second-low w (p .literal)) ∙ p .unmarked in
-    let inside-set : (u ≡ fill → ⊥) → (u < length (set-now w)) × (has (set-now w) (complement u) ≡ false) =
-    λ ne. (view-inside (atoms w) (marks-now w) u (known ne .0), known ne .1) in
-    let two = second-open (words w) (set-now w) (position w) (scan-of-row w) (p .literal) u (p .first) inside-set off in
+    let two = second-open (words w) (set-now w) (position w) (scan-of-row w) (o .0) u first known off in
     on w (marks-now w) (so-far w) u (rest-now w)
     (pass-row (stops w) (words w) (set-first w) (set-now w) (position w) (inside w) (so-far w) (state w) two) known
 
@@ -402,7 +401,7 @@ shared-slice-read-word c = in-range (c .before .before)
 scan-word-requires : tie.Need-scan-word-requires Inv-loop μ-loop Inv-walk μ-walk
 scan-word-requires c κs =
     let i = c .before .before .before in
-    λ ne. omega (arith, mark-inside (atoms (row-of i)) (complement (word i)) (complement-low i ne), room (row-of i))
+    λ ne. complement-inside (row-of i) (word i) (word-of-row i ne)
 
 enum-told : tie.Need-enum-told Inv-loop μ-loop Inv-walk μ-walk
 enum-told c = c .match .keys1
@@ -425,7 +424,7 @@ walk-again-2 c =
     let two = scan-second (words w) (set-now w) (position w) (l .k) (l .first) (l .inv .1) (in-width i) (added o scan.Second (c .enum-told3 .given .1)) in
     on w (marks-now w) (so-far w) (l .first) (rest-now w)
     (pass-row (stops w) (words w) (set-first w) (set-now w) (position w) (inside w) (so-far w) (state w) two)
-    (λ ne. let f = l .inv .1 .found ne in (rw (view-length (atoms w) (marks-now w)) at (f .2), f .1))
+    (scan-open (words w) (set-now w) (position w) (l .k) (l .first) (l .inv .1))
 
 add-k : tie.Need-add-k Inv-loop μ-loop Inv-walk μ-walk
 unfolding width
@@ -450,7 +449,7 @@ loop-again c =
           subst Scans (sym (a .2)) (scan-same (words w) (set-now w) (position w) (l .k) (l .first) (l .inv .1) (in-width i) same))
           (λ a.
           let first = added o scan.First (a .1 .given .1) in
-          let below = view-inside (atoms w) (marks-now w) (word i) (word-below i (first .0)) in
+          let below = view-inside (atoms w) (marks-now w) (word i) (row-below w (word i) (word-of-row i (first .0))) in
           subst Scans (sym (a .2)) (scan-first (words w) (set-now w) (position w) (l .k) (l .first) (l .inv .1) (in-width i) below first))
           (c .match .came),
     )
