@@ -5,7 +5,7 @@
 // `fdr_call` (10 to 16), `dimacs_call` (17 and 18) and `call` (19 and 20). A line has the returned number, both values or places, and
 // the list that was lent to be changed, after a bar (not marks and work, which may hold anything, but the marks of 20).
 //
-// Only `run` is public. The other functions of this file call the C interface, whose contracts stand in `exports`, and write:
+// Only `run` is public. The other functions of this file call the C interface, whose contracts stand in `kulabismuth`, and write:
 // no contract of the kit can name what C's `write` puts out, so they have no `ensures`, and are proved to be safe and to end.
 ghost use Prim.Native.Nat.{_*_, _≤_};
 ghost use lib.ListN.{length};
@@ -80,11 +80,11 @@ fn task_call(
     second: &mut u64,
 ) -> u32 {
     match which {
-        0 => exports::kb_read(image, first, second),
-        1 => exports::kb_task_initial(image, state, first, second),
-        2 => exports::kb_task_step(image, state, x, first, second),
-        3 => exports::kb_task_goal(image, state, first, second),
-        _ => exports::kb_task_run(image, state, list, first, second),
+        0 => kulabismuth::kb_read(image, first, second),
+        1 => kulabismuth::kb_task_initial(image, state, first, second),
+        2 => kulabismuth::kb_task_step(image, state, x, first, second),
+        3 => kulabismuth::kb_task_goal(image, state, first, second),
+        _ => kulabismuth::kb_task_run(image, state, list, first, second),
     }
 }
 
@@ -102,11 +102,11 @@ fn clause_call(
     second: &mut u64,
 ) -> u32 {
     match which {
-        5 => exports::kb_kept(image, clauses, other, x, marks, first, second),
-        6 => exports::kb_check(image, clauses, marks, first, second),
-        7 => exports::kb_synthesize(image, x, y, clauses, other, marks, first, second),
-        8 => exports::kb_groups(image, clauses, marks, other, first, second),
-        _ => exports::kb_reencode(image, clauses, marks, other, first, second),
+        5 => kulabismuth::kb_kept(image, clauses, other, x, marks, first, second),
+        6 => kulabismuth::kb_check(image, clauses, marks, first, second),
+        7 => kulabismuth::kb_synthesize(image, x, y, clauses, other, marks, first, second),
+        8 => kulabismuth::kb_groups(image, clauses, marks, other, first, second),
+        _ => kulabismuth::kb_reencode(image, clauses, marks, other, first, second),
     }
 }
 
@@ -123,13 +123,13 @@ fn fdr_call(
     second: &mut u64,
 ) -> u32 {
     match which {
-        10 => exports::kb_fdr_initial(image, list, first, second),
-        11 => exports::kb_fdr_step(image, list, x, first, second),
-        12 => exports::kb_fdr_goal(image, list, first, second),
-        13 => exports::kb_fdr_run(image, list, other, first, second),
-        14 => exports::kb_encode(image, small, list, first, second),
-        15 => exports::kb_decode(image, list, small, first, second),
-        _ => exports::kb_agree(image, list, other, small, first, second),
+        10 => kulabismuth::kb_fdr_initial(image, list, first, second),
+        11 => kulabismuth::kb_fdr_step(image, list, x, first, second),
+        12 => kulabismuth::kb_fdr_goal(image, list, first, second),
+        13 => kulabismuth::kb_fdr_run(image, list, other, first, second),
+        14 => kulabismuth::kb_encode(image, small, list, first, second),
+        15 => kulabismuth::kb_decode(image, list, small, first, second),
+        _ => kulabismuth::kb_agree(image, list, other, small, first, second),
     }
 }
 
@@ -143,8 +143,8 @@ fn dimacs_call(
     second: &mut u64,
 ) -> u32 {
     match which {
-        17 => exports::kb_write_dimacs(image, list, small, first, second),
-        _ => exports::kb_read_dimacs(image, small, list, first, second),
+        17 => kulabismuth::kb_write_dimacs(image, list, small, first, second),
+        _ => kulabismuth::kb_read_dimacs(image, small, list, first, second),
     }
 }
 
@@ -174,9 +174,9 @@ fn call(
         return dimacs_call(which, image, list, small, first, second);
     }
     if which < 20 {
-        return exports::kb_join(image, list, other, first, second);
+        return kulabismuth::kb_join(image, list, other, first, second);
     }
-    exports::kb_closure(image, list, x, small, first, second)
+    kulabismuth::kb_closure(image, list, x, small, first, second)
 }
 
 // ---- The cases

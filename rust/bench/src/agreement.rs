@@ -19,7 +19,7 @@ pub fn run(bench: &Bench) {
         "1000 steps, gripper 14, by one kb_agree",
         list.len(),
         &vec![0; MOST_MARK_BYTES],
-        |marks| exports::agree(&source.image, &rows, &list, marks),
+        |marks| kulabismuth::agree(&source.image, &rows, &list, marks),
         |marks| agreement::agree(&source.image, &rows, &list, marks).into(),
     );
 }

@@ -32,7 +32,7 @@ pub fn run(bench: &Bench) {
         &format!("checker {size}"),
         1,
         &vec![0; MOST_MARK_BYTES],
-        |marks| exports::check(&source.image, &rows, marks),
+        |marks| kulabismuth::check(&source.image, &rows, marks),
         |marks| checker::check(&source.image, &rows, marks).into(),
     );
 }

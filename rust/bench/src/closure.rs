@@ -1,8 +1,8 @@
 //! What a set says about each operator, by one call for each.
 
-use exports::Reply;
 use inputs::structured::{gripper, ring};
 use inputs::task::TaskSpec;
+use kulabismuth::Reply;
 use reference::marks::MOST_MARK_BYTES;
 use reference::operator_closure::operator_closure;
 use sources::Synthesized;
@@ -30,7 +30,7 @@ fn one(bench: &Bench, name: &str, task: &TaskSpec, n: usize) {
         usize::from(operators),
         &vec![0; MOST_MARK_BYTES],
         |marks| {
-            let closure = |operator| exports::closure(image, &rows, operator, marks);
+            let closure = |operator| kulabismuth::closure(image, &rows, operator, marks);
             let replies: Vec<Reply> = (0..operators).map(closure).collect();
             (replies, marks.clone())
         },

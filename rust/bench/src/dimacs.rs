@@ -1,11 +1,11 @@
 //! Clauses to and from DIMACS CNF: three literals each, in row order and
 //! shuffled.
 
-use exports::Reply;
 use inputs::clauses::{literals, Row};
 use inputs::dimacs::{distinct_rows, written, Text};
 use inputs::task::TaskSpec;
 use inputs::Rng;
+use kulabismuth::Reply;
 use reference::dimacs as model;
 
 use crate::timing::Bench;
@@ -43,7 +43,7 @@ fn read(bench: &Bench, image: &[u16], order: &str, count: usize, text: &[u8]) {
         &format!("read {count} clauses {order}, {} bytes", text.len()),
         count,
         &vec![0; 3 * MOST],
-        |rows| (exports::read_dimacs(image, text, rows), rows.clone()),
+        |rows| (kulabismuth::read_dimacs(image, text, rows), rows.clone()),
         |rows| {
             let reply: Reply = model::read(image, text, rows).into();
             (reply, rows.clone())
@@ -58,7 +58,7 @@ fn write(bench: &Bench, image: &[u16], rows: &[Row]) {
         &format!("write {count} clauses, {length} bytes"),
         count,
         &vec![0; length],
-        |text| (exports::write_dimacs(image, &rows, text), text.clone()),
+        |text| (kulabismuth::write_dimacs(image, &rows, text), text.clone()),
         |text| {
             let reply: Reply = model::write(image, &rows, text).into();
             (reply, text.clone())

@@ -1,7 +1,7 @@
 //! Re-encoding, and a million finite-domain steps.
 
-use exports::Reply;
 use inputs::{structured, Rng};
+use kulabismuth::Reply;
 use reference::marks::MOST_MARK_BYTES;
 use reference::{fdr as model, reencoding};
 use sources::Synthesized;
@@ -39,7 +39,7 @@ fn reencode(bench: &Bench, name: &str, source: &Synthesized) {
         1,
         &(vec![0; MOST_MARK_BYTES], vec![0; 32_768]),
         |(marks, target)| {
-            let reply = exports::reencode(&source.image, &rows, marks, target);
+            let reply = kulabismuth::reencode(&source.image, &rows, marks, target);
             (reply, target.clone())
         },
         |(marks, target)| {
@@ -71,7 +71,7 @@ fn run_list(bench: &Bench, name: &str, image: &[u16], list: &[u16]) {
         name,
         list.len(),
         &initial(image),
-        |state| (exports::fdr_run(image, state, list), state.clone()),
+        |state| (kulabismuth::fdr_run(image, state, list), state.clone()),
         |state| (model::run(image, state, list).into(), state.clone()),
     );
 }
@@ -83,7 +83,7 @@ fn steps(bench: &Bench, name: &str, image: &[u16], list: &[u16]) {
         list.len(),
         &initial(image),
         |state| {
-            let step = |&operator| exports::fdr_step(image, state, operator);
+            let step = |&operator| kulabismuth::fdr_step(image, state, operator);
             (list.iter().map(step).max_by_key(number), state.clone())
         },
         |state| {

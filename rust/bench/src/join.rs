@@ -66,7 +66,7 @@ fn join(bench: &Bench, name: &str, left: &[u16], right: &[u16]) {
         JOINS,
         &vec![0; 8192],
         |target| {
-            let replies = (0..JOINS).map(|_| exports::join(left, right, target));
+            let replies = (0..JOINS).map(|_| kulabismuth::join(left, right, target));
             (replies.last(), target.clone())
         },
         |target| {

@@ -1,8 +1,8 @@
 //! Synthesis of structured tasks with n = 3.
 
-use exports::Reply;
 use inputs::structured;
 use inputs::task::TaskSpec;
+use kulabismuth::Reply;
 use reference::marks::MOST_MARK_BYTES;
 use reference::synthesis::{synthesize, MOST_ROWS};
 use sources::Synthesized;
@@ -41,7 +41,7 @@ fn one(bench: &Bench, name: &str, task: &TaskSpec) {
         1,
         &lent,
         |(rows, work, marks)| {
-            let reply = exports::synthesize(&image, 3, 65535, rows, work, marks);
+            let reply = kulabismuth::synthesize(&image, 3, 65535, rows, work, marks);
             (reply, rows.clone())
         },
         |(rows, work, marks)| {

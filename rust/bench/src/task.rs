@@ -1,7 +1,7 @@
 //! Reading the largest images; a million steps.
 
-use exports::Reply;
 use inputs::{random, structured, Rng};
+use kulabismuth::Reply;
 use reference::state as model;
 
 use crate::timing::{walk, Bench};
@@ -64,7 +64,11 @@ fn read(bench: &Bench, name: &str, image: &[u16]) {
         name,
         READS,
         &(),
-        |()| (0..READS).map(|_| exports::read(image)).max_by_key(number),
+        |()| {
+            (0..READS)
+                .map(|_| kulabismuth::read(image))
+                .max_by_key(number)
+        },
         |()| {
             let reads = (0..READS).map(|_| reference::task::read(image).map(|_| ()).into());
             reads.max_by_key(number)
@@ -98,7 +102,7 @@ fn run_list(bench: &Bench, name: &str, image: &[u16], list: &[u16]) {
         name,
         list.len(),
         &initial(image),
-        |state| (exports::task_run(image, state, list), state.clone()),
+        |state| (kulabismuth::task_run(image, state, list), state.clone()),
         |state| (model::run(image, state, list).into(), state.clone()),
     );
 }
@@ -109,7 +113,7 @@ fn steps(bench: &Bench, name: &str, image: &[u16], list: &[u16]) {
         list.len(),
         &initial(image),
         |state| {
-            let step = |&operator| exports::task_step(image, state, operator);
+            let step = |&operator| kulabismuth::task_step(image, state, operator);
             (list.iter().map(step).max_by_key(number), state.clone())
         },
         |state| {

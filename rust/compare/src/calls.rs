@@ -1,7 +1,7 @@
 //! Calls that lend marks. What these hold afterwards is open, and so is work in
 //! synthesis, but for the call that leaves a closure in them.
 
-use exports::Reply;
+use kulabismuth::Reply;
 use reference::operator_closure::operator_closure;
 use reference::{agreement, checker, kept, synthesis, Answer};
 
@@ -30,7 +30,7 @@ pub fn check(tally: &mut Tally, lent: Check) -> Reply {
         answer.into()
     };
     let library = |(image, set, marks): &mut Check| {
-        let reply = exports::check(image.lend(), set.lend(), marks.lend_mut());
+        let reply = kulabismuth::check(image.lend(), set.lend(), marks.lend_mut());
         marks.forget();
         reply
     };
@@ -47,7 +47,7 @@ pub fn kept(tally: &mut Tally, lent: Triple, operator: u16) -> Reply {
     };
     let library = |(image, set, clause, marks): &mut Triple| {
         let (set, row) = (set.lend(), clause.lend());
-        let reply = exports::kept(image.lend(), set, row, operator, marks.lend_mut());
+        let reply = kulabismuth::kept(image.lend(), set, row, operator, marks.lend_mut());
         marks.forget();
         reply
     };
@@ -67,7 +67,7 @@ pub fn synthesize(tally: &mut Tally, lent: Triple, n: u16, limit: u16) -> (Reply
     let library = |(image, clauses, work, marks): &mut Triple| {
         let (rows, work_lent) = (clauses.lend_mut(), work.lend_mut());
         let marks_lent = marks.lend_mut();
-        let reply = exports::synthesize(image.lend(), n, limit, rows, work_lent, marks_lent);
+        let reply = kulabismuth::synthesize(image.lend(), n, limit, rows, work_lent, marks_lent);
         work.forget();
         marks.forget();
         reply
@@ -84,7 +84,7 @@ pub fn agree(tally: &mut Tally, lent: Triple) -> Reply {
         answer.into()
     };
     let library = |(image, set, list, marks): &mut Triple| {
-        let reply = exports::agree(image.lend(), set.lend(), list.lend(), marks.lend_mut());
+        let reply = kulabismuth::agree(image.lend(), set.lend(), list.lend(), marks.lend_mut());
         marks.forget();
         reply
     };
@@ -120,7 +120,7 @@ pub fn closure(tally: &mut Tally, lent: Check, operator: u16) -> (Reply, Marks) 
         operator_closure(image.lend(), set.lend(), operator, marks.lend_mut()).into()
     };
     let library = |(image, set, marks): &mut Check| {
-        exports::closure(image.lend(), set.lend(), operator, marks.lend_mut())
+        kulabismuth::closure(image.lend(), set.lend(), operator, marks.lend_mut())
     };
     let (reply, (_, _, marks)) = tally.compare(operator, lent, reference, library);
     (reply, marks)

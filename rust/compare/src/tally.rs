@@ -3,7 +3,7 @@
 use std::collections::BTreeMap;
 use std::fmt::Debug;
 
-use exports::Reply;
+use kulabismuth::Reply;
 
 /// The number of inputs each call is compared on, at least.
 pub const INPUTS: usize = 20_000;

@@ -4,12 +4,12 @@
 
 use compare::tally::INPUTS;
 use compare::{calls, Guarded, Tally};
-use exports::Reply;
 use inputs::add_delete::{self, Judged};
 use inputs::fdr::FdrSpec;
 use inputs::structured::changer;
 use inputs::task::no;
 use inputs::{clauses, state, Rng};
+use kulabismuth::Reply;
 use reference::clause::{self, Clause};
 use reference::marks::mark_bytes;
 use reference::synthesis::MOST_ROWS;
@@ -94,7 +94,7 @@ fn task_steps_and_goals() {
             operator,
             (Guarded::new(&image), Guarded::new(&before)),
             |(image, state)| model::step(image.lend(), state.lend_mut(), operator).into(),
-            |(image, state)| exports::task_step(image.lend(), state.lend_mut(), operator),
+            |(image, state)| kulabismuth::task_step(image.lend(), state.lend_mut(), operator),
         );
         let right = (reply, after.lend().to_vec());
         let by = |step: TaskStep| outcome(step.apply(&task, &before, operator), &before);
@@ -103,7 +103,7 @@ fn task_steps_and_goals() {
             (),
             (Guarded::new(&image), after),
             |(image, state)| model::goal(image.lend(), state.lend()).into(),
-            |(image, state)| exports::task_goal(image.lend(), state.lend()),
+            |(image, state)| kulabismuth::task_goal(image.lend(), state.lend()),
         );
         let other = model::goal(&image, &by(TaskStep::DeletesLast).1);
         goals_told.count([Reply::from(other) != goal]);
@@ -132,7 +132,9 @@ fn task_runs() {
                 Guarded::new(&list),
             ),
             |(image, state, list)| model::run(image.lend(), state.lend_mut(), list.lend()).into(),
-            |(image, state, list)| exports::task_run(image.lend(), state.lend_mut(), list.lend()),
+            |(image, state, list)| {
+                kulabismuth::task_run(image.lend(), state.lend_mut(), list.lend())
+            },
         );
         told.count(TaskStep::NEARBY.map(|step| {
             let apply = |state: &[u8], operator| step.apply(&task, state, operator);
@@ -347,7 +349,7 @@ fn reencoded_steps_and_goals() {
             operator,
             (Guarded::new(&image), Guarded::new(&before)),
             |(image, state)| fdr::step(image.lend(), state.lend_mut(), operator).into(),
-            |(image, state)| exports::fdr_step(image.lend(), state.lend_mut(), operator),
+            |(image, state)| kulabismuth::fdr_step(image.lend(), state.lend_mut(), operator),
         );
         let right = (reply, after.lend().to_vec());
         let by = |step: FdrStep| outcome(step.apply(&spec, &before, operator), &before);
@@ -356,7 +358,7 @@ fn reencoded_steps_and_goals() {
             (),
             (Guarded::new(&image), after),
             |(image, state)| fdr::goal(image.lend(), state.lend()).into(),
-            |(image, state)| exports::fdr_goal(image.lend(), state.lend()),
+            |(image, state)| kulabismuth::fdr_goal(image.lend(), state.lend()),
         );
     }
     told.finish(500);
@@ -380,7 +382,9 @@ fn reencoded_runs() {
                 Guarded::new(&list),
             ),
             |(image, state, list)| fdr::run(image.lend(), state.lend_mut(), list.lend()).into(),
-            |(image, state, list)| exports::fdr_run(image.lend(), state.lend_mut(), list.lend()),
+            |(image, state, list)| {
+                kulabismuth::fdr_run(image.lend(), state.lend_mut(), list.lend())
+            },
         );
         told.count(FdrStep::NEARBY.map(|step| {
             let apply = |state: &[u16], operator| step.apply(&spec, state, operator);
@@ -417,17 +421,17 @@ fn agree() {
 #[test]
 fn as_written_down() {
     let image = [2, 1, 8, 0, 8, 0, 8, 10, 0, 4, 0, 0, 1, 0, 2, 0, 3, 0];
-    let kept = |row: [u16; 3]| exports::kept(&image, &[], &row, 0, &mut [0]);
+    let kept = |row: [u16; 3]| kulabismuth::kept(&image, &[], &row, 0, &mut [0]);
     assert_eq!(kept([0, 65535, 65535]), Reply::finding(1, 0));
     assert_eq!(kept([1, 65535, 65535]), Reply::finding(0, 0));
     assert_eq!(kept([1, 3, 65535]), Reply::finding(0, 0));
     assert_eq!(kept([0, 3, 65535]), Reply::finding(1, 0));
     let mut state = [1, 0];
-    let step = exports::task_step(&image, &mut state, 0);
+    let step = kulabismuth::task_step(&image, &mut state, 0);
     assert_eq!((step, state), (Reply::finding(0, 0), [1, 1]));
     let image = changer(2, 3).image();
     let mut state = [1, 0, 0, 0, 1, 0];
-    let run = exports::task_run(&image, &mut state, &[0, 4, 2, 1, 0]);
+    let run = kulabismuth::task_run(&image, &mut state, &[0, 4, 2, 1, 0]);
     let refused = Reply::from(Err::<(), _>(Refusal {
         number: 20,
         first: 3,

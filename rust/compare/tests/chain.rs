@@ -7,16 +7,16 @@ use reference::marks::mark_bytes;
 fn reencoded(image: &[u16], n: u16) -> Vec<u16> {
     let (mut rows, mut work) = (vec![1; 30_000], vec![1; 30_000]);
     let mut marks = vec![1; mark_bytes(usize::from(image[0]))];
-    let found = exports::synthesize(image, n, 65535, &mut rows, &mut work, &mut marks);
+    let found = kulabismuth::synthesize(image, n, 65535, &mut rows, &mut work, &mut marks);
     assert_eq!(found.number, 0, "{image:?}");
     let rows = &rows[..3 * found.first as usize];
     assert_eq!(
-        exports::check(image, rows, &mut marks).number,
+        kulabismuth::check(image, rows, &mut marks).number,
         0,
         "{image:?}"
     );
     let mut target = vec![1; 32_768];
-    let written = exports::reencode(image, rows, &mut marks, &mut target);
+    let written = kulabismuth::reencode(image, rows, &mut marks, &mut target);
     assert_eq!(written.number, 0, "{image:?}");
     target.truncate(written.first as usize);
     target
@@ -34,8 +34,8 @@ impl Both<'_> {
     fn initial<'a>(image: &'a [u16], coded: &'a [u16]) -> Both<'a> {
         let mut bytes = vec![9; usize::from(image[0])];
         let mut values = vec![9; usize::from(coded[0])];
-        assert_eq!(exports::task_initial(image, &mut bytes).number, 0);
-        assert_eq!(exports::fdr_initial(coded, &mut values).number, 0);
+        assert_eq!(kulabismuth::task_initial(image, &mut bytes).number, 0);
+        assert_eq!(kulabismuth::fdr_initial(coded, &mut values).number, 0);
         Both {
             image,
             coded,
@@ -49,27 +49,27 @@ impl Both<'_> {
     fn agree(&self) {
         let mut codes = vec![9; self.values.len()];
         let mut decoded = vec![9; self.bytes.len()];
-        let encode = exports::encode(self.coded, &self.bytes, &mut codes);
-        let decode = exports::decode(self.coded, &self.values, &mut decoded);
+        let encode = kulabismuth::encode(self.coded, &self.bytes, &mut codes);
+        let decode = kulabismuth::decode(self.coded, &self.values, &mut decoded);
         assert_eq!((encode.number, decode.number), (0, 0), "{:?}", self.image);
         assert_eq!(codes, self.values, "{:?}", self.image);
         assert_eq!(decoded, self.bytes, "{:?}", self.image);
-        let goal = exports::task_goal(self.image, &self.bytes);
-        let coded_goal = exports::fdr_goal(self.coded, &self.values);
+        let goal = kulabismuth::task_goal(self.image, &self.bytes);
+        let coded_goal = kulabismuth::fdr_goal(self.coded, &self.values);
         assert_eq!(goal, coded_goal, "{:?}", self.image);
     }
 
     fn step(&mut self, operator: u16) -> bool {
-        let reply = exports::task_step(self.image, &mut self.bytes, operator);
-        let coded = exports::fdr_step(self.coded, &mut self.values, operator);
+        let reply = kulabismuth::task_step(self.image, &mut self.bytes, operator);
+        let coded = kulabismuth::fdr_step(self.coded, &mut self.values, operator);
         assert_eq!(reply, coded, "{:?} {operator}", self.image);
         self.agree();
         reply.number == 0
     }
 
     fn run(&mut self, list: &[u16]) {
-        let reply = exports::task_run(self.image, &mut self.bytes, list);
-        let coded = exports::fdr_run(self.coded, &mut self.values, list);
+        let reply = kulabismuth::task_run(self.image, &mut self.bytes, list);
+        let coded = kulabismuth::fdr_run(self.coded, &mut self.values, list);
         assert_eq!(reply, coded, "{:?} {list:?}", self.image);
         self.agree();
     }

@@ -1,10 +1,10 @@
 //! One clause under one operator, and the checker.
 
 use compare::{calls, Guarded, Tally};
-use exports::Reply;
 use inputs::clauses::{self, FILL};
 use inputs::fixed::kept_cases;
 use inputs::{damage, state, Rng};
+use kulabismuth::Reply;
 use reference::marks::mark_bytes;
 use sources::{marks_length, Failing, Synthesized};
 
@@ -92,7 +92,7 @@ fn falsifying_rows(rng: &mut Rng, tally: &mut Tally, answers: &mut [usize; 2]) {
 fn kept_cases_as_written_down() {
     for case in kept_cases() {
         let mut marks = vec![0; mark_bytes(usize::from(case.image[0]))];
-        let reply = exports::kept(&case.image, &case.clauses, &case.clause, 0, &mut marks);
+        let reply = kulabismuth::kept(&case.image, &case.clauses, &case.clause, 0, &mut marks);
         let expected = Reply::finding(u64::from(case.kept), 0);
         assert_eq!(reply, expected, "{}", case.name);
     }
@@ -134,9 +134,9 @@ fn compare_failing(tally: &mut Tally, failing: &Failing) {
     assert_eq!(calls::check(tally, lent), lowest, "{failing:?}");
     let mut target = vec![FILL; 40];
     let others = [
-        exports::groups(image, words, &mut marks, &mut target),
-        exports::reencode(image, words, &mut marks, &mut target),
-        exports::agree(image, words, &[0, 1], &mut marks),
+        kulabismuth::groups(image, words, &mut marks, &mut target),
+        kulabismuth::reencode(image, words, &mut marks, &mut target),
+        kulabismuth::agree(image, words, &[0, 1], &mut marks),
     ];
     assert_eq!(others, [lowest; 3], "{failing:?}");
     assert_eq!(target, [FILL; 40], "{failing:?}");
@@ -150,7 +150,7 @@ fn are_lowest(failing: &Failing, clause: usize, operator: usize) -> bool {
     let mut marks = vec![0; mark_bytes(usize::from(image[0]))];
     let mut kept = |place: usize, operator: u16| {
         let row = &words[3 * place..3 * place + 3];
-        exports::kept(image, words, row, operator, &mut marks) == Reply::finding(1, 0)
+        kulabismuth::kept(image, words, row, operator, &mut marks) == Reply::finding(1, 0)
     };
     let all_before = (0..clause).all(|place| (0..image[1]).all(|other| kept(place, other)));
     let operator = operator as u16;
@@ -193,7 +193,7 @@ fn the_lowest_clause_and_operator() {
 fn check_the_ring() {
     let image = inputs::structured::ring(3).image();
     let check = |rows: &[u16]| {
-        let reply = exports::check(&image, rows, &mut [0]);
+        let reply = kulabismuth::check(&image, rows, &mut [0]);
         (reply.number, reply.first, reply.second)
     };
     assert_eq!(check(&[2, FILL, FILL]), (10, 0, 0));

@@ -3,10 +3,10 @@
 
 use compare::tally::INPUTS;
 use compare::{calls, Guarded, Kinds, Tally};
-use exports::Reply;
 use inputs::clauses::{self, Row};
 use inputs::task::{OperatorSpec, TaskSpec};
 use inputs::{damage, random, state, structured, Rng};
+use kulabismuth::Reply;
 use reference::closure::Closure;
 use reference::literal::Literal;
 use reference::marks::{is_marked, mark_bytes};
@@ -381,7 +381,7 @@ fn a_contradictory_closure_keeps_all() {
             let (_, mut marks) = input.compare(&mut tally);
             if is_contradictory(&marks, source.image[0]) {
                 let row = clauses::random_row(rng, source.atoms());
-                let reply = exports::kept(&source.image, &set, &row, operator, &mut marks);
+                let reply = kulabismuth::kept(&source.image, &set, &row, operator, &mut marks);
                 assert_eq!(reply, Reply::finding(1, 0), "{:?} {set:?}", source.image);
                 kept += 1;
             }
@@ -398,7 +398,7 @@ fn as_written_down() {
     let pairs = [1, 3, fill, 1, 5, fill, 3, 5, fill];
     let call = |set: &[u16], operator: u16, before: &[u8]| {
         let mut marks = before.to_vec();
-        let reply = exports::closure(&ring, set, operator, &mut marks);
+        let reply = kulabismuth::closure(&ring, set, operator, &mut marks);
         ((reply.number, reply.first, reply.second), marks)
     };
     assert_eq!(call(&pairs, 0, &[0]), ((0, 3, 0), vec![0b10_1001]));

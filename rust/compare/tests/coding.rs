@@ -40,7 +40,9 @@ fn encode() {
             |(image, state, target)| {
                 model::encode(image.lend(), state.lend(), target.lend_mut()).into()
             },
-            |(image, state, target)| exports::encode(image.lend(), state.lend(), target.lend_mut()),
+            |(image, state, target)| {
+                kulabismuth::encode(image.lend(), state.lend(), target.lend_mut())
+            },
         );
     }
     tally.finish(LEAST, &[0, 17, 18, 23]);
@@ -64,7 +66,9 @@ fn decode() {
             |(image, state, target)| {
                 model::decode(image.lend(), state.lend(), target.lend_mut()).into()
             },
-            |(image, state, target)| exports::decode(image.lend(), state.lend(), target.lend_mut()),
+            |(image, state, target)| {
+                kulabismuth::decode(image.lend(), state.lend(), target.lend_mut())
+            },
         );
     }
     tally.finish(LEAST, &[0, 17, 18]);

@@ -1,8 +1,8 @@
 //! The worked example of docs/CORRECTING.md: each text is read, checked and
 //! answered as written there.
 
-use exports::Reply;
 use inputs::clauses;
+use kulabismuth::Reply;
 use reference::{checker, dimacs};
 use sources::Synthesized;
 
@@ -48,10 +48,14 @@ fn the_page_is_right() {
     let steps = steps();
     for (text, expected) in &steps {
         let mut rows = [0; 30];
-        let read = exports::read_dimacs(&image, text.as_bytes(), &mut rows);
+        let read = kulabismuth::read_dimacs(&image, text.as_bytes(), &mut rows);
         assert_eq!(read.number, 0, "{text}");
         let words = &rows[..3 * read.first as usize];
-        assert_eq!(exports::check(&image, words, &mut [0]), *expected, "{text}");
+        assert_eq!(
+            kulabismuth::check(&image, words, &mut [0]),
+            *expected,
+            "{text}"
+        );
         let reference = Reply::from(checker::check(&image, words, &mut [0]));
         assert_eq!(reference, *expected, "{text}");
         assert_eq!(written(&image, words), *text, "rows in another order");
@@ -65,7 +69,7 @@ fn the_page_is_right() {
 /// The text of the rows, which the reference writes as well.
 fn written(image: &[u16], words: &[u16]) -> String {
     let mut text = [0; 200];
-    let reply = exports::write_dimacs(image, words, &mut text);
+    let reply = kulabismuth::write_dimacs(image, words, &mut text);
     assert_eq!(reply, dimacs::write(image, words, &mut [0; 200]).into());
     String::from_utf8(text[..reply.first as usize].to_vec()).expect("a text")
 }

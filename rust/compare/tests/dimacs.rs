@@ -1,10 +1,10 @@
 //! Clauses to and from DIMACS CNF.
 
 use compare::{Guarded, Tally};
-use exports::Reply;
 use inputs::clauses::{self, Row};
 use inputs::dimacs::{self, distinct_rows, Source, Text};
 use inputs::{structured, Rng};
+use kulabismuth::Reply;
 use reference::dimacs as model;
 use sources::target_length;
 
@@ -21,7 +21,7 @@ fn compare_write(tally: &mut Tally, lent: Writing) -> (Reply, Writing) {
         lent,
         |(image, clauses, text)| model::write(image.lend(), clauses.lend(), text.lend_mut()).into(),
         |(image, clauses, text)| {
-            exports::write_dimacs(image.lend(), clauses.lend(), text.lend_mut())
+            kulabismuth::write_dimacs(image.lend(), clauses.lend(), text.lend_mut())
         },
     )
 }
@@ -32,7 +32,7 @@ fn compare_read(tally: &mut Tally, lent: Reading) -> (Reply, Reading) {
         lent,
         |(image, text, clauses)| model::read(image.lend(), text.lend(), clauses.lend_mut()).into(),
         |(image, text, clauses)| {
-            exports::read_dimacs(image.lend(), text.lend(), clauses.lend_mut())
+            kulabismuth::read_dimacs(image.lend(), text.lend(), clauses.lend_mut())
         },
     )
 }
@@ -115,7 +115,7 @@ fn texts_as_written_down() {
     let image = structured::ring(3).image();
     let number = |text: &str| {
         let mut rows = [7; 9];
-        let reply = exports::read_dimacs(&image, text.as_bytes(), &mut rows);
+        let reply = kulabismuth::read_dimacs(&image, text.as_bytes(), &mut rows);
         assert!(reply.number == 0 || rows == [7; 9], "{text:?}");
         (reply.number, reply.first, reply.second)
     };
@@ -192,11 +192,11 @@ fn read_large(rng: &mut Rng, tally: &mut Tally, text: &[u8], length: usize) -> R
 /// What the library writes, it reads back into the same words.
 fn round_trip(rng: &mut Rng, image: &[u16], rows: &[u16]) {
     let mut text = vec![1; 200_000];
-    let written = exports::write_dimacs(image, rows, &mut text);
+    let written = kulabismuth::write_dimacs(image, rows, &mut text);
     assert_eq!(written.number, 0, "{image:?} {rows:?}");
     let text = &text[..written.first as usize];
     let mut again = vec![1; rows.len() + rng.below(5)];
-    let read = exports::read_dimacs(image, text, &mut again);
+    let read = kulabismuth::read_dimacs(image, text, &mut again);
     let count = rows.len() as u64 / 3;
     assert_eq!(read, Reply::finding(count, 0), "{image:?} {rows:?}");
     assert_eq!(&again[..rows.len()], rows, "{image:?}");

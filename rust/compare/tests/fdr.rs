@@ -50,12 +50,17 @@ fn compare_many(name: &'static str, seed: u64, model: Model, library: Library) {
 
 #[test]
 fn groups_of_sets() {
-    compare_many("kb_groups", 401, groups::groups, exports::groups);
+    compare_many("kb_groups", 401, groups::groups, kulabismuth::groups);
 }
 
 #[test]
 fn reencode() {
-    compare_many("kb_reencode", 402, reencoding::reencode, exports::reencode);
+    compare_many(
+        "kb_reencode",
+        402,
+        reencoding::reencode,
+        kulabismuth::reencode,
+    );
 }
 
 #[test]
@@ -73,7 +78,7 @@ fn initial() {
             (),
             (Guarded::new(&source.image), Guarded::new(&state)),
             |(image, state)| model::initial(image.lend(), state.lend_mut()).into(),
-            |(image, state)| exports::fdr_initial(image.lend(), state.lend_mut()),
+            |(image, state)| kulabismuth::fdr_initial(image.lend(), state.lend_mut()),
         );
     }
     tally.finish(LEAST, &[0, 17, 18]);
@@ -93,7 +98,7 @@ fn step() {
                 operator,
                 (image.clone(), state),
                 |(image, state)| model::step(image.lend(), state.lend_mut(), operator).into(),
-                |(image, state)| exports::fdr_step(image.lend(), state.lend_mut(), operator),
+                |(image, state)| kulabismuth::fdr_step(image.lend(), state.lend_mut(), operator),
             );
             state = next;
         }
@@ -113,7 +118,7 @@ fn goal() {
             (),
             (Guarded::new(&source.image), Guarded::new(&state)),
             |(image, state)| model::goal(image.lend(), state.lend()).into(),
-            |(image, state)| exports::fdr_goal(image.lend(), state.lend()),
+            |(image, state)| kulabismuth::fdr_goal(image.lend(), state.lend()),
         );
         if reply.number == 0 {
             met[reply.first as usize] += 1;
@@ -147,7 +152,9 @@ fn run() {
                 Guarded::new(&list),
             ),
             |(image, state, list)| model::run(image.lend(), state.lend_mut(), list.lend()).into(),
-            |(image, state, list)| exports::fdr_run(image.lend(), state.lend_mut(), list.lend()),
+            |(image, state, list)| {
+                kulabismuth::fdr_run(image.lend(), state.lend_mut(), list.lend())
+            },
         );
     }
     tally.finish(LEAST, &[0, 17, 18, 19, 20, 21, 22]);

@@ -2,10 +2,10 @@
 //! parts, and unions of accepted sets.
 
 use compare::{calls, Guarded, Kinds, Tally};
-use exports::Reply;
 use inputs::join::{self, Pair};
 use inputs::structured::ring;
 use inputs::{clauses, random, Rng};
+use kulabismuth::Reply;
 use reference::join as model;
 use reference::marks::mark_bytes;
 use reference::task;
@@ -21,7 +21,7 @@ fn compare_join(tally: &mut Tally, lent: Lent) -> (Reply, Lent) {
         (),
         lent,
         |(left, right, target)| model::join(left.lend(), right.lend(), target.lend_mut()).into(),
-        |(left, right, target)| exports::join(left.lend(), right.lend(), target.lend_mut()),
+        |(left, right, target)| kulabismuth::join(left.lend(), right.lend(), target.lend_mut()),
     )
 }
 
@@ -195,7 +195,7 @@ fn three_tasks() {
 fn the_ring_with_itself() {
     let image = ring(3).image();
     let mut target = [7; 66];
-    let reply = exports::join(&image, &image, &mut target);
+    let reply = kulabismuth::join(&image, &image, &mut target);
     assert_eq!(reply, Reply::finding(64, 0));
     let parts: [&[u16]; 7] = [
         &[6, 6, 18, 2, 20, 2, 22, 7, 29, 7, 36, 7, 43, 7, 50, 7, 57, 7],
@@ -213,7 +213,7 @@ fn the_ring_with_itself() {
         first: 0,
         second: 0,
     };
-    assert_eq!(exports::join(&image, &image, &mut target), refused);
+    assert_eq!(kulabismuth::join(&image, &image, &mut target), refused);
     assert_eq!(target, [7; 63]);
 }
 
@@ -227,7 +227,7 @@ struct Joined {
 /// The initial state.
 fn initial(image: &[u16]) -> Vec<u8> {
     let mut state = vec![9; usize::from(image[0])];
-    let reply = exports::task_initial(image, &mut state);
+    let reply = kulabismuth::task_initial(image, &mut state);
     assert_eq!(reply.number, 0, "{image:?}");
     state
 }
@@ -235,7 +235,7 @@ fn initial(image: &[u16]) -> Vec<u8> {
 /// A list run from the initial state, and the state it leaves.
 fn run(image: &[u16], list: &[u16]) -> (Reply, Vec<u8>) {
     let mut state = initial(image);
-    let reply = exports::task_run(image, &mut state, list);
+    let reply = kulabismuth::task_run(image, &mut state, list);
     (reply, state)
 }
 
@@ -282,16 +282,16 @@ impl Joined {
         let operators = self.operators().0 as u16;
         let mut goals = [0; 2];
         for &operator in list {
-            let reply = exports::task_step(&self.image, &mut state, operator);
+            let reply = kulabismuth::task_step(&self.image, &mut state, operator);
             let own = match operator.checked_sub(operators) {
-                None => exports::task_step(&self.left, &mut first, operator),
-                Some(operator) => exports::task_step(&self.right, &mut second, operator),
+                None => kulabismuth::task_step(&self.left, &mut first, operator),
+                Some(operator) => kulabismuth::task_step(&self.right, &mut second, operator),
             };
             assert_eq!(reply, own, "{:?} {list:?}", self.image);
             assert_eq!(state, [&first[..], &second].concat(), "{list:?}");
-            let met = exports::task_goal(&self.image, &state);
-            let first_met = exports::task_goal(&self.left, &first).first;
-            let second_met = exports::task_goal(&self.right, &second).first;
+            let met = kulabismuth::task_goal(&self.image, &state);
+            let first_met = kulabismuth::task_goal(&self.left, &first).first;
+            let second_met = kulabismuth::task_goal(&self.right, &second).first;
             assert_eq!(met, Reply::finding(first_met.min(second_met), 0));
             goals[met.first as usize] += 1;
         }
@@ -311,7 +311,7 @@ fn random_list(rng: &mut Rng, joined: &Joined) -> Vec<u16> {
         let mut number = 0;
         for _ in 0..6 {
             number = rng.below(operators) as u16;
-            if exports::task_step(&joined.image, &mut state, number).number == 0 {
+            if kulabismuth::task_step(&joined.image, &mut state, number).number == 0 {
                 break;
             }
         }
@@ -390,7 +390,7 @@ fn numbers_too_high() {
 fn found(image: &[u16], n: u16) -> Vec<u16> {
     let (mut rows, mut work) = (vec![1; 30_000], vec![1; 30_000]);
     let mut marks = vec![1; marks_of(image)];
-    let reply = exports::synthesize(image, n, 65535, &mut rows, &mut work, &mut marks);
+    let reply = kulabismuth::synthesize(image, n, 65535, &mut rows, &mut work, &mut marks);
     assert_eq!(reply.number, 0, "{image:?}");
     rows.truncate(3 * reply.first as usize);
     rows
@@ -424,8 +424,8 @@ fn assert_union(tally: &mut Tally, joined: &Joined, sets: [&[u16]; 2]) -> Reply 
     let short = compare_check(tally, image, &both, bytes - 1);
     assert_eq!(short.number, 13, "{image:?} {both:?}");
     let given = compare_check(tally, image, &both, bytes);
-    let first = exports::check(left, sets[0], &mut vec![7; marks_of(left)]);
-    let mut second = exports::check(right, sets[1], &mut vec![7; marks_of(right)]);
+    let first = kulabismuth::check(left, sets[0], &mut vec![7; marks_of(left)]);
+    let mut second = kulabismuth::check(right, sets[1], &mut vec![7; marks_of(right)]);
     if second.number != 0 {
         second.first += sets[0].len() as u64 / 3;
     }

@@ -4,8 +4,8 @@
 
 use compare::calls::{self, Library, Model};
 use compare::{Guarded, Tally};
-use exports::Reply;
 use inputs::{clauses, random, state, Rng};
+use kulabismuth::Reply;
 use reference::marks::mark_bytes;
 use reference::synthesis::{self, MOST_ROWS};
 use reference::{groups, reencoding, task};
@@ -157,12 +157,17 @@ fn targeted(name: &'static str, seed: u64, model: Model, library: Library) {
 
 #[test]
 fn groups_of_sets() {
-    targeted("kb_groups, marks", 1104, groups::groups, exports::groups);
+    targeted(
+        "kb_groups, marks",
+        1104,
+        groups::groups,
+        kulabismuth::groups,
+    );
 }
 
 #[test]
 fn reencode() {
-    let (model, library) = (reencoding::reencode, exports::reencode);
+    let (model, library) = (reencoding::reencode, kulabismuth::reencode);
     targeted("kb_reencode, marks", 1105, model, library);
 }
 

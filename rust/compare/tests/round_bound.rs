@@ -4,11 +4,11 @@
 use std::collections::BTreeMap;
 
 use compare::{calls, Guarded, Tally};
-use exports::Reply;
 use inputs::rounds::{chain, counter, walk, walk_of_pairs};
 use inputs::structured::{blocks, briefcase, changer, gripper, ring, transport};
 use inputs::task::TaskSpec;
 use inputs::{add_delete, random, small, Rng};
+use kulabismuth::Reply;
 use reference::marks::mark_bytes;
 use reference::round_bound::{choose, possible_clauses, round_bound};
 use reference::synthesis::MOST_ROWS;

@@ -1,8 +1,8 @@
 //! Synthesis.
 
 use compare::{calls, Guarded, Tally};
-use exports::Reply;
 use inputs::{clauses, damage, random, structured, Rng};
+use kulabismuth::Reply;
 use reference::marks::{mark_bytes, MOST_MARK_BYTES};
 use reference::synthesis::{self as model, MOST_ROWS};
 
@@ -89,7 +89,7 @@ fn library_set(image: &[u16], n: u16) -> (Reply, Vec<clauses::Row>) {
     let mut rows = vec![1; 3 * MOST_ROWS];
     let mut work = rows.clone();
     let marks = &mut [1; MOST_MARK_BYTES];
-    let reply = exports::synthesize(image, n, 65535, &mut rows, &mut work, marks);
+    let reply = kulabismuth::synthesize(image, n, 65535, &mut rows, &mut work, marks);
     assert_eq!(reply.number, 0);
     rows.truncate(3 * reply.first as usize);
     (reply, clauses::rows(&rows))
@@ -141,7 +141,7 @@ fn ten_thousand_rows() {
         let image = task.image();
         let (mut rows, mut work) = (vec![1; 30_012], vec![1; 30_012]);
         let marks = &mut [1; MOST_MARK_BYTES];
-        let reply = exports::synthesize(&image, 2, 65535, &mut rows, &mut work, marks);
+        let reply = kulabismuth::synthesize(&image, 2, 65535, &mut rows, &mut work, marks);
         let zeros = rows.iter().rev().take_while(|&&word| word == 0).count();
         (reply.number, reply.first, reply.second, zeros)
     });
@@ -175,7 +175,7 @@ fn ring() {
     let image = structured::ring(3).image();
     let synthesize = |n, limit, words: usize| {
         let (mut rows, mut work) = (vec![1; words], vec![1; words]);
-        let reply = exports::synthesize(&image, n, limit, &mut rows, &mut work, &mut [1]);
+        let reply = kulabismuth::synthesize(&image, n, limit, &mut rows, &mut work, &mut [1]);
         assert!(reply.number == 0 || rows.iter().all(|&word| word == 0));
         (reply.number, reply.first, reply.second)
     };

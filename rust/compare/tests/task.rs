@@ -61,7 +61,7 @@ fn read() {
             (),
             image,
             |image| reference::task::read(image.lend()).map(|_| ()).into(),
-            |image| exports::read(image.lend()),
+            |image| kulabismuth::read(image.lend()),
         );
     }
     tally.finish(LEAST, &numbers(&[]));
@@ -71,7 +71,7 @@ fn read() {
 #[test]
 fn images_as_written_down() {
     let read = |image: &[u16]| {
-        let reply = exports::read(image);
+        let reply = kulabismuth::read(image);
         (reply.number, reply.first, reply.second)
     };
     assert_eq!(read(&inputs::structured::ring(3).image()), (0, 0, 0));
@@ -109,7 +109,7 @@ fn initial() {
             (),
             (Guarded::new(&image), Guarded::new(&state)),
             |(image, state)| model::initial(image.lend(), state.lend_mut()).into(),
-            |(image, state)| exports::task_initial(image.lend(), state.lend_mut()),
+            |(image, state)| kulabismuth::task_initial(image.lend(), state.lend_mut()),
         );
     }
     tally.finish(LEAST, &numbers(&[18]));
@@ -129,7 +129,7 @@ fn step() {
                 operator,
                 (image.clone(), state),
                 |(image, state)| model::step(image.lend(), state.lend_mut(), operator).into(),
-                |(image, state)| exports::task_step(image.lend(), state.lend_mut(), operator),
+                |(image, state)| kulabismuth::task_step(image.lend(), state.lend_mut(), operator),
             );
             state = next;
         }
@@ -149,7 +149,7 @@ fn goal() {
             (),
             (Guarded::new(&image), Guarded::new(&state)),
             |(image, state)| model::goal(image.lend(), state.lend()).into(),
-            |(image, state)| exports::task_goal(image.lend(), state.lend()),
+            |(image, state)| kulabismuth::task_goal(image.lend(), state.lend()),
         );
         if reply.number == 0 {
             met[reply.first as usize] += 1;
@@ -192,7 +192,9 @@ fn run() {
                 Guarded::new(&list),
             ),
             |(image, state, list)| model::run(image.lend(), state.lend_mut(), list.lend()).into(),
-            |(image, state, list)| exports::task_run(image.lend(), state.lend_mut(), list.lend()),
+            |(image, state, list)| {
+                kulabismuth::task_run(image.lend(), state.lend_mut(), list.lend())
+            },
         );
         long += usize::from((19..=20).contains(&reply.number) && reply.first > 1);
     }

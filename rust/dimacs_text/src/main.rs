@@ -6,7 +6,7 @@
 use std::io::{self, Write};
 use std::process::ExitCode;
 
-use image_text::parse_word;
+use task_text::parse_word;
 
 /// A text has no more bytes: the longest header, and 10,000 lines of three
 /// literals.
@@ -33,7 +33,7 @@ fn words_of_lines(input: &str) -> Option<[Vec<u16>; 2]> {
 
 fn print_text(image: &[u16], clauses: &[u16]) -> ExitCode {
     let mut text = vec![0; MOST_BYTES];
-    let reply = exports::write_dimacs(image, clauses, &mut text);
+    let reply = kulabismuth::write_dimacs(image, clauses, &mut text);
     let refused = reply.number > 0;
     if refused {
         let (number, first, second) = (reply.number, reply.first, reply.second);

@@ -1,9 +1,10 @@
 //! An example: a task with names for its atoms and operators, and its files.
 
-use image_text::line;
 use inputs::task::TaskSpec;
 use reference::marks::MOST_MARK_BYTES;
 use reference::synthesis::{synthesize, MOST_ROWS};
+use task_text::names::NameList;
+use task_text::{reencoded, words, writer, Names};
 
 pub struct Example {
     pub name: &'static str,
@@ -17,37 +18,45 @@ pub struct Example {
 }
 
 impl Example {
-    /// The task as a commented text.
-    pub fn text(&self) -> String {
+    pub fn names(&self) -> Names {
+        let list = |names: &[String]| {
+            let mut list = NameList::default();
+            names.iter().for_each(|name| assert!(list.push(Some(name))));
+            list
+        };
+        assert_eq!(self.atoms.len(), usize::from(self.task.atoms));
+        assert_eq!(self.operators.len(), self.task.operators.len());
+        Names {
+            atoms: list(&self.atoms),
+            operators: list(&self.operators),
+        }
+    }
+
+    /// What the task is about, and how its card is made, as comments.
+    fn about(&self, ending: &str) -> String {
         let Example { name, n, limit, .. } = self;
-        let task = &self.task;
-        assert_eq!(self.atoms.len(), usize::from(task.atoms));
-        assert_eq!(self.operators.len(), task.operators.len());
-        let image = task.image();
-        let directory = 2 + 2 * (2 + task.operators.len());
-        let mut text = String::new();
-        for about in self.about {
-            text += &format!("# {about}\n");
-        }
-        text += &format!("#\n# ./card {n} {limit} examples/{name}.txt\n#\n");
-        text += "# The literal 'atom a true' is 2a, 'atom a false' is 2a+1. The atoms:\n";
-        for (number, atom) in self.atoms.iter().enumerate() {
-            text += &format!("#   {number}: {atom}\n");
-        }
-        text += "\n# numbers of atoms and operators\n";
-        text += &line(&image[..2]);
-        text += "# directory: offset and length of the initial state, the goal and each operator\n";
-        text += &line(&image[2..directory]);
-        text += "# initial state: the atoms that are true\n";
-        text += &line(&task.initial);
-        text += "# goal: its literals\n";
-        text += &line(&task.goal);
-        text += "# operators: count, precondition literals; count, rows of effect literal, count, condition literals\n";
-        for (number, (operator, name)) in task.operators.iter().zip(&self.operators).enumerate() {
-            text += &format!("# {number}: {name}\n");
-            text += &line(&operator.block());
-        }
-        assert_eq!(image_text::read(&text), Ok(image));
+        let about: String = self
+            .about
+            .iter()
+            .map(|line| format!("# {line}\n"))
+            .collect();
+        format!("{about}#\n# ./kb card {n} {limit} examples/{name}.{ending}\n\n")
+    }
+
+    /// The task as a text with names.
+    pub fn text(&self) -> String {
+        let text = self.about("txt") + &writer::write(&self.task, &self.names());
+        let read = task_text::read_task(&text).map(|file| (file.image, file.names));
+        assert_eq!(read, Ok((self.task.image(), self.names())));
+        text
+    }
+
+    /// The task as the words of its image.
+    pub fn words(&self) -> String {
+        let image = self.task.image();
+        let text = self.about("words") + &words::write(&image, &self.names());
+        let read = task_text::read_task(&text).map(|file| (file.image, file.names));
+        assert_eq!(read, Ok((image, self.names())));
         text
     }
 
@@ -58,8 +67,8 @@ impl Example {
         reference::card::card(&bytes)
     }
 
-    /// The re-encoded image, unless the task is refused.
-    pub fn reencoded(&self) -> Option<Vec<u16>> {
+    /// The text of the re-encoded image, unless the task is refused.
+    pub fn reencoded(&self) -> Option<String> {
         let image = self.task.image();
         let (mut clauses, mut work) = (vec![0; 3 * MOST_ROWS], vec![0; 3 * MOST_ROWS]);
         let marks = &mut [0; MOST_MARK_BYTES];
@@ -67,7 +76,6 @@ impl Example {
         let mut target = vec![0; 32_768];
         let clauses = &clauses[..3 * found.rows];
         let length = reference::reencoding::reencode(&image, clauses, marks, &mut target).ok()?;
-        target.truncate(length);
-        Some(target)
+        Some(reencoded::words(&target[..length]))
     }
 }

@@ -23,43 +23,42 @@ fn pairs<'a>(names: &'a [&'a str]) -> impl Iterator<Item = (&'a str, &'a str)> {
 }
 
 fn ring() -> Example {
-    let place = |number: u16| format!("the token is at place {number}");
-    let moves = |number: u16| format!("move the token from place {number} to {}", (number + 1) % 3);
+    let moves = |number: u16| format!("move-{number}-{}", (number + 1) % 3);
     Example {
         name: "ring",
         about: &[
-            "A token goes round three places: the ring of document 01.",
+            "A token goes round three places: the ring of document 01. Atom at-0 says that it is at place 0.",
             "The clauses say that it is never at two places; one group has all three atoms.",
         ],
         n: 2,
         limit: 10,
         task: structured::ring(3),
-        atoms: (0..3).map(place).collect(),
+        atoms: (0..3).map(|place| format!("at-{place}")).collect(),
         operators: (0..3).map(moves).collect(),
     }
 }
 
 fn gripper() -> Example {
-    let rooms = ["room A", "room B", "room C"];
-    let balls = ["ball 1", "ball 2", "ball 3", "ball 4"];
+    let rooms = ["A", "B", "C"];
+    let balls = ["ball1", "ball2", "ball3", "ball4"];
     let arms = ["left", "right"];
     let mut task = structured::gripper(4, 3, 2);
-    let mut atoms: Vec<String> = rooms.map(|room| format!("the robot is in {room}")).into();
-    atoms.extend(arms.map(|arm| format!("the {arm} gripper is free")));
+    let mut atoms: Vec<String> = rooms.map(|room| format!("robot-{room}")).into();
+    atoms.extend(arms.map(|arm| format!("{arm}-free")));
     for ball in balls {
-        atoms.extend(rooms.map(|room| format!("{ball} is in {room}")));
+        atoms.extend(rooms.map(|room| format!("{ball}-{room}")));
     }
     for ball in balls {
-        atoms.extend(arms.map(|arm| format!("the {arm} gripper carries {ball}")));
+        atoms.extend(arms.map(|arm| format!("{arm}-{ball}")));
     }
     let mut operators: Vec<String> = pairs(&rooms)
-        .map(|(from, to)| format!("move from {from} to {to}"))
+        .map(|(from, to)| format!("move-{from}-{to}"))
         .collect();
     for ball in balls {
         for room in rooms {
             for arm in arms {
-                operators.push(format!("pick up {ball} in {room} with the {arm} gripper"));
-                operators.push(format!("drop {ball} in {room} from the {arm} gripper"));
+                operators.push(format!("pick-{ball}-{room}-{arm}"));
+                operators.push(format!("drop-{ball}-{room}-{arm}"));
             }
         }
     }
@@ -69,8 +68,8 @@ fn gripper() -> Example {
         name: "gripper",
         about: &[
             "A robot with two grippers carries four balls from room A to room B: the running example of",
-            "source document 000. The card has its 63 mutexes; a group for the robot, one for each gripper",
-            "and one for each ball.",
+            "source document 000. Atom left-ball1 says that the left gripper carries ball 1. The card has",
+            "its 63 mutexes; a group for the robot, one for each gripper and one for each ball.",
         ],
         n: 2,
         limit: 100,
@@ -82,26 +81,25 @@ fn gripper() -> Example {
 
 fn blocks() -> Example {
     let blocks = ["A", "B", "C"];
-    let mut atoms: Vec<String> = blocks
-        .map(|a| format!("nothing is on {a}, and it is not held"))
-        .into();
-    atoms.extend(blocks.map(|a| format!("{a} is on the table")));
-    atoms.extend(blocks.map(|a| format!("the hand holds {a}")));
-    atoms.push("the hand is empty".to_string());
-    atoms.extend(pairs(&blocks).map(|(a, b)| format!("{a} is on {b}")));
+    let mut atoms: Vec<String> = blocks.map(|a| format!("clear-{a}")).into();
+    atoms.extend(blocks.map(|a| format!("table-{a}")));
+    atoms.extend(blocks.map(|a| format!("held-{a}")));
+    atoms.push("hand-empty".to_string());
+    atoms.extend(pairs(&blocks).map(|(a, b)| format!("on-{a}-{b}")));
     let mut operators = Vec::new();
     for a in blocks {
-        operators.push(format!("pick {a} up from the table"));
-        operators.push(format!("put {a} down on the table"));
+        operators.push(format!("pick-up-{a}"));
+        operators.push(format!("put-down-{a}"));
         for b in blocks.into_iter().filter(|&b| b != a) {
-            operators.push(format!("stack {a} on {b}"));
-            operators.push(format!("take {a} off {b}"));
+            operators.push(format!("stack-{a}-{b}"));
+            operators.push(format!("unstack-{a}-{b}"));
         }
     }
     Example {
         name: "blocks",
         about: &[
-            "Three blocks on a table and a hand: blocks world with four kinds of operators.",
+            "Three blocks on a table and a hand: blocks world with four kinds of operators. Atom clear-A says",
+            "that nothing is on A and it is not held, on-A-B that A is on B.",
             "The first three groups say what is above each block: nothing, the hand, or another block.",
         ],
         n: 3,
@@ -113,25 +111,19 @@ fn blocks() -> Example {
 }
 
 fn briefcase() -> Example {
-    let places = ["home", "the office", "the bank"];
-    let objects = ["the book", "the pen"];
-    let mut atoms: Vec<String> = places
-        .map(|place| format!("the briefcase is at {place}"))
-        .into();
+    let places = ["home", "office", "bank"];
+    let objects = ["book", "pen"];
+    let mut atoms: Vec<String> = places.map(|place| format!("case-{place}")).into();
     for object in objects {
-        atoms.extend(places.map(|place| format!("{object} is at {place}")));
+        atoms.extend(places.map(|place| format!("{object}-{place}")));
     }
-    atoms.extend(objects.map(|object| format!("{object} is in the briefcase")));
+    atoms.extend(objects.map(|object| format!("{object}-inside")));
     let mut operators: Vec<String> = pairs(&places)
-        .map(|(from, to)| {
-            format!(
-                "carry the briefcase from {from} to {to}; each object goes along if it is inside"
-            )
-        })
+        .map(|(from, to)| format!("carry-{from}-{to}"))
         .collect();
     for object in objects {
-        operators.extend(places.map(|place| format!("put {object} in at {place}")));
-        operators.push(format!("take {object} out"));
+        operators.extend(places.map(|place| format!("put-in-{object}-{place}")));
+        operators.push(format!("take-out-{object}"));
     }
     Example {
         name: "briefcase",
@@ -148,21 +140,20 @@ fn briefcase() -> Example {
 }
 
 fn changer() -> Example {
-    let trays = ["the sample tray", "the reagent tray"];
-    let docks = ["the oven", "the scale", "the hatch"];
+    let trays = ["sample", "reagent"];
+    let docks = ["oven", "scale", "hatch"];
     let mut atoms = Vec::new();
     let mut operators = Vec::new();
     for tray in trays {
-        atoms.extend(docks.map(|dock| format!("{tray} is at {dock}")));
-        operators.extend(docks.map(|dock| {
-            format!("send {tray} to {dock}, where the other tray is not: it leaves every dock and is put there")
-        }));
+        atoms.extend(docks.map(|dock| format!("{tray}-{dock}")));
+        operators.extend(docks.map(|dock| format!("send-{tray}-{dock}")));
     }
     Example {
         name: "changer",
         about: &[
-            "A tray changer serves three docks. Sending a tray deletes all its places and adds the new one.",
-            "A tray sent to where it stands is deleted and added there: an add beats a delete, and it stays.",
+            "A tray changer serves three docks; atom sample-oven says that the sample tray is at the oven. Sending",
+            "a tray, where the other tray is not, deletes all its places and adds the new one. A tray sent to",
+            "where it stands is deleted and added there: an add beats a delete, and it stays.",
             "The clauses say that each tray is at exactly one dock, and no two trays are at the same.",
         ],
         n: 3,

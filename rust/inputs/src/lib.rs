@@ -15,6 +15,6 @@ pub mod rounds;
 pub mod small;
 pub mod state;
 pub mod structured;
-pub mod task;
 
 pub use rng::Rng;
+pub use task_text::task;

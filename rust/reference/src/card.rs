@@ -1,10 +1,10 @@
 //! The card program's text.
 
-use crate::answer::{ask, Answer};
+use crate::answer::{ask, Answer, Finding};
 use crate::clause::Clause;
 use crate::groups::{form, Group};
 use crate::marks::MOST_MARK_BYTES;
-use crate::synthesis::{synthesize, Finding, MOST_ROWS};
+use crate::synthesis::{synthesize, MOST_ROWS};
 use crate::task;
 
 /// What the card program prints for the bytes on its standard input.

@@ -6,7 +6,6 @@
 //! documents' questions in their order; the first "no" is the refusal.
 
 pub mod agreement;
-pub mod answer;
 pub mod card;
 pub mod checker;
 pub mod clause;
@@ -28,4 +27,5 @@ pub mod state;
 pub mod synthesis;
 pub mod task;
 
+pub use ::answer;
 pub use answer::{Answer, Refusal, Reply};

@@ -2,7 +2,7 @@
 
 use std::collections::BTreeSet;
 
-use crate::answer::{ask, Answer};
+use crate::answer::{ask, Answer, Finding};
 use crate::clause::Clause;
 use crate::kept::Judge;
 use crate::literal::Literal;
@@ -11,13 +11,6 @@ use crate::task::{self, Task};
 
 /// The most rows a clause buffer counts for.
 pub const MOST_ROWS: usize = 10_000;
-
-/// The finding of the call: rows written and rounds made.
-#[derive(Clone, Copy, PartialEq, Eq, Debug)]
-pub struct Finding {
-    pub rows: usize,
-    pub rounds: usize,
-}
 
 /// A finished synthesis; `largest` is the size of its largest set.
 #[derive(Clone, PartialEq, Eq, Debug)]

@@ -1,0 +1,85 @@
+//! Two tasks joined: `join`.
+
+use crate::call::Call;
+use crate::set::Set;
+use crate::task::Task;
+use crate::{library, Failure};
+use kulabismuth::Reply;
+use task_text::task::TaskSpec;
+use task_text::{writer, Names};
+
+pub fn join(call: &Call) -> Result<String, Failure> {
+    let (left, right) = (
+        Task::read(&call.arguments[0])?,
+        Task::read(&call.arguments[1])?,
+    );
+    let image = library::join(&left.image, &right.image);
+    let image = image.map_err(|reply| refused(reply, &left, &right))?;
+    let names = left.names.join(&right.names);
+    let sets = match &call.arguments[2..] {
+        [first, second] => Some([Set::read(first, &left)?, Set::read(second, &right)?]),
+        _ => None,
+    };
+    let (only_task, only_clauses) = (call.has("--task"), call.has("--clauses"));
+    if only_clauses && (only_task || sets.is_none()) {
+        let text = "--clauses needs two clause sets, and no --task";
+        return Err(Failure::Usage(text.to_string()));
+    }
+    let mut text = String::new();
+    if !only_clauses {
+        text += &writer::write(&TaskSpec::of_image(&image), &names);
+    }
+    if let (Some(sets), false) = (sets, only_task) {
+        let shown = if call.has("--numbers") {
+            Names::default()
+        } else {
+            names.clone()
+        };
+        text += &union(&image, names, left.image[0], &sets)?.lines(&shown);
+    }
+    Ok(text)
+}
+
+/// The first's rows, and the second's behind the first's atoms; accepted.
+fn union(image: &[u16], names: Names, atoms: u16, sets: &[Set; 2]) -> Result<Set, Failure> {
+    let shift = |&word: &u16| {
+        if word == u16::MAX {
+            word
+        } else {
+            word + 2 * atoms
+        }
+    };
+    let rows = sets[0]
+        .rows
+        .iter()
+        .copied()
+        .chain(sets[1].rows.iter().map(shift));
+    let set = Set::of(rows.collect());
+    let joined = Task::of(image.to_vec(), names);
+    let checked = library::check(image, &set.rows);
+    checked.map_err(|reply| joined.refused_set(reply, &set))?;
+    Ok(set)
+}
+
+/// A refusal of one of the images, or by question 27.
+fn refused(reply: Reply, left: &Task, right: &Task) -> Failure {
+    if reply.number == 27 {
+        let sum = |place: usize| usize::from(left.image[place]) + usize::from(right.image[place]);
+        let words = left.image.len() + right.image.len() - 6;
+        let text = format!(
+            "27: the joined task would have {} atoms, {} operators and {words} words; 1024, 1024 and 8192 are the most",
+            sum(0),
+            sum(1)
+        );
+        return left.refused_as(reply, text);
+    }
+    let (which, task) = match library::read(&left.image) {
+        Err(_) => ("first", left),
+        Ok(()) => ("second", right),
+    };
+    let Failure::Refused(reply, mut words) = task.refused(reply) else {
+        unreachable!("a refusal")
+    };
+    words[0] += &format!(" (the {which} task)");
+    Failure::Refused(reply, words)
+}

@@ -1,0 +1,72 @@
+//! Clause sets, from lines or from DIMACS texts.
+
+use crate::library::{literals, WIDTH};
+use crate::task::Task;
+use crate::{input, library, Failure};
+use task_text::clauses::{self, ClauseFile};
+use task_text::Names;
+
+/// A set of right clause rows, and the lines that they came from.
+pub struct Set {
+    pub rows: Vec<u16>,
+    lines: Option<(String, ClauseFile)>,
+}
+
+impl Set {
+    /// The set of a file. The library makes the rows, also of lines: these are
+    /// handed to it as a DIMACS text.
+    pub fn read(file: &str, task: &Task) -> Result<Set, Failure> {
+        let bytes = input::bytes(file)?;
+        if clauses::is_dimacs(&bytes) {
+            let rows = library::read_dimacs(&task.image, &bytes);
+            let rows = rows.map_err(|reply| task.refused(reply))?;
+            return Ok(Set { rows, lines: None });
+        }
+        let text = input::text(file, bytes)?;
+        let atoms = task.atoms();
+        let lines = clauses::read(&text, &task.names, atoms)
+            .map_err(|mistake| input::failure(file, &mistake))?;
+        let rows = library::read_dimacs(&task.image, lines.dimacs(atoms).as_bytes());
+        let rows = rows.map_err(|reply| {
+            let Failure::Refused(reply, mut words) = task.refused(reply) else {
+                unreachable!("a refusal")
+            };
+            words.extend(lines.notes.iter().map(|note| input::located(file, note)));
+            Failure::Refused(reply, words)
+        })?;
+        let lines = Some((input::shown(file).to_string(), lines));
+        Ok(Set { rows, lines })
+    }
+
+    /// A set that the library has made.
+    pub fn of(rows: Vec<u16>) -> Set {
+        Set { rows, lines: None }
+    }
+
+    /// The literals of a clause.
+    pub fn clause(&self, number: usize) -> Option<&[u16]> {
+        self.rows.chunks_exact(WIDTH).nth(number).map(literals)
+    }
+
+    /// A clause by its number, with its literals.
+    pub fn describe(&self, number: usize, names: &Names) -> String {
+        let shown = names.show_literals(self.clause(number).unwrap_or(&[]));
+        format!("clause {number} ({shown})")
+    }
+
+    /// Where a clause stands in its file, behind a semicolon.
+    pub fn place(&self, number: usize) -> String {
+        let place = || {
+            let (file, lines) = self.lines.as_ref()?;
+            let line = lines.line_of(self.clause(number)?)?;
+            Some(format!("; it stands in {file}, line {line}"))
+        };
+        place().unwrap_or_default()
+    }
+
+    /// The clauses, a line each.
+    pub fn lines(&self, names: &Names) -> String {
+        let rows = self.rows.chunks_exact(WIDTH).map(literals);
+        rows.map(|row| names.show_literals(row) + "\n").collect()
+    }
+}
