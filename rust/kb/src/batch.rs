@@ -60,6 +60,7 @@ pub fn batch(call: &Call) -> Result<Output, Failure> {
     Ok(Output {
         text: table(&lines) + &summary(&lines, seconds),
         status: lines.iter().map(|line| line.status()).max().unwrap_or(0),
+        said: Vec::new(),
     })
 }
 
@@ -173,12 +174,7 @@ impl Line {
         match &self.made {
             Made::Card { .. } => None,
             Made::Refused(reply, words) => {
-                let Reply {
-                    number,
-                    first,
-                    second,
-                } = reply;
-                Some(format!("refused {number} {first} {second}: {words}"))
+                Some(format!("{}: {words}", refusal::line(*reply).trim_end()))
             }
             Made::Unreadable(text) => Some(format!("unreadable: {text}")),
         }

@@ -30,12 +30,14 @@ pub fn join(call: &Call) -> Result<String, Failure> {
         text += &writer::write(&TaskSpec::of_image(&image), &names);
     }
     if let (Some(sets), false) = (sets, only_task) {
-        let shown = if call.has("--numbers") {
-            Names::default()
-        } else {
-            names.clone()
+        let shown = match call.has("--numbers") {
+            true => Names::default(),
+            false => names.clone(),
         };
-        text += &union(&image, names, left.image[0], &sets)?.lines(&shown);
+        let union = union(&image, names, left.image[0], &sets)?;
+        let lines = union.lines(&shown);
+        let count = lines.lines().count();
+        text += &format!("# the union of both sets: {count} clauses, accepted\n{lines}");
     }
     Ok(text)
 }
@@ -77,9 +79,6 @@ fn refused(reply: Reply, left: &Task, right: &Task) -> Failure {
         Err(_) => ("first", left),
         Ok(()) => ("second", right),
     };
-    let Failure::Refused(reply, mut words) = task.refused(reply) else {
-        unreachable!("a refusal")
-    };
-    words[0] += &format!(" (the {which} task)");
-    Failure::Refused(reply, words)
+    let said = format!("this is said of the {which} task");
+    task.refused(reply).with([said].into_iter())
 }

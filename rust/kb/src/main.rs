@@ -34,44 +34,60 @@ enum Failure {
     Inner(String),
 }
 
-/// What is printed, and whether something in it was refused.
+impl Failure {
+    /// A refusal with more to say on standard error.
+    fn with(self, lines: impl Iterator<Item = String>) -> Failure {
+        match self {
+            Failure::Refused(reply, words) => {
+                Failure::Refused(reply, words.into_iter().chain(lines).collect())
+            }
+            other => other,
+        }
+    }
+}
+
+/// What is printed, the exit status, and what is said on standard error.
 struct Output {
     text: String,
     status: u8,
+    said: Vec<String>,
 }
 
 impl From<String> for Output {
     fn from(text: String) -> Output {
-        Output { text, status: 0 }
+        Output {
+            text,
+            status: 0,
+            said: Vec::new(),
+        }
     }
 }
 
 fn main() -> ExitCode {
     let words: Vec<String> = env::args().skip(1).collect();
     let output = Call::read(&words).and_then(|call| answer(&call));
-    let status = match output {
-        Ok(output) => print(&output.text).map(|()| output.status),
-        Err(Failure::Refused(reply, words)) => {
-            let Reply {
-                number,
-                first,
-                second,
-            } = reply;
-            let printed = print(&format!("refused {number} {first} {second}\n"));
-            words.iter().for_each(|line| eprintln!("{line}"));
-            printed.map(|()| 1)
-        }
-        Err(failure) => Err(failure),
-    };
-    ExitCode::from(status.unwrap_or_else(|failure| {
+    let printed = output.or_else(refused).and_then(print);
+    ExitCode::from(printed.unwrap_or_else(|failure| {
         let (text, status) = match failure {
             Failure::Usage(text) => (text, 2),
             Failure::Inner(text) => (text, 3),
-            Failure::Refused(..) => unreachable!("printed above"),
+            Failure::Refused(..) => unreachable!("printed as an output"),
         };
         eprintln!("kb: {text}");
         status
     }))
+}
+
+/// The output of a refusal.
+fn refused(failure: Failure) -> Result<Output, Failure> {
+    match failure {
+        Failure::Refused(reply, said) => Ok(Output {
+            text: refusal::line(reply),
+            status: 1,
+            said,
+        }),
+        other => Err(other),
+    }
 }
 
 fn answer(call: &Call) -> Result<Output, Failure> {
@@ -92,12 +108,14 @@ fn answer(call: &Call) -> Result<Output, Failure> {
     text.map(Output::from)
 }
 
-/// Prints a text; a reader that has gone away is no failure.
-fn print(text: &str) -> Result<(), Failure> {
-    match io::stdout().write_all(text.as_bytes()) {
+/// Prints an output, and gives its status; a reader that has gone away is no failure.
+fn print(output: Output) -> Result<u8, Failure> {
+    match io::stdout().write_all(output.text.as_bytes()) {
         Err(error) if error.kind() != ErrorKind::BrokenPipe => {
-            Err(Failure::Inner(format!("cannot write: {error}")))
+            return Err(Failure::Inner(format!("cannot write: {error}")));
         }
-        _ => Ok(()),
+        _ => {}
     }
+    output.said.iter().for_each(|line| eprintln!("{line}"));
+    Ok(output.status)
 }

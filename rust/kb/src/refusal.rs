@@ -37,6 +37,16 @@ const SAYS: [&str; 28] = [
     "the joined task passes 1024 atoms, 1024 operators or 8192 words",
 ];
 
+/// The line of a refusal.
+pub fn line(reply: Reply) -> String {
+    let Reply {
+        number,
+        first,
+        second,
+    } = reply;
+    format!("refused {number} {first} {second}\n")
+}
+
 /// A refusal of a call on a task and, where there is one, a clause set.
 pub fn words(reply: Reply, task: &Task, set: Option<&Set>) -> String {
     let place = |number: u64| number as usize;

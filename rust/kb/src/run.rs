@@ -3,7 +3,7 @@
 use crate::call::Call;
 use crate::set::Set;
 use crate::task::Task;
-use crate::{input, library, Failure, Output};
+use crate::{input, library, refusal, Failure, Output};
 use kulabismuth::Reply;
 use task_text::reencoded::Variables;
 use task_text::task::TaskSpec;
@@ -156,15 +156,11 @@ impl Run {
             return Ok(Output::from(self.text));
         };
         done(kulabismuth::task_initial(&self.task.image, &mut self.state))?;
-        let Reply {
-            number,
-            first,
-            second,
-        } = kulabismuth::task_run(&self.task.image, &mut self.state, list);
-        eprintln!("{words}");
+        let reply = kulabismuth::task_run(&self.task.image, &mut self.state, list);
         Ok(Output {
-            text: format!("{}refused {number} {first} {second}\n", self.text),
+            text: self.text + &refusal::line(reply),
             status: 1,
+            said: vec![words],
         })
     }
 }

@@ -6,10 +6,10 @@ use crate::{input, library, Failure};
 use task_text::clauses::{self, ClauseFile};
 use task_text::Names;
 
-/// A set of right clause rows, and the lines that they came from.
+/// A set of right clause rows, and the file and lines that they came from.
 pub struct Set {
     pub rows: Vec<u16>,
-    lines: Option<(String, ClauseFile)>,
+    source: Option<(String, ClauseFile)>,
 }
 
 impl Set {
@@ -17,30 +17,28 @@ impl Set {
     /// handed to it as a DIMACS text.
     pub fn read(file: &str, task: &Task) -> Result<Set, Failure> {
         let bytes = input::bytes(file)?;
-        if clauses::is_dimacs(&bytes) {
-            let rows = library::read_dimacs(&task.image, &bytes);
-            let rows = rows.map_err(|reply| task.refused(reply))?;
-            return Ok(Set { rows, lines: None });
-        }
-        let text = input::text(file, bytes)?;
-        let atoms = task.atoms();
-        let lines = clauses::read(&text, &task.names, atoms)
-            .map_err(|mistake| input::failure(file, &mistake))?;
-        let rows = library::read_dimacs(&task.image, lines.dimacs(atoms).as_bytes());
-        let rows = rows.map_err(|reply| {
-            let Failure::Refused(reply, mut words) = task.refused(reply) else {
-                unreachable!("a refusal")
-            };
-            words.extend(lines.notes.iter().map(|note| input::located(file, note)));
-            Failure::Refused(reply, words)
-        })?;
-        let lines = Some((input::shown(file).to_string(), lines));
-        Ok(Set { rows, lines })
+        let (rows, lines) = match clauses::is_dimacs(&bytes) {
+            true => {
+                let lines = clauses::of_dimacs(&String::from_utf8_lossy(&bytes));
+                (library::read_dimacs(&task.image, &bytes), lines)
+            }
+            false => {
+                let text = input::text(file, bytes)?;
+                let lines = clauses::read(&text, &task.names, task.atoms())
+                    .map_err(|mistake| input::failure(file, &mistake))?;
+                let text = lines.dimacs(task.atoms());
+                (library::read_dimacs(&task.image, text.as_bytes()), lines)
+            }
+        };
+        let notes = lines.notes.iter().map(|note| input::located(file, note));
+        let rows = rows.map_err(|reply| task.refused(reply).with(notes))?;
+        let source = Some((input::shown(file).to_string(), lines));
+        Ok(Set { rows, source })
     }
 
     /// A set that the library has made.
     pub fn of(rows: Vec<u16>) -> Set {
-        Set { rows, lines: None }
+        Set { rows, source: None }
     }
 
     /// The literals of a clause.
@@ -57,7 +55,7 @@ impl Set {
     /// Where a clause stands in its file, behind a semicolon.
     pub fn place(&self, number: usize) -> String {
         let place = || {
-            let (file, lines) = self.lines.as_ref()?;
+            let (file, lines) = self.source.as_ref()?;
             let line = lines.line_of(self.clause(number)?)?;
             Some(format!("; it stands in {file}, line {line}"))
         };

@@ -61,12 +61,9 @@ impl Task {
 
     /// A refusal with these words, and what looked wrong in the text.
     pub fn refused_as(&self, reply: Reply, words: String) -> Failure {
-        let notes = if reply.number <= 7 {
-            self.notes.clone()
-        } else {
-            Vec::new()
-        };
-        Failure::Refused(reply, [vec![words], notes].concat())
+        let of_image = reply.number <= 7;
+        let notes = self.notes.iter().filter(|_| of_image).cloned();
+        Failure::Refused(reply, vec![words]).with(notes)
     }
 
     /// An operator by its name or number.

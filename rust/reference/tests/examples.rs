@@ -5,7 +5,7 @@ mod common;
 use common::*;
 use inputs::structured;
 use inputs::task::OperatorSpec;
-use reference::synthesis::Finding;
+use reference::answer::Finding;
 use reference::{card, clause, closure, coding, fdr, groups, state, task};
 
 fn found(rows: usize, rounds: usize) -> Finding {

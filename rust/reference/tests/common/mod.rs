@@ -2,8 +2,9 @@
 #![allow(dead_code)]
 
 use inputs::task::{OperatorSpec, TaskSpec};
+use reference::answer::Finding;
 use reference::marks::MOST_MARK_BYTES;
-use reference::synthesis::{synthesize, Finding};
+use reference::synthesis::synthesize;
 use reference::{checker, kept, reencoding, Answer, Refusal};
 
 /// Document 01's ring, word for word.
