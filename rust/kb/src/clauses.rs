@@ -25,7 +25,7 @@ pub fn kept(call: &Call) -> Result<String, Failure> {
     let row = one_row(&call.arguments[2], &task, &set)?;
     let operator = task.operator(&call.arguments[3])?;
     let kept = library::kept(&task.image, &set.rows, &row, operator);
-    let kept = kept.map_err(|reply| task.refused_set(reply, &set))?;
+    let kept = kept.map_err(|reply| task.refused_operator(reply, &set, operator))?;
     Ok(if kept { "kept\n" } else { "not kept\n" }.to_string())
 }
 
@@ -47,7 +47,7 @@ pub fn closure(call: &Call) -> Result<String, Failure> {
     let (task, set) = task_and_set(call)?;
     let operator = task.operator(&call.arguments[2])?;
     let literals = library::closure(&task.image, &set.rows, operator);
-    let literals = literals.map_err(|reply| task.refused_set(reply, &set))?;
+    let literals = literals.map_err(|reply| task.refused_operator(reply, &set, operator))?;
     let names = task.shown(call);
     let clashing = literals
         .windows(2)

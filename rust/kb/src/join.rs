@@ -44,19 +44,12 @@ pub fn join(call: &Call) -> Result<String, Failure> {
 
 /// The first's rows, and the second's behind the first's atoms; accepted.
 fn union(image: &[u16], names: Names, atoms: u16, sets: &[Set; 2]) -> Result<Set, Failure> {
-    let shift = |&word: &u16| {
-        if word == u16::MAX {
-            word
-        } else {
-            word + 2 * atoms
-        }
+    let shift = |&word: &u16| match word {
+        library::FILL => word,
+        literal => literal + 2 * atoms,
     };
-    let rows = sets[0]
-        .rows
-        .iter()
-        .copied()
-        .chain(sets[1].rows.iter().map(shift));
-    let set = Set::of(rows.collect());
+    let second: Vec<u16> = sets[1].rows.iter().map(shift).collect();
+    let set = Set::of([&sets[0].rows[..], &second].concat());
     let joined = Task::of(image.to_vec(), names);
     let checked = library::check(image, &set.rows);
     checked.map_err(|reply| joined.refused_set(reply, &set))?;

@@ -1,18 +1,17 @@
 //! Calls of the proved library with rooms for the largest answers.
 
 use kulabismuth::Reply;
+pub use task_text::clauses::WIDTH;
 
-/// Words of a clause row.
-pub const WIDTH: usize = 3;
 /// Room for as many clause words, mark bytes and image words as a call can ask for.
-const CLAUSE_WORDS: usize = 30_000;
+const CLAUSE_WORDS: usize = 10_000 * WIDTH;
 const MARKS: usize = 256;
 const IMAGE_WORDS: usize = 32_768;
 /// A DIMACS text has no more bytes: the longest header, and 10,000 lines of
 /// three literals.
 const TEXT_BYTES: usize = 17 + 10_000 * 20;
 /// What fills a clause row behind its literals.
-const FILL: u16 = 65_535;
+pub const FILL: u16 = 65_535;
 
 /// The finding's first value.
 fn finding(reply: Reply) -> Result<usize, Reply> {

@@ -47,6 +47,14 @@ pub fn line(reply: Reply) -> String {
     format!("refused {number} {first} {second}\n")
 }
 
+/// What a refusal by question 19 says.
+pub fn no_operator(operator: u16, task: &Task) -> String {
+    format!(
+        "there is no operator {operator}; the task has {}, counted from 0",
+        task.image[1]
+    )
+}
+
 /// A refusal of a call on a task and, where there is one, a clause set.
 pub fn words(reply: Reply, task: &Task, set: Option<&Set>) -> String {
     let place = |number: u64| number as usize;
@@ -63,7 +71,6 @@ pub fn words(reply: Reply, task: &Task, set: Option<&Set>) -> String {
             let line = set.place(place(reply.first));
             format!("{clause} is not kept under operator {operator}{line}")
         }
-        (19, _) => format!("there is no such operator; the task has {}", task.image[1]),
         (number, _) => SAYS.get(number as usize).unwrap_or(&"").to_string(),
     };
     format!("{}: {text}", reply.number)

@@ -101,10 +101,8 @@ impl Run {
     fn why(&self, reply: Reply, number: usize, operator: u16) -> String {
         let Task { image, names, .. } = &self.task;
         if reply.number == 19 {
-            return format!(
-                "19: step {number}: there is no operator {operator}; the task has {}",
-                image[1]
-            );
+            let text = refusal::no_operator(operator, &self.task);
+            return format!("19: step {number}: {text}");
         }
         let precondition = &TaskSpec::of_image(image).operators[usize::from(operator)].precondition;
         let is_false =

@@ -4,7 +4,7 @@ use crate::library::{literals, WIDTH};
 use crate::task::Task;
 use crate::{input, library, Failure};
 use task_text::clauses::{self, ClauseFile};
-use task_text::Names;
+use task_text::{dimacs, Names};
 
 /// A set of right clause rows, and the file and lines that they came from.
 pub struct Set {
@@ -19,7 +19,7 @@ impl Set {
         let bytes = input::bytes(file)?;
         let (rows, lines) = match clauses::is_dimacs(&bytes) {
             true => {
-                let lines = clauses::of_dimacs(&String::from_utf8_lossy(&bytes));
+                let lines = dimacs::look(&String::from_utf8_lossy(&bytes), task.atoms());
                 (library::read_dimacs(&task.image, &bytes), lines)
             }
             false => {
@@ -30,7 +30,8 @@ impl Set {
                 (library::read_dimacs(&task.image, text.as_bytes()), lines)
             }
         };
-        let notes = lines.notes.iter().map(|note| input::located(file, note));
+        let notes = lines.first_notes().iter();
+        let notes = notes.map(|note| input::located(file, note));
         let rows = rows.map_err(|reply| task.refused(reply).with(notes))?;
         let source = Some((input::shown(file).to_string(), lines));
         Ok(Set { rows, source })

@@ -59,6 +59,17 @@ impl Task {
         self.refused_as(reply, refusal::words(reply, self, Some(set)))
     }
 
+    /// A refusal of a call on this task, a clause set and an operator.
+    pub fn refused_operator(&self, reply: Reply, set: &Set, operator: u16) -> Failure {
+        match reply.number {
+            19 => self.refused_as(
+                reply,
+                format!("19: {}", refusal::no_operator(operator, self)),
+            ),
+            _ => self.refused_set(reply, set),
+        }
+    }
+
     /// A refusal with these words, and what looked wrong in the text.
     pub fn refused_as(&self, reply: Reply, words: String) -> Failure {
         let of_image = reply.number <= 7;

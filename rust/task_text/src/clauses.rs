@@ -5,6 +5,9 @@
 use crate::token::{lines, Mistake, Token};
 use crate::Names;
 
+/// Literals of a clause at the most.
+pub const WIDTH: usize = 3;
+
 /// A clause, and the line in which it ends.
 #[derive(Clone, PartialEq, Eq, Debug)]
 pub struct Clause {
@@ -25,28 +28,6 @@ pub fn is_dimacs(text: &[u8]) -> bool {
     let word = begins.split(|byte| byte.is_ascii_whitespace()).next();
     matches!(word, Some(b"p" | b"c"))
         || begins.starts_with(b"c") && !begins.starts_with(b"clauses ")
-}
-
-/// The clauses of a DIMACS text that the library has read, with their lines.
-pub fn of_dimacs(text: &str) -> ClauseFile {
-    let lines = text.lines().enumerate();
-    let lines = lines.skip_while(|(_, line)| line.starts_with('c'));
-    let words =
-        lines.flat_map(|(number, line)| line.split(' ').map(move |word| (number + 1, word)));
-    // Behind "p", "cnf", N and the number of clauses stand literals.
-    let words = words.filter(|(_, word)| !word.is_empty()).skip(4);
-    let mut file = ClauseFile::default();
-    let mut literals: Vec<u16> = Vec::new();
-    for (line, word) in words {
-        let variable = word.trim_start_matches('-').parse().unwrap_or(0u16);
-        if variable == 0 {
-            let literals = std::mem::take(&mut literals);
-            file.clauses.push(Clause { line, literals });
-        } else {
-            literals.push(2 * (variable - 1) + u16::from(word.starts_with('-')));
-        }
-    }
-    file
 }
 
 /// The clauses of lines.
@@ -110,11 +91,20 @@ impl ClauseFile {
                 self.notes
                     .push(token.mistake("its atom stands in this clause already"));
             }
+            if literals.len() == WIDTH {
+                let text = format!("more than {WIDTH} literals in a clause");
+                self.notes.push(token.mistake(text));
+            }
             literals.push(found);
         }
         let line = tokens[0].line;
         self.clauses.push(Clause { line, literals });
         Ok(())
+    }
+
+    /// As many notes as are worth reading at once.
+    pub fn first_notes(&self) -> &[Mistake] {
+        &self.notes[..self.notes.len().min(5)]
     }
 
     /// The first line that has these literals, in whatever order.
@@ -197,22 +187,16 @@ mod tests {
 
     #[test]
     fn notes() {
-        let file = read("+a -a\n+7\n", &names(), 3).expect("the proved library refuses it");
+        let file =
+            read("+a -a\n+7\n-a -b -c -2\n", &names(), 3).expect("the proved library refuses it");
         let notes: Vec<String> = file.notes.iter().map(Mistake::to_string).collect();
         let expected = [
             "1:4: its atom stands in this clause already",
             "2:1: atom 7 is not below the number of atoms, 3",
+            "3:10: its atom stands in this clause already",
+            "3:10: more than 3 literals in a clause",
         ];
         assert_eq!(notes, expected);
-    }
-
-    #[test]
-    fn lines_of_a_dimacs_text() {
-        let text = "c 7 0\np cnf 3\n2\n-1  -2 0\n3\n 1 0\n";
-        let file = of_dimacs(text);
-        assert_eq!(file.line_of(&[1, 3]), Some(4));
-        assert_eq!(file.line_of(&[0, 4]), Some(6));
-        assert_eq!(file.clauses.len(), 2);
     }
 
     #[test]

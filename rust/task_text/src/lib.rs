@@ -3,6 +3,7 @@
 //! sorted, and what comes of it is asked by the proved library.
 
 pub mod clauses;
+pub mod dimacs;
 pub mod list;
 pub mod names;
 pub mod reader;
