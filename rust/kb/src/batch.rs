@@ -49,13 +49,18 @@ pub fn batch(call: &Call) -> Result<Output, Failure> {
         Some(jobs) => card::number("--jobs", jobs)?.max(1).into(),
         None => thread::available_parallelism().map_or(1, usize::from),
     };
+    // A file that cannot be written is told before the work is done.
+    let failed = |error| Failure::Usage(format!("cannot write the CSV file: {error}"));
+    let file = call
+        .option("--csv")
+        .map(fs::File::create)
+        .transpose()
+        .map_err(failed)?;
     let started = Instant::now();
     let lines = all_lines(folder, &files, &asked, jobs);
     let seconds = started.elapsed().as_secs_f64();
-    if let Some(file) = call.option("--csv") {
-        let text = csv(&lines);
-        fs::write(file, text)
-            .map_err(|error| Failure::Usage(format!("cannot write {file}: {error}")))?;
+    if let Some(mut file) = file {
+        file.write_all(csv(&lines).as_bytes()).map_err(failed)?;
     }
     Ok(Output {
         text: table(&lines) + &summary(&lines, seconds),
@@ -169,6 +174,18 @@ impl Line {
         }
     }
 
+    /// The numbers of rows, rounds and groups of a card.
+    fn counts(&self) -> [String; 3] {
+        match self.made {
+            Made::Card {
+                rows,
+                rounds,
+                groups,
+            } => [rows.to_string(), rounds.to_string(), groups.to_string()],
+            _ => Default::default(),
+        }
+    }
+
     /// The refusal, or why there is none.
     fn failure(&self) -> Option<String> {
         match &self.made {
@@ -183,35 +200,23 @@ impl Line {
 
 /// The lines under a heading, in columns.
 fn table(lines: &[Line]) -> String {
-    let width = lines
-        .iter()
-        .map(|line| line.name.chars().count())
-        .max()
-        .unwrap_or(0)
-        .max(4);
-    let mut text = format!(
-        "{:width$} {:>6} {:>9} {:>6} {:>6} {:>6} {:>8}\n",
-        "task", "atoms", "operators", "rows", "rounds", "groups", "seconds"
-    );
+    let lengths = lines.iter().map(|line| line.name.chars().count());
+    let width = lengths.max().unwrap_or(0).max("task".len());
+    let row = |name: &str, sizes: [&str; 2], rest: &str| {
+        let [atoms, operators] = sizes;
+        format!("{name:width$} {atoms:>6} {operators:>9} {rest}\n")
+    };
+    let columns = |counts: &[String; 3], seconds: &str| {
+        let [rows, rounds, groups] = counts;
+        format!("{rows:>6} {rounds:>6} {groups:>6} {seconds:>8}")
+    };
+    let heading = columns(&["rows", "rounds", "groups"].map(str::to_string), "seconds");
+    let mut text = row("task", ["atoms", "operators"], &heading);
     for line in lines {
-        let Line {
-            name,
-            atoms,
-            operators,
-            seconds,
-            ..
-        } = line;
-        text += &format!("{name:width$} {atoms:>6} {operators:>9} ");
-        text += &match &line.made {
-            Made::Card {
-                rows,
-                rounds,
-                groups,
-            } => {
-                format!("{rows:>6} {rounds:>6} {groups:>6} {seconds:>8.3}\n")
-            }
-            _ => line.failure().unwrap_or_default() + "\n",
-        };
+        let made = || columns(&line.counts(), &format!("{:.3}", line.seconds));
+        let sizes = [line.atoms.to_string(), line.operators.to_string()];
+        let rest = line.failure().unwrap_or_else(made);
+        text += &row(&line.name, [&sizes[0], &sizes[1]], &rest);
     }
     text
 }
@@ -228,25 +233,14 @@ fn summary(lines: &[Line], seconds: f64) -> String {
 fn csv(lines: &[Line]) -> String {
     let mut text = "task,atoms,operators,rows,rounds,groups,seconds,refusal\n".to_string();
     for line in lines {
-        let Line {
-            name,
-            atoms,
-            operators,
-            seconds,
-            ..
-        } = line;
-        let numbers = match &line.made {
-            Made::Card {
-                rows,
-                rounds,
-                groups,
-            } => format!("{rows},{rounds},{groups}"),
-            _ => ",,".to_string(),
-        };
         let failure = quoted(&line.failure().unwrap_or_default());
         text += &format!(
-            "{},{atoms},{operators},{numbers},{seconds:.6},{failure}\n",
-            quoted(name)
+            "{},{},{},{},{:.6},{failure}\n",
+            quoted(&line.name),
+            line.atoms,
+            line.operators,
+            line.counts().join(","),
+            line.seconds
         );
     }
     text
