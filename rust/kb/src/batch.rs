@@ -49,24 +49,43 @@ pub fn batch(call: &Call) -> Result<Output, Failure> {
         Some(jobs) => card::number("--jobs", jobs)?.max(1).into(),
         None => thread::available_parallelism().map_or(1, usize::from),
     };
-    // A file that cannot be written is told before the work is done.
-    let failed = |error| Failure::Usage(format!("cannot write the CSV file: {error}"));
-    let file = call
-        .option("--csv")
-        .map(fs::File::create)
-        .transpose()
-        .map_err(failed)?;
+    let csv_file = call.option("--csv").map(CsvFile::open).transpose()?;
     let started = Instant::now();
     let lines = all_lines(folder, &files, &asked, jobs);
     let seconds = started.elapsed().as_secs_f64();
-    if let Some(mut file) = file {
-        file.write_all(csv(&lines).as_bytes()).map_err(failed)?;
+    if let Some(file) = csv_file {
+        file.write(&csv(&lines))?;
     }
     Ok(Output {
         text: table(&lines) + &summary(&lines, seconds),
         status: lines.iter().map(|line| line.status()).max().unwrap_or(0),
         said: Vec::new(),
     })
+}
+
+/// A file that was found to be writable before the work began.
+struct CsvFile<'a> {
+    name: &'a str,
+    file: fs::File,
+}
+
+impl CsvFile<'_> {
+    fn open(name: &str) -> Result<CsvFile<'_>, Failure> {
+        let opened = fs::File::options().create(true).append(true).open(name);
+        let file = opened.map_err(|error| CsvFile::failure(name, error))?;
+        Ok(CsvFile { name, file })
+    }
+
+    /// Writes the text in the place of what the file holds.
+    fn write(mut self, text: &str) -> Result<(), Failure> {
+        let emptied = self.file.set_len(0);
+        let written = emptied.and_then(|()| self.file.write_all(text.as_bytes()));
+        written.map_err(|error| CsvFile::failure(self.name, error))
+    }
+
+    fn failure(name: &str, error: io::Error) -> Failure {
+        Failure::Usage(format!("cannot write {name}: {error}"))
+    }
 }
 
 /// The names of the tasks of a folder, in order.
@@ -161,7 +180,13 @@ fn made(task: &Task, asked: &Asked) -> Made {
             groups,
         })
     });
-    made.unwrap_or_else(|reply| Made::Refused(reply, refusal::words(reply, task, None)))
+    made.unwrap_or_else(|reply| {
+        let words = match reply.number {
+            15 => format!("15: {}", limit::advice(task.atoms(), asked.n, limit)),
+            _ => refusal::words(reply, task, None),
+        };
+        Made::Refused(reply, words)
+    })
 }
 
 impl Line {

@@ -4,7 +4,7 @@ use crate::call::Call;
 use crate::progress::Progress;
 use crate::set::Set;
 use crate::task::Task;
-use crate::{library, limit, program, Failure};
+use crate::{library, limit, program, say, Failure};
 use kulabismuth::Reply;
 use task_text::{parse_word, reencoded, Names};
 
@@ -24,7 +24,7 @@ impl Asked {
         let task = Task::read(file)?;
         let (limit, said) = limit::read(limit, task.atoms(), n)?;
         if let Some(said) = said {
-            eprintln!("kb: {said}");
+            say(&format!("kb: {said}"));
         }
         Ok(Asked { n, limit, task })
     }

@@ -4,7 +4,7 @@ use crate::call::Call;
 use crate::set::Set;
 use crate::task::Task;
 use crate::{card, input, library, Failure};
-use task_text::clauses::{clause, dimacs_line};
+use task_text::clauses;
 
 /// The task and the set of a call's first two arguments.
 fn task_and_set(call: &Call) -> Result<(Task, Set), Failure> {
@@ -31,16 +31,21 @@ pub fn kept(call: &Call) -> Result<String, Failure> {
 
 /// The row of a clause that is written out, or of a clause of the set by its number.
 fn one_row(text: &str, task: &Task, set: &Set) -> Result<Vec<u16>, Failure> {
-    let wrong = |text: String| Failure::Usage(format!("CLAUSE: {text}"));
-    let literals = match task_text::parse_word(text) {
-        Some(number) => match set.clause(number.into()) {
-            Some(literals) => literals.to_vec(),
-            None => return Err(wrong(format!("there is no clause {number} in the set"))),
-        },
-        None => clause(text, &task.names).map_err(wrong)?,
-    };
-    let line = format!("p cnf {} 1\n{}", task.atoms(), dimacs_line(&literals));
-    library::read_dimacs(&task.image, line.as_bytes()).map_err(|reply| task.refused(reply))
+    let wrong = |text: &str| Failure::Usage(format!("CLAUSE: {text}"));
+    if !text.is_empty() && text.bytes().all(|byte| byte.is_ascii_digit()) {
+        let row = text.parse().ok().and_then(|number| set.row(number));
+        return row.ok_or_else(|| wrong(&format!("there is no clause {text} in the set")));
+    }
+    let file = clauses::read(text, &task.names, task.atoms());
+    let file = file.map_err(|mistake| wrong(&mistake.text))?;
+    if file.clauses.len() != 1 {
+        return Err(wrong("one clause is expected"));
+    }
+    let notes = file
+        .notes
+        .iter()
+        .map(|note| format!("CLAUSE: {}", note.text));
+    Set::of_lines(&file, task).map_err(|failure| failure.with(notes))
 }
 
 pub fn closure(call: &Call) -> Result<String, Failure> {

@@ -14,7 +14,13 @@ pub fn bytes(file: &str) -> Result<Vec<u8>, Failure> {
         }
         _ => fs::read(file),
     };
-    read.map_err(|error| Failure::Usage(format!("cannot read {}: {error}", shown(file))))
+    let read =
+        read.map_err(|error| Failure::Usage(format!("cannot read {}: {error}", shown(file))));
+    // A byte order mark is no part of a text.
+    read.map(|bytes| match bytes.strip_prefix(&[0xef, 0xbb, 0xbf]) {
+        Some(rest) => rest.to_vec(),
+        None => bytes,
+    })
 }
 
 /// The bytes as a text.

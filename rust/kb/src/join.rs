@@ -3,7 +3,7 @@
 use crate::call::Call;
 use crate::set::Set;
 use crate::task::Task;
-use crate::{library, Failure};
+use crate::{library, refusal, Failure};
 use kulabismuth::Reply;
 use task_text::task::TaskSpec;
 use task_text::{writer, Names};
@@ -35,8 +35,7 @@ pub fn join(call: &Call) -> Result<String, Failure> {
             false => names.clone(),
         };
         let union = union(&image, names, left.image[0], &sets)?;
-        let lines = union.lines(&shown);
-        let count = lines.lines().count();
+        let (count, lines) = (union.count(), union.lines(&shown));
         text += &format!("# the union of both sets: {count} clauses, accepted\n{lines}");
     }
     Ok(text)
@@ -52,7 +51,16 @@ fn union(image: &[u16], names: Names, atoms: u16, sets: &[Set; 2]) -> Result<Set
     let set = Set::of([&sets[0].rows[..], &second].concat());
     let joined = Task::of(image.to_vec(), names);
     let checked = library::check(image, &set.rows);
-    checked.map_err(|reply| joined.refused_set(reply, &set))?;
+    checked.map_err(|reply| {
+        let (clause, firsts) = (reply.first as usize, sets[0].count());
+        let place = match reply.number {
+            10 | 11 if clause < firsts => sets[0].place(clause),
+            10 | 11 => sets[1].place(clause - firsts),
+            _ => String::new(),
+        };
+        let words = refusal::words(reply, &joined, Some(&set));
+        joined.refused_as(reply, words + &place)
+    })?;
     Ok(set)
 }
 

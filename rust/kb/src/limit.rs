@@ -1,5 +1,6 @@
 //! Round limits: which one always suffices (docs/ROUNDS.md).
 
+use crate::library::WIDTH;
 use crate::Failure;
 
 /// The highest limit that question 12 admits.
@@ -23,6 +24,9 @@ pub fn read(argument: &str, atoms: u16, n: u16) -> Result<(u16, Option<String>),
         let wrong = || format!("LIMIT: '{argument}' is not a number from 0 to 65535, or 'enough'");
         let limit = task_text::parse_word(argument);
         return Ok((limit.ok_or_else(|| Failure::Usage(wrong()))?, None));
+    }
+    if n == 0 || usize::from(n) > WIDTH {
+        return Ok((HIGHEST as u16, None)); // question 12 refuses N
     }
     let bound = bound(atoms, n);
     let text = if bound <= HIGHEST {
@@ -57,6 +61,13 @@ mod tests {
         let said = |atoms| read("enough", atoms, 3).expect("it is a limit").1;
         assert!(said(37).is_some_and(|text| text.starts_with("limit 64899: proved to suffice")));
         assert!(said(38).is_some_and(|text| text.starts_with("limit 65535, the highest")));
+    }
+
+    #[test]
+    fn nothing_is_said_of_a_wrong_n() {
+        for n in [0, 4] {
+            assert!(read("enough", 3, n).is_ok_and(|(_, said)| said.is_none()));
+        }
     }
 
     #[test]

@@ -20,6 +20,7 @@ mod task;
 use call::Call;
 use kulabismuth::Reply;
 use std::env;
+use std::ffi::OsString;
 use std::io::{self, ErrorKind, Write};
 use std::process::ExitCode;
 
@@ -64,8 +65,7 @@ impl From<String> for Output {
 }
 
 fn main() -> ExitCode {
-    let words: Vec<String> = env::args().skip(1).collect();
-    let output = Call::read(&words).and_then(|call| answer(&call));
+    let output = arguments().and_then(|words| answer(&Call::read(&words)?));
     let printed = output.or_else(refused).and_then(print);
     ExitCode::from(printed.unwrap_or_else(|failure| {
         let (text, status) = match failure {
@@ -73,9 +73,23 @@ fn main() -> ExitCode {
             Failure::Inner(text) => (text, 3),
             Failure::Refused(..) => unreachable!("printed as an output"),
         };
-        eprintln!("kb: {text}");
+        say(&format!("kb: {text}"));
         status
     }))
+}
+
+/// The arguments, which must be texts.
+fn arguments() -> Result<Vec<String>, Failure> {
+    let text = |word: OsString| {
+        let wrong = |word: OsString| Failure::Usage(format!("the argument {word:?} is not a text"));
+        word.into_string().map_err(wrong)
+    };
+    env::args_os().skip(1).map(text).collect()
+}
+
+/// Says something on standard error, if somebody listens.
+fn say(line: &str) {
+    let _ = writeln!(io::stderr(), "{line}");
 }
 
 /// The output of a refusal.
@@ -116,6 +130,6 @@ fn print(output: Output) -> Result<u8, Failure> {
         }
         _ => {}
     }
-    output.said.iter().for_each(|line| eprintln!("{line}"));
+    output.said.iter().for_each(|line| say(line));
     Ok(output.status)
 }

@@ -1,5 +1,6 @@
 //! Says on standard error that a long synthesis is still going on.
 
+use crate::say;
 use std::sync::mpsc::{self, RecvTimeoutError, Sender};
 use std::thread;
 use std::time::{Duration, Instant};
@@ -20,7 +21,10 @@ impl Progress {
         thread::spawn(move || {
             let mut wait = FIRST;
             while receiver.recv_timeout(wait) == Err(RecvTimeoutError::Timeout) {
-                eprintln!("kb: {text}: {} s so far", started.elapsed().as_secs());
+                say(&format!(
+                    "kb: {text}: {} s so far",
+                    started.elapsed().as_secs()
+                ));
                 wait = NEXT;
             }
         });

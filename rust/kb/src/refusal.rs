@@ -55,6 +55,15 @@ pub fn no_operator(operator: u16, task: &Task) -> String {
     )
 }
 
+/// A refusal of clauses that were given with signs and atoms. The text that is
+/// made of them has the right form and header.
+pub fn of_lines(reply: Reply, task: &Task) -> String {
+    match reply.number {
+        24 => "24: an atom that the task does not have".to_string(),
+        _ => words(reply, task, None),
+    }
+}
+
 /// A refusal of a call on a task and, where there is one, a clause set.
 pub fn words(reply: Reply, task: &Task, set: Option<&Set>) -> String {
     let place = |number: u64| number as usize;

@@ -1,8 +1,8 @@
 //! Clause sets, from lines or from DIMACS texts.
 
 use crate::library::{literals, WIDTH};
-use crate::task::Task;
-use crate::{input, library, Failure};
+use crate::task::{Task, MOST_NOTES};
+use crate::{input, library, refusal, Failure};
 use task_text::clauses::{self, ClauseFile};
 use task_text::{dimacs, Names};
 
@@ -17,24 +17,30 @@ impl Set {
     /// handed to it as a DIMACS text.
     pub fn read(file: &str, task: &Task) -> Result<Set, Failure> {
         let bytes = input::bytes(file)?;
-        let (rows, lines) = match clauses::is_dimacs(&bytes) {
+        let (read, lines) = match clauses::is_dimacs(&bytes) {
             true => {
                 let lines = dimacs::look(&String::from_utf8_lossy(&bytes), task.atoms());
-                (library::read_dimacs(&task.image, &bytes), lines)
+                let read = library::read_dimacs(&task.image, &bytes);
+                (read.map_err(|reply| task.refused(reply)), lines)
             }
             false => {
                 let text = input::text(file, bytes)?;
                 let lines = clauses::read(&text, &task.names, task.atoms())
                     .map_err(|mistake| input::failure(file, &mistake))?;
-                let text = lines.dimacs(task.atoms());
-                (library::read_dimacs(&task.image, text.as_bytes()), lines)
+                (Set::of_lines(&lines, task), lines)
             }
         };
-        let notes = lines.first_notes().iter();
+        let notes = lines.notes.iter().take(MOST_NOTES);
         let notes = notes.map(|note| input::located(file, note));
-        let rows = rows.map_err(|reply| task.refused(reply).with(notes))?;
+        let rows = read.map_err(|failure| failure.with(notes))?;
         let source = Some((input::shown(file).to_string(), lines));
         Ok(Set { rows, source })
+    }
+
+    /// The rows of lines.
+    pub fn of_lines(lines: &ClauseFile, task: &Task) -> Result<Vec<u16>, Failure> {
+        let read = library::read_dimacs(&task.image, lines.dimacs(task.atoms()).as_bytes());
+        read.map_err(|reply| task.refused_as(reply, refusal::of_lines(reply, task)))
     }
 
     /// A set that the library has made.
@@ -42,9 +48,21 @@ impl Set {
         Set { rows, source: None }
     }
 
+    /// The row of a clause.
+    pub fn row(&self, number: usize) -> Option<Vec<u16>> {
+        self.rows
+            .chunks_exact(WIDTH)
+            .nth(number)
+            .map(<[u16]>::to_vec)
+    }
+
     /// The literals of a clause.
-    pub fn clause(&self, number: usize) -> Option<&[u16]> {
+    fn clause(&self, number: usize) -> Option<&[u16]> {
         self.rows.chunks_exact(WIDTH).nth(number).map(literals)
+    }
+
+    pub fn count(&self) -> usize {
+        self.rows.len() / WIDTH
     }
 
     /// A clause by its number, with its literals.

@@ -7,6 +7,9 @@ use kulabismuth::Reply;
 use task_text::task::TaskSpec;
 use task_text::{words, writer, Names};
 
+/// As many notes as are worth reading at once.
+pub const MOST_NOTES: usize = 5;
+
 /// A task as its file has it.
 pub struct Task {
     pub image: Vec<u16>,
@@ -19,7 +22,8 @@ impl Task {
     pub fn read(file: &str) -> Result<Task, Failure> {
         let text = input::text(file, input::bytes(file)?)?;
         let read = task_text::read_task(&text).map_err(|mistake| input::failure(file, &mistake))?;
-        let notes = read.notes.iter().map(|note| input::located(file, note));
+        let notes = read.notes.iter().take(MOST_NOTES);
+        let notes = notes.map(|note| input::located(file, note));
         Ok(Task {
             image: read.image,
             names: read.names,

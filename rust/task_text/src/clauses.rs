@@ -22,12 +22,10 @@ pub struct ClauseFile {
     pub notes: Vec<Mistake>,
 }
 
-/// Whether a text is meant as DIMACS: it begins with a comment or the header.
+/// Whether a text is meant as DIMACS: a line begins with the header's word.
 pub fn is_dimacs(text: &[u8]) -> bool {
-    let begins = text.trim_ascii_start();
-    let word = begins.split(|byte| byte.is_ascii_whitespace()).next();
-    matches!(word, Some(b"p" | b"c"))
-        || begins.starts_with(b"c") && !begins.starts_with(b"clauses ")
+    let mut lines = text.split(|&byte| byte == b'\n');
+    lines.any(|line| line.split(u8::is_ascii_whitespace).next() == Some(b"p"))
 }
 
 /// The clauses of lines.
@@ -68,13 +66,6 @@ pub fn literal(text: &str, names: &Names) -> Result<u16, String> {
     names.literal(text)
 }
 
-/// The literals of a clause in one argument.
-pub fn clause(text: &str, names: &Names) -> Result<Vec<u16>, String> {
-    text.split_whitespace()
-        .map(|word| literal(word, names))
-        .collect()
-}
-
 impl ClauseFile {
     fn clause(&mut self, tokens: &[Token], names: &Names, atoms: u16) -> Result<(), Mistake> {
         let mut literals: Vec<u16> = Vec::new();
@@ -102,11 +93,6 @@ impl ClauseFile {
         Ok(())
     }
 
-    /// As many notes as are worth reading at once.
-    pub fn first_notes(&self) -> &[Mistake] {
-        &self.notes[..self.notes.len().min(5)]
-    }
-
     /// The first line that has these literals, in whatever order.
     pub fn line_of(&self, literals: &[u16]) -> Option<usize> {
         let same = |clause: &&Clause| {
@@ -128,7 +114,7 @@ impl ClauseFile {
 }
 
 /// A clause as a line of a DIMACS text.
-pub fn dimacs_line(literals: &[u16]) -> String {
+fn dimacs_line(literals: &[u16]) -> String {
     let mut text = String::new();
     for literal in literals {
         let sign = if literal % 2 == 0 { "" } else { "-" };
@@ -204,13 +190,21 @@ mod tests {
         for text in [
             "p cnf 3 0\n",
             "c by the maker\np cnf 3 0\n",
-            "\np cnf 3 0\n",
-            "comment\n",
+            "\np\tcnf 3 0\n",
+            "# x\r\np cnf 3 0\r\n",
             "p",
         ] {
             assert!(is_dimacs(text.as_bytes()), "{text}");
         }
-        for text in ["-0 -1\n", "# p cnf\n", "clauses 0 rounds 1\n", "", "+c\n"] {
+        for text in [
+            "-0 -1\n",
+            "# p cnf\n",
+            "clauses 0 rounds 1\n",
+            "",
+            "+c\n",
+            "case-home\n",
+            "c no header\n",
+        ] {
             assert!(!is_dimacs(text.as_bytes()), "{text}");
         }
     }

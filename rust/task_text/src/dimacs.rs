@@ -21,7 +21,7 @@ pub fn look(text: &str, atoms: u16) -> ClauseFile {
         }
         [first, ..] => looker.note(
             first,
-            "the header 'p cnf', N, and the number of clauses are expected here",
+            "the header 'p cnf', N, and the number of clauses are expected here; comments begin with 'c'",
         ),
         [] => {}
     }
@@ -65,7 +65,11 @@ impl<'a> Looker<'a> {
         if n.text != self.atoms.to_string() {
             self.note(
                 n,
-                format!("N is {}, and the task has {} atoms", n.text, self.atoms),
+                format!(
+                    "N is {}, and the task has {} atoms",
+                    n.text.escape_debug(),
+                    self.atoms
+                ),
             );
         }
     }
@@ -94,7 +98,10 @@ impl<'a> Looker<'a> {
                 );
                 self.note(token, text);
             }
-            None => self.note(token, format!("'{}' is not a literal", token.text)),
+            None => self.note(
+                token,
+                format!("'{}' is not a literal", token.text.escape_debug()),
+            ),
         }
     }
 
@@ -106,7 +113,10 @@ impl<'a> Looker<'a> {
         if count.text != found.to_string() {
             self.note(
                 count,
-                format!("{} clauses are stated, {found} follow", count.text),
+                format!(
+                    "{} clauses are stated, {found} follow",
+                    count.text.escape_debug()
+                ),
             );
         }
     }
@@ -161,6 +171,7 @@ mod tests {
             ("p cnf 4 0\n", "1:7: N is 4, and the task has 3 atoms"),
             ("p cnf 3 2\n1 0\n", "1:9: 2 clauses are stated, 1 follow"),
             ("p cnf 3 1\n1 x 0\n", "2:3: 'x' is not a literal"),
+            ("p cnf 3 1\n1 0\r\n", "2:3: '0\\r' is not a literal"),
             ("p cnf 3 1\n1 01 0\n", "2:3: '01' is not a literal"),
             (
                 "p cnf 3 1\n1  4 0\n",

@@ -17,6 +17,9 @@ pub fn fault(name: &str) -> Option<String> {
     if !begins {
         return Some(format!("'{name}' does not begin with a letter or '_'"));
     }
+    if name.contains(char::is_control) {
+        return Some(format!("'{}' has a control character", name.escape_debug()));
+    }
     RESERVED
         .contains(&name)
         .then(|| format!("'{name}' is a keyword"))
@@ -89,12 +92,13 @@ impl NameList {
 
     /// The names of both, those that both have with a prefix.
     pub fn join(&self, other: &NameList) -> NameList {
-        let taken = |name: &str| self.find(name).is_some() || other.find(name).is_some();
         let mut joined = NameList::default();
         for (list, with, prefix) in [(self, other, "left."), (other, self, "right.")] {
             for name in &list.names {
                 let unique = name.as_ref().map(|name| {
                     let mut unique = name.clone();
+                    let lists = [self, other, &joined];
+                    let taken = |name: &str| lists.iter().any(|list| list.find(name).is_some());
                     while with.find(name).is_some() && taken(&unique) {
                         unique = format!("{prefix}{unique}");
                     }
@@ -200,6 +204,25 @@ mod tests {
             "right.b",
         ];
         assert_eq!(shown, expected);
+    }
+
+    #[test]
+    fn names_that_look_prefixed_stay_apart() {
+        let names = list(&["x", "left.x"]);
+        let joined = names.join(&names);
+        let shown: Vec<String> = (0..4).map(|number| joined.show(number)).collect();
+        let expected = ["left.left.x", "left.left.left.x", "right.x", "right.left.x"];
+        assert_eq!(shown, expected);
+    }
+
+    #[test]
+    fn faults() {
+        for name in ["-a", "1a", "", "goal", "a\u{1b}b"] {
+            assert!(fault(name).is_some(), "{name}");
+        }
+        assert!(["a", "_", "at(x,y)", "goals"]
+            .iter()
+            .all(|name| fault(name).is_none()));
     }
 
     #[test]

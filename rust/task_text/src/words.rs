@@ -46,11 +46,11 @@ fn names(text: &str, image: &[u16]) -> Result<Names, Mistake> {
         let Some((list, thing, name)) = named(line, &mut names) else {
             continue;
         };
-        if thing < list.len() && !list.set(thing, name) {
+        if thing < list.len() && (list.name(thing).is_some() || !list.set(thing, name)) {
             return Err(Mistake {
                 line: number + 1,
                 column: 1,
-                text: format!("the name '{name}' is given twice"),
+                text: format!("the name '{name}', or another for the same number, is given above"),
             });
         }
     }
@@ -62,7 +62,7 @@ fn named<'a, 'b>(
     line: &'a str,
     names: &'b mut Names,
 ) -> Option<(&'b mut NameList, usize, &'a str)> {
-    let (thing, name) = line.strip_prefix("# ")?.split_once(": ")?;
+    let (thing, name) = line.trim_end().strip_prefix("# ")?.split_once(": ")?;
     let (kind, number) = thing.split_once(' ')?;
     let list = match kind {
         "atom" => &mut names.atoms,
@@ -154,7 +154,9 @@ mod tests {
             names.operators.show(0),
         ];
         assert_eq!(shown, ["0", "b", "go"]);
-        let twice = image_of("2 0\n# atom 0: b\n# atom 1: b\n");
-        assert_eq!(twice, Err("3:1: the name 'b' is given twice".to_string()));
+        for second in ["# atom 1: b", "# atom 0: c"] {
+            let twice = image_of(&format!("2 0\n# atom 0: b \n{second}\n"));
+            assert!(twice.is_err_and(|text| text.starts_with("3:1: the name")));
+        }
     }
 }
