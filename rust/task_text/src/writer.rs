@@ -120,7 +120,18 @@ mod tests {
 
     #[test]
     fn written_as_read() {
-        let text = "atoms a 2 b 1\ninitial a 4\ngoal -1 b\noperator move\n  pre a -b\n  del a\n  when 2 -4 add b 1 del 2\n  add a a\n  when 2 add a\noperator # 1\n";
+        let text = "\
+atoms a 2 b 1
+initial a 4
+goal -1 b
+operator move
+  pre a -b
+  del a
+  when 2 -4 add b 1 del 2
+  add a a
+  when 2 add a
+operator # 1
+";
         assert_eq!(again(text), text);
         let empty = "atoms 3\ninitial\ngoal\n";
         assert_eq!(again(empty), empty);
