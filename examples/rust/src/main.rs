@@ -2,7 +2,7 @@
 //! mutex groups), then checks two proposed clause sets given as DIMACS CNF
 //! texts. `examples/c/card.c` does the same and prints the same text.
 
-use kulabismuth::Reply;
+use kulabismuth::Answer;
 use std::process::ExitCode;
 
 /// A token goes round three places; atom a says that it is at place a.
@@ -24,19 +24,6 @@ const FILL: u16 = 65535;
 /// A bit for each literal.
 const MARK_BYTES: usize = ATOMS.div_ceil(4);
 
-/// The finding, or the refusal as the error.
-fn found(reply: Reply) -> Result<Reply, Reply> {
-    if reply.number == 0 {
-        Ok(reply)
-    } else {
-        Err(reply)
-    }
-}
-
-fn refusal_text(reply: Reply) -> String {
-    format!("refused {} {} {}", reply.number, reply.first, reply.second)
-}
-
 /// The literals of a row, each as its sign and atom.
 fn row_text(row: &[u16]) -> String {
     let literals = row.iter().take_while(|&&literal| literal != FILL);
@@ -56,27 +43,22 @@ fn group_text(groups: &[u16], variables: usize, variable: usize) -> String {
 }
 
 /// Finds the clauses and the mutex groups, and prints them.
-fn make_card() -> Result<(), Reply> {
+fn make_card() -> Answer<()> {
     let mut clauses = [0; CLAUSE_WORDS];
     let mut work = [0; CLAUSE_WORDS];
     let mut marks = [0; MARK_BYTES];
-    let made = found(kulabismuth::synthesize(
-        &RING,
-        LITERALS,
-        ROUNDS,
-        &mut clauses,
-        &mut work,
-        &mut marks,
-    ))?;
-    println!("clauses {} rounds {}", made.first, made.second);
-    let rows = &clauses[..ROW_WORDS * made.first as usize];
+    let reply =
+        kulabismuth::synthesize(&RING, LITERALS, ROUNDS, &mut clauses, &mut work, &mut marks);
+    let (count, rounds) = reply.answer()?;
+    println!("clauses {count} rounds {rounds}");
+    let rows = &clauses[..ROW_WORDS * count as usize];
     for row in rows.chunks(ROW_WORDS) {
         println!("{}", row_text(row));
     }
     let mut groups = [0; 4 * ATOMS];
-    let reply = found(kulabismuth::groups(&RING, rows, &mut marks, &mut groups))?;
-    println!("groups {}", reply.first);
-    let variables = reply.first as usize;
+    let reply = kulabismuth::groups(&RING, rows, &mut marks, &mut groups);
+    let variables = reply.answer()?.0 as usize;
+    println!("groups {variables}");
     for variable in 0..variables {
         println!("{}", group_text(&groups, variables, variable));
     }
@@ -84,20 +66,17 @@ fn make_card() -> Result<(), Reply> {
 }
 
 /// Reads a proposed set and prints what the checker says of it.
-fn check_proposal(text: &str) -> Result<(), Reply> {
+fn check_proposal(text: &str) -> Answer<()> {
     let mut clauses = [0; CLAUSE_WORDS];
     let mut marks = [0; MARK_BYTES];
-    let read = found(kulabismuth::read_dimacs(
-        &RING,
-        text.as_bytes(),
-        &mut clauses,
-    ))?;
-    let rows = &clauses[..ROW_WORDS * read.first as usize];
-    let said = match found(kulabismuth::check(&RING, rows, &mut marks)) {
+    let reply = kulabismuth::read_dimacs(&RING, text.as_bytes(), &mut clauses);
+    let (count, _) = reply.answer()?;
+    let rows = &clauses[..ROW_WORDS * count as usize];
+    let said = match kulabismuth::check(&RING, rows, &mut marks).answer() {
         Ok(_) => "accepted".to_string(),
-        Err(refusal) => refusal_text(refusal),
+        Err(refusal) => refusal.to_string(),
     };
-    println!("proposed clauses {}: {said}", read.first);
+    println!("proposed clauses {count}: {said}");
     Ok(())
 }
 
@@ -106,7 +85,7 @@ fn main() -> ExitCode {
     match make_card().and_then(|()| checked()) {
         Ok(()) => ExitCode::SUCCESS,
         Err(refusal) => {
-            println!("{}", refusal_text(refusal));
+            println!("{refusal}");
             ExitCode::FAILURE
         }
     }

@@ -61,6 +61,23 @@ impl Reply {
         }
     }
 
+    /// The finding's values, or the refusal.
+    pub fn answer(self) -> Answer<(u64, u64)> {
+        let Reply {
+            number,
+            first,
+            second,
+        } = self;
+        match number {
+            0 => Ok((first, second)),
+            _ => Err(Refusal {
+                number,
+                first,
+                second,
+            }),
+        }
+    }
+
     /// The reply of the reference, its finding turned into two values.
     fn of<T>(answer: Answer<T>, values: impl Fn(T) -> (u64, u64)) -> Reply {
         match answer.map(values) {

@@ -3,7 +3,7 @@
 use crate::call::Call;
 use crate::task::Task;
 use crate::{card, library, limit, refusal, Failure, Output};
-use kulabismuth::Reply;
+use kulabismuth::Refusal;
 use std::fs;
 use std::io::{self, IsTerminal, Write};
 use std::path::Path;
@@ -27,7 +27,7 @@ enum Made {
         rounds: u64,
         groups: usize,
     },
-    Refused(Reply, String),
+    Refused(Refusal, String),
     Unreadable(String),
 }
 
@@ -152,7 +152,7 @@ fn line(folder: &Path, name: &str, asked: &Asked) -> Line {
     let path = folder.join(name).to_string_lossy().into_owned();
     let (atoms, operators, made) = match Task::read(&path) {
         Err(Failure::Usage(text) | Failure::Inner(text)) => (0, 0, Made::Unreadable(text)),
-        Err(Failure::Refused(reply, words)) => (0, 0, Made::Refused(reply, words.concat())),
+        Err(Failure::Refused(refusal, words)) => (0, 0, Made::Refused(refusal, words.concat())),
         Ok(task) => {
             let operators = task.image.get(1).copied().unwrap_or(0);
             (task.atoms(), operators, made(&task, asked))
@@ -180,12 +180,9 @@ fn made(task: &Task, asked: &Asked) -> Made {
             groups,
         })
     });
-    made.unwrap_or_else(|reply| {
-        let words = match reply.number {
-            15 => format!("15: {}", limit::advice(task.atoms(), asked.n, limit)),
-            _ => refusal::words(reply, task, None),
-        };
-        Made::Refused(reply, words)
+    made.unwrap_or_else(|refusal| {
+        let words = refusal::of_synthesis(refusal, task, asked.n, limit);
+        Made::Refused(refusal, words)
     })
 }
 
@@ -215,9 +212,7 @@ impl Line {
     fn failure(&self) -> Option<String> {
         match &self.made {
             Made::Card { .. } => None,
-            Made::Refused(reply, words) => {
-                Some(format!("{}: {words}", refusal::line(*reply).trim_end()))
-            }
+            Made::Refused(refusal, words) => Some(format!("{refusal}: {words}")),
             Made::Unreadable(text) => Some(format!("unreadable: {text}")),
         }
     }
@@ -303,12 +298,12 @@ mod tests {
             rounds: 2,
             groups: 3,
         });
-        let reply = Reply {
+        let refusal = Refusal {
             number: 7,
             first: 1,
             second: 0,
         };
-        let refused = line(Made::Refused(reply, "7: x, y".into()));
+        let refused = line(Made::Refused(refusal, "7: x, y".into()));
         assert_eq!((card.status(), refused.status()), (0, 1));
         let expected = "task,atoms,operators,rows,rounds,groups,seconds,refusal\nt,1,0,1,2,3,0.500000,\nt,1,0,,,,0.500000,\"refused 7 1 0: 7: x, y\"\n";
         assert_eq!(csv(&[card, refused]), expected);

@@ -4,8 +4,8 @@ use crate::call::Call;
 use crate::progress::Progress;
 use crate::set::Set;
 use crate::task::Task;
-use crate::{library, limit, program, say, Failure};
-use kulabismuth::Reply;
+use crate::{library, limit, program, refusal, say, Failure};
+use kulabismuth::Refusal;
 use task_text::{parse_word, reencoded, Names};
 
 /// What a synthesis is asked: N, LIMIT and TASK of a call.
@@ -30,25 +30,17 @@ impl Asked {
     }
 
     /// A refusal of the synthesis.
-    fn refused(&self, reply: Reply) -> Failure {
-        let Asked { n, limit, task } = self;
-        match reply.number {
-            12 => task.refused_as(
-                reply,
-                format!("12: N is 1 to 3, LIMIT 1 to 65535; given are {n} and {limit}"),
-            ),
-            15 => task.refused_as(
-                reply,
-                format!("15: {}", limit::advice(task.atoms(), *n, *limit)),
-            ),
-            _ => task.refused(reply),
-        }
+    fn refused(&self, refusal: Refusal) -> Failure {
+        let words = refusal::of_synthesis(refusal, &self.task, self.n, self.limit);
+        self.task.refused_as(refusal, words)
     }
 
     /// The set that synthesis finds.
     fn find(&self) -> Result<Set, Failure> {
         let found = library::synthesize(&self.task.image, self.n, self.limit);
-        Ok(Set::of(found.map_err(|reply| self.refused(reply))?.rows))
+        Ok(Set::of(
+            found.map_err(|refusal| self.refused(refusal))?.rows,
+        ))
     }
 }
 
@@ -69,19 +61,15 @@ pub fn find(call: &Call) -> Result<(Task, Set), Failure> {
 /// The card, by the card program, and at the same time the image, by the library.
 pub fn card(call: &Call) -> Result<String, Failure> {
     let asked = Asked::read(call)?;
-    let (card, image) = (!call.has("--image"), !call.has("--card"));
-    if !card && !image {
-        return Err(Failure::Usage(
-            "--card and --image exclude each other".to_string(),
-        ));
-    }
+    let card = call.has("--card") || !call.has("--image");
+    let image = call.has("--image") || !call.has("--card");
     let task = &asked.task;
     let _progress = Progress::start(asked.n, &task.image);
     let program = program::start(asked.n, asked.limit, &task.image)?;
     let reencoded = image.then(|| reencode_found(&asked));
     let printed = program::finish(program)?;
-    if let Some(reply) = refusal(&printed) {
-        return Err(asked.refused(reply));
+    if let Some(refusal) = refused_card(&printed) {
+        return Err(asked.refused(refusal));
     }
     let names = task.shown(call);
     let mut text = if card {
@@ -99,14 +87,14 @@ pub fn card(call: &Call) -> Result<String, Failure> {
 fn reencode_found(asked: &Asked) -> Result<Vec<u16>, Failure> {
     let set = asked.find()?;
     let image = library::reencode(&asked.task.image, &set.rows);
-    image.map_err(|reply| asked.task.refused_set(reply, &set))
+    image.map_err(|refusal| asked.task.refused_set(refusal, &set))
 }
 
 /// The refusal that a card is, if it is one.
-fn refusal(card: &str) -> Option<Reply> {
+fn refused_card(card: &str) -> Option<Refusal> {
     let mut fields = card.strip_prefix("refused ")?.split_whitespace();
     let mut place = || fields.next()?.parse().ok();
-    Some(Reply {
+    Some(Refusal {
         number: place()? as u32,
         first: place()?,
         second: place()?,
@@ -151,7 +139,7 @@ pub fn reencode(call: &Call) -> Result<String, Failure> {
     let task = Task::read(&call.arguments[0])?;
     let set = Set::read(&call.arguments[1], &task)?;
     let image = library::reencode(&task.image, &set.rows);
-    let image = image.map_err(|reply| task.refused_set(reply, &set))?;
+    let image = image.map_err(|refusal| task.refused_set(refusal, &set))?;
     Ok(image_text(&image, &task.shown(call)))
 }
 
@@ -173,12 +161,12 @@ mod tests {
 
     #[test]
     fn refused_cards() {
-        let reply = Reply {
+        let refusal = Refusal {
             number: 7,
             first: 1,
             second: 0,
         };
-        assert_eq!(refusal("refused 7 1 0\n"), Some(reply));
-        assert_eq!(refusal("clauses 0 rounds 1\n"), None);
+        assert_eq!(refused_card("refused 7 1 0\n"), Some(refusal));
+        assert_eq!(refused_card("clauses 0 rounds 1\n"), None);
     }
 }

@@ -16,7 +16,7 @@ fn task_and_set(call: &Call) -> Result<(Task, Set), Failure> {
 pub fn check(call: &Call) -> Result<String, Failure> {
     let (task, set) = task_and_set(call)?;
     let answer = library::check(&task.image, &set.rows);
-    answer.map_err(|reply| task.refused_set(reply, &set))?;
+    answer.map_err(|refusal| task.refused_set(refusal, &set))?;
     Ok("accepted\n".to_string())
 }
 
@@ -25,7 +25,7 @@ pub fn kept(call: &Call) -> Result<String, Failure> {
     let row = one_row(&call.arguments[2], &task, &set)?;
     let operator = task.operator(&call.arguments[3])?;
     let kept = library::kept(&task.image, &set.rows, &row, operator);
-    let kept = kept.map_err(|reply| task.refused_operator(reply, &set, operator))?;
+    let kept = kept.map_err(|refusal| task.refused_operator(refusal, &set, operator))?;
     Ok(if kept { "kept\n" } else { "not kept\n" }.to_string())
 }
 
@@ -52,7 +52,7 @@ pub fn closure(call: &Call) -> Result<String, Failure> {
     let (task, set) = task_and_set(call)?;
     let operator = task.operator(&call.arguments[2])?;
     let literals = library::closure(&task.image, &set.rows, operator);
-    let literals = literals.map_err(|reply| task.refused_operator(reply, &set, operator))?;
+    let literals = literals.map_err(|refusal| task.refused_operator(refusal, &set, operator))?;
     let names = task.shown(call);
     let clashing = literals
         .windows(2)
@@ -77,6 +77,6 @@ pub fn dimacs(call: &Call) -> Result<String, Failure> {
         _ => card::find(call)?,
     };
     let text = library::write_dimacs(&task.image, &set.rows);
-    let text = text.map_err(|reply| task.refused_set(reply, &set))?;
+    let text = text.map_err(|refusal| task.refused_set(refusal, &set))?;
     input::text("the library's text", text)
 }

@@ -1,16 +1,16 @@
 //! Says of an image that questions 1 to 7 refuse what is wrong with it. The
 //! refusal is the library's; this only looks for the place.
 
-use kulabismuth::Reply;
+use kulabismuth::Refusal;
 use task_text::task::parts;
 use task_text::Names;
 
 const MOST: u16 = 1024;
 
 /// What a refusal by questions 1 to 7 says.
-pub fn describe(reply: Reply, image: &[u16], names: &Names) -> String {
-    let operator = reply.first as usize;
-    match reply.number {
+pub fn describe(refusal: Refusal, image: &[u16], names: &Names) -> String {
+    let operator = refusal.first as usize;
+    match refusal.number {
         1 => format!("the image has {} words; 6 to 8192 are read", image.len()),
         2 => numbers(image),
         3 => format!("the directory is not right: {}", directory(image)),
@@ -142,11 +142,13 @@ mod tests {
     fn said(changes: &[(usize, u16)]) -> String {
         let mut image = RING.to_vec();
         changes.iter().for_each(|&(at, word)| image[at] = word);
-        let reply = kulabismuth::read(&image);
+        let refusal = kulabismuth::read(&image)
+            .answer()
+            .expect_err("it is refused");
         format!(
             "{}: {}",
-            reply.number,
-            describe(reply, &image, &Names::default())
+            refusal.number,
+            describe(refusal, &image, &Names::default())
         )
     }
 
@@ -188,8 +190,9 @@ mod tests {
             let found = said(changes);
             assert!(found.starts_with(expected), "{found}");
         }
-        let reply = kulabismuth::read(&RING[..5]);
-        let found = describe(reply, &RING[..5], &Names::default());
+        let refusal = kulabismuth::read(&RING[..5]).answer();
+        let refusal = refusal.expect_err("it is refused");
+        let found = describe(refusal, &RING[..5], &Names::default());
         assert_eq!(found, "the image has 5 words; 6 to 8192 are read");
     }
 

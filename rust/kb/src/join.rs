@@ -4,7 +4,7 @@ use crate::call::Call;
 use crate::set::Set;
 use crate::task::Task;
 use crate::{library, refusal, Failure};
-use kulabismuth::Reply;
+use kulabismuth::Refusal;
 use task_text::task::TaskSpec;
 use task_text::{writer, Names};
 
@@ -14,22 +14,18 @@ pub fn join(call: &Call) -> Result<String, Failure> {
         Task::read(&call.arguments[1])?,
     );
     let image = library::join(&left.image, &right.image);
-    let image = image.map_err(|reply| refused(reply, &left, &right))?;
+    let image = image.map_err(|refusal| refused(refusal, &left, &right))?;
     let names = left.names.join(&right.names);
     let sets = match &call.arguments[2..] {
         [first, second] => Some([Set::read(first, &left)?, Set::read(second, &right)?]),
         _ => None,
     };
-    let (only_task, only_clauses) = (call.has("--task"), call.has("--clauses"));
-    if only_clauses && (only_task || sets.is_none()) {
-        let text = "--clauses needs two clause sets, and no --task";
-        return Err(Failure::Usage(text.to_string()));
-    }
     let mut text = String::new();
-    if !only_clauses {
+    if call.has("--task") || !call.has("--clauses") {
         text += &writer::write(&TaskSpec::of_image(&image), &names);
     }
-    if let (Some(sets), false) = (sets, only_task) {
+    let union_asked = call.has("--clauses") || !call.has("--task");
+    if let Some(sets) = sets.filter(|_| union_asked) {
         let shown = match call.has("--numbers") {
             true => Names::default(),
             false => names.clone(),
@@ -51,22 +47,22 @@ fn union(image: &[u16], names: Names, atoms: u16, sets: &[Set; 2]) -> Result<Set
     let set = Set::of([&sets[0].rows[..], &second].concat());
     let joined = Task::of(image.to_vec(), names);
     let checked = library::check(image, &set.rows);
-    checked.map_err(|reply| {
-        let (clause, firsts) = (reply.first as usize, sets[0].count());
-        let place = match reply.number {
+    checked.map_err(|refusal| {
+        let (clause, firsts) = (refusal.first as usize, sets[0].count());
+        let place = match refusal.number {
             10 | 11 if clause < firsts => sets[0].place(clause),
             10 | 11 => sets[1].place(clause - firsts),
             _ => String::new(),
         };
-        let words = refusal::words(reply, &joined, Some(&set));
-        joined.refused_as(reply, words + &place)
+        let words = refusal::words(refusal, &joined, Some(&set));
+        joined.refused_as(refusal, words + &place)
     })?;
     Ok(set)
 }
 
 /// A refusal of one of the images, or by question 27.
-fn refused(reply: Reply, left: &Task, right: &Task) -> Failure {
-    if reply.number == 27 {
+fn refused(refusal: Refusal, left: &Task, right: &Task) -> Failure {
+    if refusal.number == 27 {
         let sum = |place: usize| usize::from(left.image[place]) + usize::from(right.image[place]);
         let words = left.image.len() + right.image.len() - 6;
         let text = format!(
@@ -74,12 +70,12 @@ fn refused(reply: Reply, left: &Task, right: &Task) -> Failure {
             sum(0),
             sum(1)
         );
-        return left.refused_as(reply, text);
+        return left.refused_as(refusal, text);
     }
     let (which, task) = match library::read(&left.image) {
         Err(_) => ("first", left),
         Ok(()) => ("second", right),
     };
     let said = format!("this is said of the {which} task");
-    task.refused(reply).with([said].into_iter())
+    task.refused(refusal).with([said].into_iter())
 }

@@ -1,6 +1,6 @@
 //! Calls of the proved library with rooms for the largest answers.
 
-use kulabismuth::Reply;
+use kulabismuth::{Answer, Reply};
 pub use task_text::clauses::WIDTH;
 
 /// Room for as many clause words, mark bytes and image words as a call can ask for.
@@ -14,11 +14,8 @@ const TEXT_BYTES: usize = 17 + 10_000 * 20;
 pub const FILL: u16 = 65_535;
 
 /// The finding's first value.
-fn finding(reply: Reply) -> Result<usize, Reply> {
-    match reply.number {
-        0 => Ok(reply.first as usize),
-        _ => Err(reply),
-    }
+fn finding(reply: Reply) -> Answer<usize> {
+    reply.answer().map(|(first, _)| first as usize)
 }
 
 /// The clauses that a synthesis finds, and its rounds.
@@ -27,11 +24,11 @@ pub struct Found {
     pub rounds: u64,
 }
 
-pub fn read(image: &[u16]) -> Result<(), Reply> {
+pub fn read(image: &[u16]) -> Answer<()> {
     finding(kulabismuth::read(image)).map(|_| ())
 }
 
-pub fn synthesize(image: &[u16], n: u16, limit: u16) -> Result<Found, Reply> {
+pub fn synthesize(image: &[u16], n: u16, limit: u16) -> Answer<Found> {
     let (mut rows, mut work) = (vec![0; CLAUSE_WORDS], vec![0; CLAUSE_WORDS]);
     let reply = kulabismuth::synthesize(image, n, limit, &mut rows, &mut work, &mut [0; MARKS]);
     rows.truncate(WIDTH * finding(reply)?);
@@ -41,17 +38,17 @@ pub fn synthesize(image: &[u16], n: u16, limit: u16) -> Result<Found, Reply> {
     })
 }
 
-pub fn check(image: &[u16], rows: &[u16]) -> Result<(), Reply> {
+pub fn check(image: &[u16], rows: &[u16]) -> Answer<()> {
     finding(kulabismuth::check(image, rows, &mut [0; MARKS])).map(|_| ())
 }
 
-pub fn kept(image: &[u16], rows: &[u16], clause: &[u16], operator: u16) -> Result<bool, Reply> {
+pub fn kept(image: &[u16], rows: &[u16], clause: &[u16], operator: u16) -> Answer<bool> {
     let reply = kulabismuth::kept(image, rows, clause, operator, &mut [0; MARKS]);
     finding(reply).map(|kept| kept == 1)
 }
 
 /// The number of groups.
-pub fn groups(image: &[u16], rows: &[u16]) -> Result<usize, Reply> {
+pub fn groups(image: &[u16], rows: &[u16]) -> Answer<usize> {
     let mut target = vec![0; IMAGE_WORDS];
     finding(kulabismuth::groups(
         image,
@@ -62,7 +59,7 @@ pub fn groups(image: &[u16], rows: &[u16]) -> Result<usize, Reply> {
 }
 
 /// The re-encoded image.
-pub fn reencode(image: &[u16], rows: &[u16]) -> Result<Vec<u16>, Reply> {
+pub fn reencode(image: &[u16], rows: &[u16]) -> Answer<Vec<u16>> {
     let mut target = vec![0; IMAGE_WORDS];
     let reply = kulabismuth::reencode(image, rows, &mut [0; MARKS], &mut target);
     target.truncate(finding(reply)?);
@@ -70,7 +67,7 @@ pub fn reencode(image: &[u16], rows: &[u16]) -> Result<Vec<u16>, Reply> {
 }
 
 /// The literals of the closure of the clauses and an operator's precondition.
-pub fn closure(image: &[u16], rows: &[u16], operator: u16) -> Result<Vec<u16>, Reply> {
+pub fn closure(image: &[u16], rows: &[u16], operator: u16) -> Answer<Vec<u16>> {
     let mut marks = [0; MARKS];
     finding(kulabismuth::closure(image, rows, operator, &mut marks))?;
     let marked = |&literal: &u16| marks[usize::from(literal / 8)] >> (literal % 8) & 1 == 1;
@@ -78,21 +75,21 @@ pub fn closure(image: &[u16], rows: &[u16], operator: u16) -> Result<Vec<u16>, R
 }
 
 /// The joined image.
-pub fn join(left: &[u16], right: &[u16]) -> Result<Vec<u16>, Reply> {
+pub fn join(left: &[u16], right: &[u16]) -> Answer<Vec<u16>> {
     let mut target = vec![0; IMAGE_WORDS];
     let reply = kulabismuth::join(left, right, &mut target);
     target.truncate(finding(reply)?);
     Ok(target)
 }
 
-pub fn read_dimacs(image: &[u16], text: &[u8]) -> Result<Vec<u16>, Reply> {
+pub fn read_dimacs(image: &[u16], text: &[u8]) -> Answer<Vec<u16>> {
     let mut rows = vec![0; CLAUSE_WORDS];
     let reply = kulabismuth::read_dimacs(image, text, &mut rows);
     rows.truncate(WIDTH * finding(reply)?);
     Ok(rows)
 }
 
-pub fn write_dimacs(image: &[u16], rows: &[u16]) -> Result<Vec<u8>, Reply> {
+pub fn write_dimacs(image: &[u16], rows: &[u16]) -> Answer<Vec<u8>> {
     let mut text = vec![0; TEXT_BYTES];
     let reply = kulabismuth::write_dimacs(image, rows, &mut text);
     text.truncate(finding(reply)?);
@@ -100,7 +97,7 @@ pub fn write_dimacs(image: &[u16], rows: &[u16]) -> Result<Vec<u8>, Reply> {
 }
 
 /// Whether task and re-encoding agree along a list.
-pub fn agree(image: &[u16], rows: &[u16], list: &[u16]) -> Result<bool, Reply> {
+pub fn agree(image: &[u16], rows: &[u16], list: &[u16]) -> Answer<bool> {
     let reply = kulabismuth::agree(image, rows, list, &mut [0; MARKS]);
     finding(reply).map(|alike| alike == 1)
 }

@@ -64,6 +64,14 @@ mod tests {
     }
 
     #[test]
+    fn closed_forms() {
+        for (atoms, n) in (0..=1024).flat_map(|atoms| [1, 2, 3].map(|n| (atoms, n))) {
+            let counted = reference::round_bound::round_bound(atoms.into(), n.into());
+            assert_eq!(bound(atoms, n), counted, "{atoms} atoms, {n} literals");
+        }
+    }
+
+    #[test]
     fn nothing_is_said_of_a_wrong_n() {
         for n in [0, 4] {
             assert!(read("enough", 3, n).is_ok_and(|(_, said)| said.is_none()));

@@ -18,7 +18,7 @@ mod set;
 mod task;
 
 use call::Call;
-use kulabismuth::Reply;
+use kulabismuth::Refusal;
 use std::env;
 use std::ffi::OsString;
 use std::io::{self, ErrorKind, Write};
@@ -30,7 +30,7 @@ enum Failure {
     /// The arguments or a file: exit status 2.
     Usage(String),
     /// The library refused, with what it says in words: exit status 1.
-    Refused(Reply, Vec<String>),
+    Refused(Refusal, Vec<String>),
     /// The card program or the library did not do what it is made for: 3.
     Inner(String),
 }
@@ -39,8 +39,8 @@ impl Failure {
     /// A refusal with more to say on standard error.
     fn with(self, lines: impl Iterator<Item = String>) -> Failure {
         match self {
-            Failure::Refused(reply, words) => {
-                Failure::Refused(reply, words.into_iter().chain(lines).collect())
+            Failure::Refused(refusal, words) => {
+                Failure::Refused(refusal, words.into_iter().chain(lines).collect())
             }
             other => other,
         }
@@ -95,8 +95,8 @@ fn say(line: &str) {
 /// The output of a refusal.
 fn refused(failure: Failure) -> Result<Output, Failure> {
     match failure {
-        Failure::Refused(reply, said) => Ok(Output {
-            text: refusal::line(reply),
+        Failure::Refused(refusal, said) => Ok(Output {
+            text: format!("{refusal}\n"),
             status: 1,
             said,
         }),

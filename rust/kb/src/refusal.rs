@@ -1,9 +1,10 @@
 //! Refusals in words, with the things that they name.
 
-use crate::image_fault;
+use crate::library::WIDTH;
 use crate::set::Set;
 use crate::task::Task;
-use kulabismuth::Reply;
+use crate::{image_fault, limit};
+use kulabismuth::Refusal;
 
 /// What each question's "no" says, by its number.
 const SAYS: [&str; 28] = [
@@ -37,16 +38,6 @@ const SAYS: [&str; 28] = [
     "the joined task passes 1024 atoms, 1024 operators or 8192 words",
 ];
 
-/// The line of a refusal.
-pub fn line(reply: Reply) -> String {
-    let Reply {
-        number,
-        first,
-        second,
-    } = reply;
-    format!("refused {number} {first} {second}\n")
-}
-
 /// What a refusal by question 19 says.
 pub fn no_operator(operator: u16, task: &Task) -> String {
     format!(
@@ -55,32 +46,41 @@ pub fn no_operator(operator: u16, task: &Task) -> String {
     )
 }
 
+/// A refusal of a synthesis.
+pub fn of_synthesis(refusal: Refusal, task: &Task, n: u16, limit: u16) -> String {
+    match refusal.number {
+        12 => format!("12: N is 1 to {WIDTH}, LIMIT 1 to 65535; given are {n} and {limit}"),
+        15 => format!("15: {}", limit::advice(task.atoms(), n, limit)),
+        _ => words(refusal, task, None),
+    }
+}
+
 /// A refusal of clauses that were given with signs and atoms. The text that is
 /// made of them has the right form and header.
-pub fn of_lines(reply: Reply, task: &Task) -> String {
-    match reply.number {
+pub fn of_lines(refusal: Refusal, task: &Task) -> String {
+    match refusal.number {
         24 => "24: an atom that the task does not have".to_string(),
-        _ => words(reply, task, None),
+        _ => words(refusal, task, None),
     }
 }
 
 /// A refusal of a call on a task and, where there is one, a clause set.
-pub fn words(reply: Reply, task: &Task, set: Option<&Set>) -> String {
+pub fn words(refusal: Refusal, task: &Task, set: Option<&Set>) -> String {
     let place = |number: u64| number as usize;
-    let text = match (reply.number, set) {
-        (1..=7, _) => image_fault::describe(reply, &task.image, &task.names),
+    let text = match (refusal.number, set) {
+        (1..=7, _) => image_fault::describe(refusal, &task.image, &task.names),
         (10, Some(set)) => {
-            let clause = set.describe(place(reply.first), &task.names);
-            let line = set.place(place(reply.first));
+            let clause = set.describe(place(refusal.first), &task.names);
+            let line = set.place(place(refusal.first));
             format!("{clause} is false initially{line}")
         }
         (11, Some(set)) => {
-            let clause = set.describe(place(reply.first), &task.names);
-            let operator = task.names.operators.describe(place(reply.second));
-            let line = set.place(place(reply.first));
+            let clause = set.describe(place(refusal.first), &task.names);
+            let operator = task.names.operators.describe(place(refusal.second));
+            let line = set.place(place(refusal.first));
             format!("{clause} is not kept under operator {operator}{line}")
         }
         (number, _) => SAYS.get(number as usize).unwrap_or(&"").to_string(),
     };
-    format!("{}: {text}", reply.number)
+    format!("{}: {text}", refusal.number)
 }

@@ -4,7 +4,7 @@ use crate::call::Call;
 use crate::set::Set;
 use crate::task::Task;
 use crate::{input, library, refusal, Failure, Output};
-use kulabismuth::Reply;
+use kulabismuth::{Refusal, Reply};
 use task_text::reencoded::Variables;
 use task_text::task::TaskSpec;
 use task_text::{list, Names};
@@ -20,7 +20,7 @@ impl Beside {
     fn start(file: &str, task: &Task) -> Result<Beside, Failure> {
         let set = Set::read(file, task)?;
         let image = library::reencode(&task.image, &set.rows);
-        let image = image.map_err(|reply| task.refused_set(reply, &set))?;
+        let image = image.map_err(|refusal| task.refused_set(refusal, &set))?;
         let mut state = vec![0; image[0].into()];
         done(kulabismuth::fdr_initial(&image, &mut state))?;
         Ok(Beside { set, image, state })
@@ -29,17 +29,15 @@ impl Beside {
 
 /// The library has answered all that this call asks for this image.
 fn done(reply: Reply) -> Result<u64, Failure> {
-    match reply.number {
-        0 => Ok(reply.first),
-        number => Err(Failure::Inner(format!("refused {number} unexpectedly"))),
-    }
+    let answer = reply.answer().map(|(first, _)| first);
+    answer.map_err(|refusal| Failure::Inner(format!("unexpectedly {refusal}")))
 }
 
 pub fn run(call: &Call) -> Result<Output, Failure> {
     let task = Task::read(&call.arguments[0])?;
     let file = &call.arguments[1];
     let text = input::text(file, input::bytes(file)?)?;
-    library::read(&task.image).map_err(|reply| task.refused(reply))?;
+    library::read(&task.image).map_err(|refusal| task.refused(refusal))?;
     let list = list::read(&text, &task.names).map_err(|mistake| input::failure(file, &mistake))?;
     let beside = call.option("--both").map(|file| Beside::start(file, &task));
     let run = Run {
@@ -89,18 +87,18 @@ impl Run {
             }
         }
         let name = self.names.operators.show(operator.into());
-        if reply.number == 0 {
+        let Err(refusal) = reply.answer() else {
             self.show(format!("step {number} {name}"));
             return Ok(None);
-        }
+        };
         self.text += &format!("step {number} {name}: refused\n");
-        Ok(Some(self.why(reply, number, operator)))
+        Ok(Some(self.why(refusal, number, operator)))
     }
 
     /// Why a step is refused.
-    fn why(&self, reply: Reply, number: usize, operator: u16) -> String {
+    fn why(&self, refusal: Refusal, number: usize, operator: u16) -> String {
         let Task { image, names, .. } = &self.task;
-        if reply.number == 19 {
+        if refusal.number == 19 {
             let text = refusal::no_operator(operator, &self.task);
             return format!("19: step {number}: {text}");
         }
@@ -111,7 +109,7 @@ impl Run {
         let operator = names.operators.describe(operator.into());
         format!(
             "{}: step {number}, operator {operator}: its precondition {} is not true",
-            reply.number,
+            refusal.number,
             names.show_literals(&lacking)
         )
     }
@@ -140,7 +138,7 @@ impl Run {
             return Ok(());
         };
         let alike = library::agree(&self.task.image, &beside.set.rows, list);
-        let alike = alike.map_err(|reply| self.task.refused_set(reply, &beside.set))?;
+        let alike = alike.map_err(|refusal| self.task.refused_set(refusal, &beside.set))?;
         if !alike {
             return Err(Failure::Inner("task and re-encoding differ".to_string()));
         }
@@ -155,10 +153,13 @@ impl Run {
         };
         done(kulabismuth::task_initial(&self.task.image, &mut self.state))?;
         let reply = kulabismuth::task_run(&self.task.image, &mut self.state, list);
-        Ok(Output {
-            text: self.text + &refusal::line(reply),
-            status: 1,
-            said: vec![words],
-        })
+        match reply.answer() {
+            Err(refusal) => Ok(Output {
+                text: format!("{}{refusal}\n", self.text),
+                status: 1,
+                said: vec![words],
+            }),
+            Ok(_) => Err(Failure::Inner("steps and list run differ".to_string())),
+        }
     }
 }

@@ -21,7 +21,7 @@ impl Set {
             true => {
                 let lines = dimacs::look(&String::from_utf8_lossy(&bytes), task.atoms());
                 let read = library::read_dimacs(&task.image, &bytes);
-                (read.map_err(|reply| task.refused(reply)), lines)
+                (read.map_err(|refusal| task.refused(refusal)), lines)
             }
             false => {
                 let text = input::text(file, bytes)?;
@@ -40,7 +40,7 @@ impl Set {
     /// The rows of lines.
     pub fn of_lines(lines: &ClauseFile, task: &Task) -> Result<Vec<u16>, Failure> {
         let read = library::read_dimacs(&task.image, lines.dimacs(task.atoms()).as_bytes());
-        read.map_err(|reply| task.refused_as(reply, refusal::of_lines(reply, task)))
+        read.map_err(|refusal| task.refused_as(refusal, refusal::of_lines(refusal, task)))
     }
 
     /// A set that the library has made.

@@ -3,7 +3,7 @@
 use crate::call::Call;
 use crate::set::Set;
 use crate::{input, library, refusal, Failure};
-use kulabismuth::Reply;
+use kulabismuth::Refusal;
 use task_text::task::TaskSpec;
 use task_text::{words, writer, Names};
 
@@ -54,31 +54,31 @@ impl Task {
     }
 
     /// A refusal of a call on this task.
-    pub fn refused(&self, reply: Reply) -> Failure {
-        self.refused_as(reply, refusal::words(reply, self, None))
+    pub fn refused(&self, refusal: Refusal) -> Failure {
+        self.refused_as(refusal, refusal::words(refusal, self, None))
     }
 
     /// A refusal of a call on this task and a clause set.
-    pub fn refused_set(&self, reply: Reply, set: &Set) -> Failure {
-        self.refused_as(reply, refusal::words(reply, self, Some(set)))
+    pub fn refused_set(&self, refusal: Refusal, set: &Set) -> Failure {
+        self.refused_as(refusal, refusal::words(refusal, self, Some(set)))
     }
 
     /// A refusal of a call on this task, a clause set and an operator.
-    pub fn refused_operator(&self, reply: Reply, set: &Set, operator: u16) -> Failure {
-        match reply.number {
+    pub fn refused_operator(&self, refusal: Refusal, set: &Set, operator: u16) -> Failure {
+        match refusal.number {
             19 => self.refused_as(
-                reply,
+                refusal,
                 format!("19: {}", refusal::no_operator(operator, self)),
             ),
-            _ => self.refused_set(reply, set),
+            _ => self.refused_set(refusal, set),
         }
     }
 
     /// A refusal with these words, and what looked wrong in the text.
-    pub fn refused_as(&self, reply: Reply, words: String) -> Failure {
-        let of_image = reply.number <= 7;
+    pub fn refused_as(&self, refusal: Refusal, words: String) -> Failure {
+        let of_image = refusal.number <= 7;
         let notes = self.notes.iter().filter(|_| of_image).cloned();
-        Failure::Refused(reply, vec![words]).with(notes)
+        Failure::Refused(refusal, vec![words]).with(notes)
     }
 
     /// An operator by its name or number.
@@ -91,13 +91,13 @@ impl Task {
 /// The task as a text with names.
 pub fn show(call: &Call) -> Result<String, Failure> {
     let task = Task::read(&call.arguments[0])?;
-    library::read(&task.image).map_err(|reply| task.refused(reply))?;
+    library::read(&task.image).map_err(|refusal| task.refused(refusal))?;
     Ok(writer::write(&TaskSpec::of_image(&task.image), &task.names))
 }
 
 /// The task as words with names in comments.
 pub fn image(call: &Call) -> Result<String, Failure> {
     let task = Task::read(&call.arguments[0])?;
-    library::read(&task.image).map_err(|reply| task.refused(reply))?;
+    library::read(&task.image).map_err(|refusal| task.refused(refusal))?;
     Ok(words::write(&task.image, &task.names))
 }

@@ -3,7 +3,7 @@
 //! A slice passes as pointer and length; `first` and `second` receive the
 //! finding's values or the refusal's places.
 
-pub use answer::Reply;
+pub use answer::{Answer, Refusal, Reply};
 
 /// Calls the library with two places that must be written.
 fn reply(call: impl FnOnce(*mut u64, *mut u64) -> u32) -> Reply {
