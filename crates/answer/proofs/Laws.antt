@@ -2,7 +2,7 @@
 use mathlib.Core.Path.{◌≡◌, refl, sym, ap, ◌∙◌}
 use mathlib.Core.List.{List}
 use Prim.Native.Nat.{ℕ}
-use Rattle.definitions.specs.Answer.{Refusal, Answer, finding, refused, verdict, OutcomeOf, outcome, ◌>>=◌}
+use Rattle.definitions.specs.Answer.{Refusal, Answer, finding, refused, verdict, Outcome, outcome, ◌>>=◌}
 use Rattle.definitions.specs.Groups.{Written, written}
 use Rattle.definitions.proofs.AnswerLaws.{not_finding}
 
@@ -29,7 +29,7 @@ refused_first (finding a) k r e = absurd (not_finding e)
 refused_first (refused q) k r e = ap refused (cc)
 
 -- an outcome by an equal answer
-pub outcome_of : {S A : Type 0} (a b : Answer A) (s : S) (r : OutcomeOf S A) → a ≡ b → outcome b s ≡ r → outcome a s ≡ r
+pub outcome_of : {A : Type 0} (a b : Answer A) (s : List ℕ) (r : Outcome A) → a ≡ b → outcome b s ≡ r → outcome a s ≡ r
 outcome_of a b s r e h = ap (λ (x : Answer _). outcome x s) e ∙ h
 
 -- ---- a call that asks questions first, and then writes

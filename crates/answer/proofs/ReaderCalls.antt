@@ -10,7 +10,7 @@ use borrow.Author.Tests.{lt-ltb, le-ltb, eq-eqb, ne_eqb}
 use Rattle.definitions.specs.Answer.{Refusal, Answer, finding, refused, verdict, outcome, state_after, becomes, ask, ask_at, ◌>>=◌}
 use Rattle.definitions.specs.StepLists.{run_from, refused_after, not_run}
 use Rattle.definitions.proofs.StepLists.{run_on, run_stop, run_end}
-use Rattle.definitions.proofs.AnswerLaws.{not_finding, same_finding, FoundAfter, found_after}
+use Rattle.definitions.proofs.AnswerLaws.{not_finding, same_finding, bind_of, ask_of}
 use Rattle.answer.specs.Answer.{refusal_at}
 use Rattle.answer.specs.Reader.{Reader, asking, state_answer, step_call, goal_call, start_call, run_call}
 use Rattle.answer.proofs.Laws.{refused_first}
@@ -26,22 +26,22 @@ module _ {A : Type 0} (q : ℕ) (b : Bool) (k : Unit {0} → Answer A) where
   question_yes h = rw h
 
 -- ---- the outcome of a call, by its answer
-module _ {S : Type 0} (s : S) (a : Answer S) where
+module _ (s : List ℕ) (a : Answer (List ℕ)) where
   pub stays : (r : Refusal) → refused r ≡ a → outcome (refused r) s ≡ becomes s a
   unfolding becomes outcome verdict state_after
   stays r e = rw (← e)
 
-  pub done : (s' : S) → finding s' ≡ a → outcome (finding tt) s' ≡ becomes s a
+  pub done : (s' : List ℕ) → finding s' ≡ a → outcome (finding tt) s' ≡ becomes s a
   unfolding becomes outcome verdict state_after
   done s' e = rw (← e)
 
 -- ---- question 19, and the rest of a step
-module _ {A : Type 0} (m i : ℕ) (k : Unit {0} → Answer A) where
-  pub operator_no : m ≤ i → refused (refusal_at 19 0 0) ≡ (ask 19 (ltb i m) >>= k)
-  operator_no h = question_no 19 (ltb i m) k (le-ltb i m h)
+module _ (m i : ℕ) (s : List ℕ) (k : Unit {0} → Answer (List ℕ)) where
+  pub operator_refused : m ≤ i → outcome (refused (refusal_at 19 0 0)) s ≡ becomes s (ask 19 (ltb i m) >>= k)
+  operator_refused h = stays s (ask 19 (ltb i m) >>= k) (refusal_at 19 0 0) (question_no 19 (ltb i m) k (le-ltb i m h))
 
-  pub operator_yes : i < m → k tt ≡ (ask 19 (ltb i m) >>= k)
-  operator_yes h = question_yes 19 (ltb i m) k (lt-ltb i m h)
+  pub operator_there_lem : i < m → becomes s (k tt) ≡ becomes s (ask 19 (ltb i m) >>= k)
+  operator_there_lem h = ap (becomes s) (question_yes 19 (ltb i m) k (lt-ltb i m h))
 
 -- ---- reading, question 18, and the rest
 module _ {T B : Type 0} (a : Answer T) (right : T → Bool) (rest : T → Answer B) where
@@ -95,37 +95,31 @@ module _ {T : Type 0} (R : Reader T) (w s : List ℕ) where
 
   -- where the questions up to 18 are answered yes
   module _ (yes-18 : finding tt ≡ state_answer R w s) where
-    both_found_lem : FoundAfter (R.read w) (λ t. R.is_state t s) (λ _. finding (tt {0})) (tt {0})
-    unfolding state_answer
-    both_found_lem = found_after 18 (R.read w) (λ t. R.is_state t s) (λ _. finding (tt {0})) (tt {0}) (sym yes-18)
+    both_found_lem : (t : T) × (R.read w ≡ finding t) × (R.is_state t s ≡ true)
+    unfolding state_answer ask
+    both_found_lem =
+        let p = bind_of (R.read w) (λ t. ask 18 (R.is_state t s) >>= λ _. finding tt) tt (sym yes-18) in
+        let q = bind_of (ask 18 (R.is_state p.0 s)) (λ _. finding tt) tt p.2 in
+        (p.0, p.1, ask_of 18 0 (R.is_state p.0 s) q.0 q.1)
 
     pub image_fine : finding tt ≡ verdict (R.read w)
     unfolding verdict
-    image_fine = sym (ap verdict both_found_lem.given)
+    image_fine = sym (ap verdict both_found_lem.1)
 
     module _ (t : T) (found : R.read w ≡ finding t) where
       pub state_is : R.is_state t s ≡ true
-      state_is = ap (λ (x : T). R.is_state x s) (same_finding t both_found_lem.value (sym found ∙ both_found_lem.given)) ∙ both_found_lem.passed
-
-      all_asked : {B : Type 0} (rest : T → Answer B) → rest t ≡ asking (R.read w) (λ t. R.is_state t s) rest
-      all_asked rest = rest_asked (R.read w) (λ t. R.is_state t s) rest t found state_is
-
-      -- of a call that lends x besides
-      pub rest_becomes : {X : Type 0} (x : X) (rest : T → Answer X) → becomes x (rest t) ≡ becomes x (asking (R.read w) (λ t. R.is_state t s) rest)
-      rest_becomes x rest = ap (becomes x) (all_asked rest)
+      state_is = ap (λ (x : T). R.is_state x s) (same_finding t both_found_lem.0 (sym found ∙ both_found_lem.1)) ∙ both_found_lem.2
 
       pub step_rest : (i : ℕ) → becomes s (R.step t s i) ≡ becomes s (step_call R w s i)
-      step_rest i = rest_becomes s (λ t. R.step t s i)
-
-      pub check_rest : (i : ℕ) → verdict (R.step t s i) ≡ verdict (step_call R w s i)
-      check_rest i = ap verdict (all_asked (λ t. R.step t s i))
+      step_rest i = ap (becomes s) (rest_asked (R.read w) (λ t. R.is_state t s) (λ t. R.step t s i) t found state_is)
 
       pub run_rest : (is : List ℕ) → run_from (R.step t) s 0 is ≡ run_call R w s is
       unfolding not_run
-      run_rest is = ap (not_run s) (all_asked (λ t. finding (run_from (R.step t) s 0 is)))
+      run_rest is =
+          ap (not_run s) (rest_asked (R.read w) (λ t. R.is_state t s) (λ t. finding (run_from (R.step t) s 0 is)) t found state_is)
 
       pub goal_rest : (met : Bool) → met ≡ R.is_met t s → finding met ≡ goal_call R w s
-      goal_rest met e = ap finding e ∙ all_asked (λ t. finding (R.is_met t s))
+      goal_rest met e = ap finding e ∙ rest_asked (R.read w) (λ t. R.is_state t s) (λ t. finding (R.is_met t s)) t found state_is
 
   -- where one of them is answered no
   module _ (r : Refusal) (no-18 : refused r ≡ state_answer R w s) where
@@ -141,16 +135,8 @@ module _ {T : Type 0} (R : Reader T) (w s : List ℕ) where
         go (finding t) e = at_18 t (R.is_state t s) e
         go (refused q) e = ap refused (cc)
 
-    -- of a call that lends x besides
-    pub rest_stays : {X : Type 0} (x : X) (rest : T → Answer X) → outcome (refused r) x ≡ becomes x (asking (R.read w) (λ t. R.is_state t s) rest)
-    rest_stays x rest = stays x (asking (R.read w) (λ t. R.is_state t s) rest) r (either_refused rest)
-
     pub step_refused : (i : ℕ) → outcome (refused r) s ≡ becomes s (step_call R w s i)
-    step_refused i = rest_stays s (λ t. R.step t s i)
-
-    pub check_refused : (i : ℕ) → refused r ≡ verdict (step_call R w s i)
-    unfolding verdict
-    check_refused i = ap verdict (either_refused (λ t. R.step t s i))
+    step_refused i = stays s (step_call R w s i) r (either_refused (λ t. R.step t s i))
 
     pub run_refused : (is : List ℕ) → outcome (refused r) s ≡ run_call R w s is
     unfolding not_run
@@ -184,7 +170,5 @@ module _ (next : List ℕ → ℕ → Answer (List ℕ)) (list first : List ℕ)
             rest = run.rest ∙ run_on next s s' k k i list inside ei e;
           }
 
-      pub running_stop :
-          (r : Refusal) → outcome (refused r) s' ≡ becomes s (next s i)
-          → outcome (refused (refused_after k r)) s' ≡ run_from next first 0 list
+      pub running_stop : (r : Refusal) → outcome (refused r) s' ≡ becomes s (next s i) → outcome (refused (refused_after k r)) s' ≡ run_from next first 0 list
       running_stop r e = run_stop next s s' k k i list inside ei r e ∙ sym run.rest

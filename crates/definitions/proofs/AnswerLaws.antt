@@ -1,9 +1,10 @@
 -- Laws of answers: findings, refusals, chained questions, and outcomes. Assumes nothing.
 use mathlib.Core.Bool.{Bool, true, false, false≢true}
 use mathlib.Core.Path.{◌≡◌, refl, sym, ap, subst}
+use mathlib.Core.List.{List}
 use Prim.Native.Nat.{ℕ, ◌≤◌, ◌<◌}
 use native.Mathlib.Omega.{arith}
-use Rattle.definitions.specs.Answer.{Refusal, Answer, finding, refused, is_finding, ask_at, ask, ◌>>=◌, verdict, OutcomeOf, outcome, state_after, becomes}
+use Rattle.definitions.specs.Answer.{Refusal, Answer, finding, refused, is_finding, ask_at, ask, ◌>>=◌, verdict, Outcome, outcome, state_after, becomes}
 
 -- no refusal is a finding
 pub not_finding : {A : Type 0} {r : Refusal} {a : A} → ◌≡◌ {A = Answer A} (refused r) (finding a) → ⊥
@@ -104,18 +105,18 @@ bind_above q (refused r) k b low high e =
     let l = high r (sym e) in
     absurd (omega arith)
 
--- ---- the parts of an outcome: its answer, and what is lent then holds
-module _ {S A : Type 0} (a : Answer A) (s : S) (x : OutcomeOf S A) (e : outcome a s ≡ x) where
+-- ---- the parts of an outcome: its answer, and what the lent buffer becomes
+module _ {A : Type 0} (a : Answer A) (s : List ℕ) (x : Outcome A) (e : outcome a s ≡ x) where
   pub answer_of : a ≡ x.answer
   unfolding outcome
-  answer_of = ap (λ (x : OutcomeOf S A). x.answer) e
+  answer_of = ap (λ (x : Outcome A). x.answer) e
 
   pub lent_of : s ≡ x.lent
   unfolding outcome
-  lent_of = ap (λ (x : OutcomeOf S A). x.lent) e
+  lent_of = ap (λ (x : Outcome A). x.lent) e
 
--- of a call whose finding says what becomes of what is lent
-module _ {S : Type 0} (a : Answer (Unit {0})) (s s' : S) (b : Answer S) (e : outcome a s' ≡ becomes s b) where
+-- of a call whose finding is what the lent state becomes
+module _ (a : Answer (Unit {0})) (s s' : List ℕ) (b : Answer (List ℕ)) (e : outcome a s' ≡ becomes s b) where
   pub answered : a ≡ verdict b
   unfolding becomes outcome
   answered = answer_of a s' (becomes s b) e
@@ -125,12 +126,12 @@ module _ {S : Type 0} (a : Answer (Unit {0})) (s s' : S) (b : Answer S) (e : out
   left = lent_of a s' (becomes s b) e
 
 -- what a step did, by its outcome
-pub step_found : {S : Type 0} (a : Answer S) (s s' : S) → outcome (finding tt) s' ≡ becomes s a → a ≡ finding s'
+pub step_found : (a : Answer (List ℕ)) (s s' : List ℕ) → outcome (finding tt) s' ≡ becomes s a → a ≡ finding s'
 unfolding verdict state_after
 step_found (finding x) s s' e = ap finding (sym (left (finding tt) s s' (finding x) e))
 step_found (refused q) s s' e = absurd (not_finding (sym (answered (finding tt) s s' (refused q) e)))
 
-pub step_refused : {S : Type 0} (a : Answer S) (s s' : S) (r : Refusal) → outcome (refused r) s' ≡ becomes s a → (a ≡ refused r) × (s' ≡ s)
+pub step_refused : (a : Answer (List ℕ)) (s s' : List ℕ) (r : Refusal) → outcome (refused r) s' ≡ becomes s a → (a ≡ refused r) × (s' ≡ s)
 unfolding verdict state_after
 step_refused (finding x) s s' r e = absurd (not_finding (answered (refused r) s s' (finding x) e))
 step_refused (refused q) s s' r e =

@@ -180,7 +180,7 @@ module _ (w : List ℕ) (n : ℕ) (old : List ℕ) (work marks : ℕ) where
       high s h = let k = ap (λ (r : Refusal). r.number) (same_refusal_lem r s h) in omega arith
 
       go :
-          {a : Answer Found} (q : QuestionsPassed w n limit (length old) marks (refused r))
+          (q : QuestionsPassed w n limit (length old) marks (refused r)) {a : Answer Found}
           → EndOfRounds q.task n (rows_in (length old)) (limit - 1) a → a ≡ refused r → limit ≤ possible_clauses (get_or w 0 0) n
       go q (found i f small) h = absurd (not_finding (sym h))
       go q (out_of_rounds fails) h =

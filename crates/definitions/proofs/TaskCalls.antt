@@ -26,11 +26,11 @@ pub step_says : (t : Task) (s : List ℕ) (i : ℕ) (x : List ℕ) → step t s 
 unfolding step ask
 step_says t s i x e =
     let o = operator_at t i in
-    let is_there_lem = ltb i (length t.operators) in
-    let p = bind_of (ask_at 19 0 is_there_lem) (λ _. ask_at 20 0 (applicable s o) >>= λ _. finding (result s o)) x e in
+    let is_there = ltb i (length t.operators) in
+    let p = bind_of (ask_at 19 0 is_there) (λ _. ask_at 20 0 (applicable s o) >>= λ _. finding (result s o)) x e in
     let q = bind_of (ask_at 20 0 (applicable s o)) (λ _. finding (result s o)) x p.2 in
     record {
-      there = ltb-true i (length t.operators) (ask_of 19 0 is_there_lem p.0 p.1);
+      there = ltb-true i (length t.operators) (ask_of 19 0 is_there p.0 p.1);
       is_result = same_finding (result s o) x q.2;
     }
 

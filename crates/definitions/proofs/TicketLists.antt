@@ -9,7 +9,8 @@ use lib.ListN.{length, length-append}
 use borrow.Author.Tests.{eqb-true, eqb-false, eq-eqb, ne_eqb, not-true}
 use Rattle.definitions.specs.Lists.{all}
 use Rattle.definitions.specs.Answer.{Answer, finding, refused, refuse, verdict, outcome, state_after, ask, ask_at, ◌>>=◌}
-use Rattle.definitions.specs.StepLists.{Event, walk, verdicts, runs, event_of, history}
+use Rattle.definitions.specs.StepLists.{walk, verdicts, runs}
+use Rattle.definitions.specs.CallLists.{Event, lent_after, after_calls, event_of, history}
 use Rattle.definitions.specs.Literal.{is_state}
 use Rattle.definitions.specs.Image.{Task, initial_state, read_task}
 use Rattle.definitions.specs.Step.{step, step_task}
@@ -18,7 +19,8 @@ use Rattle.definitions.specs.Ticket.{TicketCall, asks, commits, ticket_call, com
 use Rattle.definitions.specs.TicketLists.{OfOperators, CommittedLater, TicketLists}
 use Rattle.definitions.proofs.ListLaws.{and_left, and_right}
 use Rattle.definitions.proofs.AnswerLaws.{not_finding, same_finding, bind_of, FoundAfter, found_after}
-use Rattle.definitions.proofs.StepLists.{walk_then, runs_then, history_keeps}
+use Rattle.definitions.proofs.StepLists.{walk_then, runs_then}
+use Rattle.definitions.proofs.CallLists.{history_keeps}
 use Rattle.definitions.proofs.TaskCalls.{step_state, walk_call, run_made}
 
 -- ---- what a finding says
@@ -81,11 +83,11 @@ ask_found w x i k e =
     }
 
 -- an ask leaves state and count, whatever it answers
-ask_leaves : (w : List ℕ) (x : CountedState) (i : ℕ) → state_after x (ticket_call w x (asks i)) ≡ x
-unfolding ticket_call state_after ◌>>=◌
+ask_leaves : (w : List ℕ) (x : CountedState) (i : ℕ) → lent_after x (ticket_call w x (asks i)) ≡ x
+unfolding ticket_call lent_after ◌>>=◌
 ask_leaves w x i = go (ask_task w x i)
   where
-    go : (a : Answer Ticket) → state_after x (a >>= λ _. finding x) ≡ x
+    go : (a : Answer Ticket) → lent_after x (a >>= λ _. finding x) ≡ x
     go (finding k) = refl
     go (refused r) = refl
 
@@ -97,16 +99,16 @@ module _
     → P (is ++ (k.operator ∷ [])) y)
   where
     each_call : (es : List (Event CountedState TicketCall)) (x : CountedState) (c : TicketCall) → P (committed es) x
-        → P (committed (event_of (ticket_call w) x c ∷ es)) (state_after x (ticket_call w x c))
-    unfolding committed committed_by event_of ticket_call verdict state_after
+        → P (committed (event_of (ticket_call w) x c ∷ es)) (lent_after x (ticket_call w x c))
+    unfolding committed committed_by event_of ticket_call verdict lent_after
     each_call es x (asks i) h = rw (append-nil (committed es), ask_leaves w x i) h
     each_call es x (commits k) h = go (commit_task w x k) refl
       where
-        go : (a : Answer CountedState) → commit_task w x k ≡ a → P (committed es ++ committed_by (commits k) (verdict a)) (state_after x a)
+        go : (a : Answer CountedState) → commit_task w x k ≡ a → P (committed es ++ committed_by (commits k) (verdict a)) (lent_after x a)
         go (finding y) e = kept (committed es) x k y e h
         go (refused r) e = rw (append-nil (committed es)) h
 
-    commits_keep : (cs : List TicketCall) (x : CountedState) → P [] x → P (committed (history (ticket_call w) x cs)) (walk (ticket_call w) x cs)
+    commits_keep : (cs : List TicketCall) (x : CountedState) → P [] x → P (committed (history (ticket_call w) x cs)) (after_calls (ticket_call w) x cs)
     unfolding committed
     commits_keep cs x h = history_keeps (ticket_call w) (λ es y. P (committed es) y) each_call cs x h
 
@@ -144,13 +146,13 @@ module _ (w : List ℕ) (t : Task) (read : read_task w ≡ finding t) where
       stepped = rw (← h.state) f.stepped
 
   committed_all : (cs : List TicketCall)
-      → Committed (committed (history (ticket_call w) (initial_counted t) cs)) (walk (ticket_call w) (initial_counted t) cs)
+      → Committed (committed (history (ticket_call w) (initial_counted t) cs)) (after_calls (ticket_call w) (initial_counted t) cs)
   unfolding initial_counted last_count walk runs verdicts all
   committed_all cs =
       commits_keep w Committed one_more cs (initial_counted t)
       (record { state = refl; runs_all = refl; count = refl; within = omega arith })
 
-  lists : (cs : List TicketCall) → OfOperators w t (committed (history (ticket_call w) (initial_counted t) cs)) (walk (ticket_call w) (initial_counted t) cs)
+  lists : (cs : List TicketCall) → OfOperators w t (committed (history (ticket_call w) (initial_counted t) cs)) (after_calls (ticket_call w) (initial_counted t) cs)
   lists cs =
       let is = committed (history (ticket_call w) (initial_counted t) cs) in
       let m = committed_all cs in
@@ -162,10 +164,10 @@ module _ (w : List ℕ) (t : Task) (read : read_task w ≡ finding t) where
       }
 
 -- ---- a ticket with only asks in between
-asks_leave : (w : List ℕ) (is : List ℕ) (x : CountedState) → walk (ticket_call w) x (map asks is) ≡ x
-unfolding walk
+asks_leave : (w : List ℕ) (is : List ℕ) (x : CountedState) → after_calls (ticket_call w) x (map asks is) ≡ x
+unfolding after_calls
 asks_leave w [] x = refl
-asks_leave w (i ∷ is) x = ap (λ (y : CountedState). walk (ticket_call w) y (map asks is)) (ask_leaves w x i) ∙ asks_leave w is x
+asks_leave w (i ∷ is) x = ap (λ (y : CountedState). after_calls (ticket_call w) y (map asks is)) (ask_leaves w x i) ∙ asks_leave w is x
 
 at_once : (w : List ℕ) (x : CountedState) (i : ℕ) (k : Ticket) → AskFound w x i k → CommittedLater w x i k x
 unfolding commit_task commit ticket_valid last_count step_task refuse ask ask_at ◌>>=◌
@@ -180,7 +182,7 @@ at_once w x i k a =
 
 later :
     (w : List ℕ) (x : CountedState) (i : ℕ) (k : Ticket) → ask_task w x i ≡ finding k → (is : List ℕ)
-    → CommittedLater w x i k (walk (ticket_call w) x (map asks is))
+    → CommittedLater w x i k (after_calls (ticket_call w) x (map asks is))
 later w x i k e is = rw (asks_leave w is x) (at_once w x i k (ask_found w x i k e))
 
 -- ---- a ticket after a commit
@@ -202,7 +204,7 @@ module _ (w : List ℕ) (t : Task) (read : read_task w ≡ finding t) (x : Count
       }
 
   grown_all : is_state t.atoms x.state ≡ true → (cs : List TicketCall)
-      → Grown (committed (history (ticket_call w) x cs)) (walk (ticket_call w) x cs)
+      → Grown (committed (history (ticket_call w) x cs)) (after_calls (ticket_call w) x cs)
   grown_all right cs = commits_keep w Grown grows cs x (record { right = right; count = omega arith })
 
 not_empty : (is : List ℕ) → (is ≡ [] → ⊥) → 1 ≤ length is
@@ -211,10 +213,10 @@ not_empty (i ∷ is) h = omega arith
 
 old :
     (w : List ℕ) (x : CountedState) (i : ℕ) (k : Ticket) → ask_task w x i ≡ finding k → (cs : List TicketCall)
-    → (committed (history (ticket_call w) x cs) ≡ [] → ⊥) → commit_task w (walk (ticket_call w) x cs) k ≡ refuse 28 0 0
+    → (committed (history (ticket_call w) x cs) ≡ [] → ⊥) → commit_task w (after_calls (ticket_call w) x cs) k ≡ refuse 28 0 0
 unfolding commit_task commit ticket_valid refuse ask ask_at ◌>>=◌
 old w x i k e cs more =
-    let y = walk (ticket_call w) x cs in
+    let y = after_calls (ticket_call w) x cs in
     let is = committed (history (ticket_call w) x cs) in
     let a = ask_found w x i k e in
     let f = a.step_found in

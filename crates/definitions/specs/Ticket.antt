@@ -1,7 +1,7 @@
 -- Asking first and committing later ("Ask first, commit later", 02 §8; question 28). Assumes nothing.
 use Rattle.std.specs.Prelude.{Bool, not, ◌&&◌, List, [], ◌∷◌, ◌++◌, ℕ, suc, eqb}
 use Rattle.definitions.specs.Answer.{Answer, finding, refused, ask, ◌>>=◌}
-use Rattle.definitions.specs.StepLists.{Event}
+use Rattle.definitions.specs.CallLists.{Event}
 use Rattle.definitions.specs.Literal.{is_state}
 use Rattle.definitions.specs.Image.{Task, initial_state, read_task}
 use Rattle.definitions.specs.Step.{step, step_task}

@@ -1,7 +1,8 @@
 -- Document 02 §8 as one statement: every list of asks and commits, and every ticket. Assumes nothing.
 use Rattle.std.specs.Prelude.{◌≡◌, List, [], map, ℕ, suc, ◌≤◌, length}
 use Rattle.definitions.specs.Answer.{finding, refuse, outcome}
-use Rattle.definitions.specs.StepLists.{walk, history}
+use Rattle.definitions.specs.StepLists.{walk}
+use Rattle.definitions.specs.CallLists.{after_calls, history}
 use Rattle.definitions.specs.Image.{Task, initial_state, read_task}
 use Rattle.definitions.specs.Step.{step_task, run_task}
 use Rattle.definitions.specs.Ticket.{CountedState, Ticket, last_count, ask_task, commit_task, TicketCall, asks, ticket_call, committed, initial_counted}
@@ -28,12 +29,12 @@ pub record TicketLists : Type 0 where
   -- "For every list of asks and commits from the initial state with count 0", of whichever tickets, also old and invented ones
   pub lists :
       (w : List ℕ) (t : Task) → read_task w ≡ finding t → (cs : List TicketCall)
-      → OfOperators w t (committed (history (ticket_call w) (initial_counted t) cs)) (walk (ticket_call w) (initial_counted t) cs)
+      → OfOperators w t (committed (history (ticket_call w) (initial_counted t) cs)) (after_calls (ticket_call w) (initial_counted t) cs)
   -- "A ticket's commit, with only asks in between", from any state and count
   pub later :
       (w : List ℕ) (x : CountedState) (i : ℕ) (k : Ticket) → ask_task w x i ≡ finding k → (is : List ℕ)
-      → CommittedLater w x i k (walk (ticket_call w) x (map asks is))
+      → CommittedLater w x i k (after_calls (ticket_call w) x (map asks is))
   -- and a ticket is old as soon as something was committed after the ask: then it is refused with 28
   pub old :
       (w : List ℕ) (x : CountedState) (i : ℕ) (k : Ticket) → ask_task w x i ≡ finding k → (cs : List TicketCall)
-      → (committed (history (ticket_call w) x cs) ≡ [] → ⊥) → commit_task w (walk (ticket_call w) x cs) k ≡ refuse 28 0 0
+      → (committed (history (ticket_call w) x cs) ≡ [] → ⊥) → commit_task w (after_calls (ticket_call w) x cs) k ≡ refuse 28 0 0

@@ -18,7 +18,7 @@ use Rattle.definitions.specs.FdrStep.{is_fdr_state, fdr_fired, fdr_conflict, non
 use Rattle.definitions.proofs.ListLaws.{and_left, and_right, all_at, all_of, keep_of}
 use Rattle.answer.specs.Answer.{refusal_at}
 use Rattle.answer.specs.Reader.{state_answer}
-use Rattle.answer.proofs.ReaderCalls.{question_no, question_yes, stays, done, operator_no, operator_yes, image_fine, state_is}
+use Rattle.answer.proofs.ReaderCalls.{question_no, question_yes, stays, done, operator_refused, operator_there_lem, image_fine, state_is}
 use Rattle.fdr_image.specs.Reads.{fdr_of, ReadsFdr}
 use Rattle.fdr_image.specs.Walk.{operator_in}
 use Rattle.fdr_image.specs.Post.{BlockGiven}
@@ -48,11 +48,11 @@ initial_fits w rd s xs n en es ex =
 module _ (t : FdrTask) (s : List ℕ) (i : ℕ) where
   pub step_19 : length t.operators ≤ i → outcome (refused (refusal_at 19 0 0)) s ≡ becomes s (fdr_step t s i)
   unfolding fdr_step
-  step_19 h = stays s _ (refusal_at 19 0 0) (operator_no (length t.operators) i _ h)
+  step_19 h = operator_refused (length t.operators) i s _ h
 
   pub step_there : i < length t.operators → becomes s (stepped t s (get_or t.operators i no_fdr_operator)) ≡ becomes s (fdr_step t s i)
   unfolding fdr_step stepped applied
-  step_there h = ap (becomes s) (operator_yes (length t.operators) i _ h)
+  step_there h = operator_there_lem (length t.operators) i s _ h
 
 -- ---- question 20
 module _ (t : FdrTask) (s : List ℕ) (o : FdrOperator) where

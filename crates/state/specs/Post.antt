@@ -1,8 +1,9 @@
 -- What the functions below the calls ask and answer. Assumes nothing.
 use Rattle.std.specs.Prelude.{ℕ, ◌*◌, List, true, ◌≡◌, length, replicate}
+use Rattle.definitions.specs.Answer.{Answer, finding, ask, ◌>>=◌}
 use Rattle.definitions.specs.Literal.{all_true, is_state}
-use Rattle.definitions.specs.Image.{Task, initial_state, read_task}
-use Rattle.definitions.specs.Step.{step}
+use Rattle.definitions.specs.Image.{Operator, Task, initial_state, read_task}
+use Rattle.definitions.specs.Step.{applicable, result, step}
 use Rattle.answer.specs.Reader.{Reader}
 use Rattle.task.specs.Reads.{task_of, Reads}
 use Rattle.task.specs.Walk.{block_parses}
@@ -18,6 +19,12 @@ task_reader =
       step = step;
       is_met = λ t s. all_true s t.goal;
     }
+
+-- question 20, and the step, by the operator
+unfoldable pub applied : List ℕ → Operator → Answer (List ℕ)
+applied s o = do
+  _ ← ask 20 (applicable s o)
+  finding (result s o)
 
 -- an image that reads as a task, and a state of its length
 pub record Standing (w s : List ℕ) : Type 0 where

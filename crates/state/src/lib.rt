@@ -1,6 +1,6 @@
 // States of a task: setting to the initial state, steps, goal tests and list runs (questions 1 to 7 and 18 to 20).
 ghost use Rattle.std.specs.Prelude.{◌≡◌, true, ◌*◌, length, replicate};
-ghost use Rattle.definitions.specs.Answer.{verdict, outcome, becomes};
+ghost use Rattle.definitions.specs.Answer.{outcome, becomes};
 ghost use Rattle.definitions.specs.Literal.{all_true};
 ghost use Rattle.definitions.specs.Image.{initial_state};
 ghost use Rattle.definitions.specs.StepLists.{run_from};
@@ -10,7 +10,7 @@ ghost use Rattle.answer.specs.Reader.{state_answer};
 ghost use Rattle.task.specs.Reads.{task_of, Reads};
 ghost use Rattle.task.specs.Walk.{block_parses, operator_in};
 ghost use Rattle.state.specs.Flags.{set_true};
-ghost use Rattle.state.specs.Post.{task_reader, Standing};
+ghost use Rattle.state.specs.Post.{task_reader, Standing, Applies, applied};
 
 use answer::{Counted, Refusal, Tested, Verdict};
 
@@ -40,29 +40,18 @@ fn precondition_holds(block: &[u16], state: &[u8]) -> bool
     literal::all_true(state, &block[1..end])
 }
 
-// Whether an operator can be applied in a task's state: questions 19 and 20.
-fn check_operator(image: &[u16], state: &[u8], operator: usize) -> Verdict
-    requires { Reads image.now }
-    ensures { verdict_answer result ≡ verdict (step (task_of image.now) state.now operator) }
+// A step by the block of its operator, with flags that are all zero before and after: question 20.
+fn step_block(block: &[u16], state: &mut [u8], flags: &mut [u8]) -> Verdict
+    requires { Applies block.now state.old flags.old }
+    ensures { (outcome (verdict_answer result) state.new
+        ≡ becomes state.old (applied state.old (operator_in block.now)))
+        × (flags.new ≡ flags.old) }
 {
-    if task::operators(image) <= operator {
-        return answer::refuse(Refusal::OPERATOR_NUMBER);
-    }
-    if !precondition_holds(task::operator_block(image, operator), state) {
+    if !precondition_holds(block, state) {
         return answer::refuse(Refusal::PRECONDITION);
     }
+    effect::apply(block, state, flags);
     Verdict::Fine
-}
-
-// Whether a step can be made: its questions, and nothing is changed.
-pub fn check_step(image: &[u16], state: &[u8], operator: u16) -> Verdict
-    ensures { verdict_answer result ≡ verdict (step_task image.now state.now operator) }
-{
-    let reading = read_state(image, state);
-    if let Verdict::Refused(f) = reading {
-        return Verdict::Refused(f);
-    }
-    check_operator(image, state, literal::wide(operator))
 }
 
 // A step in a task's state, with flags for its literals that are all zero before and after: questions 19 and 20.
@@ -72,16 +61,14 @@ fn step_flagged(image: &[u16], state: &mut [u8], operator: usize, flags: &mut [u
         ≡ becomes state.old (step (task_of image.now) state.old operator))
         × (flags.new ≡ flags.old) }
 {
-    let checked = check_operator(image, state, operator);
-    if let Verdict::Refused(f) = checked {
-        return Verdict::Refused(f);
+    if task::operators(image) <= operator {
+        return answer::refuse(Refusal::OPERATOR_NUMBER);
     }
-    effect::apply(task::operator_block(image, operator), state, flags);
-    Verdict::Fine
+    step_block(task::operator_block(image, operator), state, flags)
 }
 
 // A step in a task's state: questions 19 and 20.
-pub fn step_read(image: &[u16], state: &mut [u8], operator: u16) -> Verdict
+fn step_read(image: &[u16], state: &mut [u8], operator: u16) -> Verdict
     requires { Standing image.now state.old }
     ensures { outcome (verdict_answer result) state.new
         ≡ becomes state.old (step (task_of image.now) state.old operator) }

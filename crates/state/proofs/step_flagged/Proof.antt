@@ -1,97 +1,83 @@
--- `state::step_flagged`: questions 19 and 20, then the operator is applied.
-use mathlib.Core.Path.{◌≡◌, refl, sym, ap, ◌∙◌}
-use Rattle.definitions.specs.Answer.{finding, verdict}
+-- `state::step_flagged`: question 19, then the operator's block.
+use Prim.Native.Nat.{◌<◌}
+use mathlib.Core.Path.{refl, ap, ◌∙◌}
+use native.Mathlib.Omega.{arith}
+use lib.ListN.{length}
+use Rattle.definitions.specs.Answer.{becomes}
 use Rattle.definitions.specs.Image.{Operator}
-use Rattle.definitions.specs.Step.{result, step}
-use Rattle.answer.specs.Answer.{placed, verdict_answer}
+use Rattle.answer.proofs.Laws.{outcome_of}
 use Rattle.task.specs.Reads.{task_of}
-use Rattle.state.proofs.Calls.{not_stepped, operator_there_lem, stepped, applies}
+use Rattle.state.specs.Post.{applied}
+use Rattle.state.proofs.Calls.{step_19, step_there, applies}
 use borrow.Author.Rules.{rules}
 use Rattle.state.proofs.step_flagged.Statement.{statement}
 use Rattle.state.proofs.step_flagged.Tie as tie
 
--- where a question was answered no, where they were asked, and the start
-abbrev refused : tie.After-known-told → tie.After-checked
-refused c = c.before
+-- where the operator's number is right, and the start
+abbrev at_shared_slice : tie.After-operators → tie.After-shared-slice-known
+at_shared_slice c = c.before.before.before
 
-abbrev answered : tie.After-checked → tie.After-check-operator
-answered c = c.before.before
+abbrev start : tie.After-operators → tie.Start
+start c = (at_shared_slice c).before
 
-abbrev lent : tie.After-check-operator → tie.After-slice-known
-lent c = c.before.before.before
+there : (c : tie.Else1) → let s = (start c.before).args in s.operator < length (task_of s.image.now).operators
+there c = omega (arith, c.before.operators.ensures.0)
 
-abbrev start : tie.After-check-operator → tie.Start
-start c = (lent c).before.before
-
-abbrev asked : tie.After-enum-told → tie.After-check-operator
-asked c = c.before.before
-
--- both were answered yes
-allowed : (c : tie.After-enum-told) → let a = (start (asked c)).args in finding tt ≡ verdict (step (task_of a.image.now) a.state.now a.operator)
-allowed c = ap verdict_answer (sym c.enum_told.given.1) ∙ (asked c).check-operator.ensures
-
--- where the operator was applied, and its block was given
+-- where the step by the block was made
 abbrev at_state : tie.After-slice-known4 → tie.After-state
 at_state c = c.before.before.before
 
-abbrev made : tie.After-slice-known4 → tie.After-apply
-made c = (at_state c).before
+abbrev stepped : tie.After-slice-known4 → tie.After-step-block
+stepped c = (at_state c).before
 
-abbrev given : tie.After-apply → tie.After-operator-block
+abbrev given : tie.After-step-block → tie.After-operator-block
 given c = c.before.before.before
 
-check-operator-requires : tie.Need-check-operator-requires
-check-operator-requires c κs = search rules
+operators-requires : tie.Need-operators-requires
+operators-requires c κs = search rules
 
-enum-known-checked : tie.Need-enum-known-checked
-enum-known-checked c = search rules
+refuse-requires : tie.Need-refuse-requires
+refuse-requires c κs = search rules
+
+returns : tie.Need-returns
+returns c = (outcome_of _ _ _ _ c.refuse.ensures (step_19 _ _ _ (omega (arith, c.before.before.operators.ensures.0))), refl)
+
+operator-block-requires : tie.Need-operator-block-requires
+operator-block-requires c κs = search rules
+
+step-block-requires : tie.Need-step-block-requires
+step-block-requires c κs =
+    let g = c.before.before in
+    let s = start g.before.before in
+    applies _ _ _ _ s.pre.0 s.pre.1 _ g.operator-block.ensures
 
 same_length : tie.Need-same-length
 same_length c = search rules
 
-returns : tie.Need-returns
-returns c =
-    let f = (refused c).checked.given in
-    (not_stepped _ _ _ (placed f.0.0) (ap verdict_answer (sym f.1) ∙ (answered (refused c)).check-operator.ensures), refl)
-
-enum_told : tie.Need-enum-told
-enum_told c = search rules
-
-operator-block-requires : tie.Need-operator-block-requires
-operator-block-requires c κs = ((start (asked c)).requires.0.reads, operator_there_lem _ _ _ (allowed c))
-
-apply-requires : tie.Need-apply-requires
-apply-requires c κs =
-    let g = c.before.before in
-    let s = start (asked g.before) in
-    applies _ _ _ _ s.pre.0 s.pre.1 _ g.operator-block.ensures
-
 same-length-2 : tie.Need-same-length-2
 same-length-2 c = search rules
 
-same-length-3 : tie.Need-same-length-3
-same-length-3 c = search rules
-
 returns-2 : tie.Need-returns-2
 returns-2 c =
-    let d = made c in
+    let d = stepped c in
     let g = given d in
-    let s = (start (asked g.before)).args.state.now in (
-      stepped _ _ _ (allowed g.before) _ (d.apply.ensures.0 ∙ ap (λ (o : Operator). result s o) g.operator-block.ensures.operator),
-      d.apply.ensures.1,
+    let s = start g.before.before in
+    let t = s.args.state.now in (
+      d.step_Block.ensures.0
+          ∙ ap (λ (o : Operator). becomes t (applied t o)) g.operator-block.ensures.operator
+          ∙ step_there (task_of s.args.image.now) t s.args.operator (there g.before),
+      d.step_Block.ensures.1,
     )
 
 pub step-flagged-spec : {M : Type 1} → statement M
 step-flagged-spec =
     tie.close
     (tie.spec
-    check-operator-requires
-    enum-known-checked
-    same_length
+    operators-requires
+    refuse-requires
     returns
-    enum_told
     operator-block-requires
-    apply-requires
+    step-block-requires
+    same_length
     same-length-2
-    same-length-3
     returns-2)
