@@ -1,5 +1,7 @@
 // Demand 3 as a call: a task and its re-encoding by an accepted clause set, compared along a list of operator numbers by the
 // public calls alone.
+#![tactic(auto)]
+
 ghost use Rattle.std.specs.Prelude.{◌≡◌, length};
 ghost use Rattle.definitions.specs.FdrImage.{most_fdr_image};
 ghost use Rattle.answer.specs.Answer.{test_answer};

@@ -1,4 +1,6 @@
 // A test program: task and re-encoding compared along lists, over the cases of standard input (the file stdin; stdout is what is answered).
+#![tactic(auto)]
+
 fn main() {
     cases::run();
 }

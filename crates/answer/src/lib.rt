@@ -1,10 +1,12 @@
 // The answers of the calls: a finding, or a refusal with its number and places.
+#![tactic(auto)]
+
 ghost use Rattle.std.specs.Prelude.{◌≡◌};
 ghost use Rattle.definitions.specs.Answer.{finding, refused};
 ghost use Rattle.answer.specs.Answer.{refusal_at, verdict_answer, test_answer, count_answer};
 
 // A refusal: the number of the question that was answered no, and two places, zero unless named.
-#[derive(Drop)]
+#[derive(Clone, Copy)]
 pub struct Refusal {
     pub number: u16,
     pub first: usize,
@@ -71,14 +73,14 @@ impl Refusal {
 }
 
 // The answer of a call whose finding holds nothing.
-#[derive(Drop)]
+#[derive(Clone, Copy)]
 pub enum Verdict {
     Fine,
     Refused(Refusal),
 }
 
 // The answer of a test: whether something holds.
-#[derive(Drop)]
+#[derive(Clone, Copy)]
 pub enum Tested {
     Holds,
     Fails,
@@ -86,7 +88,7 @@ pub enum Tested {
 }
 
 // The answer of a call whose finding is a number: steps, variables or words.
-#[derive(Drop)]
+#[derive(Clone, Copy)]
 pub enum Counted {
     Count(usize),
     Refused(Refusal),

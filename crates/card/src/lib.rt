@@ -1,4 +1,6 @@
 // The card's text as bytes.
+#![tactic(auto)]
+
 ghost use Rattle.std.specs.Prelude.{◌≡◌, ◌+◌, ◌*◌, ◌≤◌, ◌<◌, length, get_or, drop, ◌++◌};
 ghost use Rattle.definitions.specs.Card.{refused_text, card};
 ghost use Rattle.definitions.specs.Clauses.{width, most_rows};

@@ -1,4 +1,6 @@
 // The card program: reads n, round limit and image as little-endian words from standard input, and writes the card to standard output.
+#![tactic(auto)]
+
 ghost use Rattle.std.specs.Prelude.{◌≡◌, ◌+◌, length};
 ghost use Rattle.definitions.specs.Card.{most_input};
 

@@ -7,6 +7,8 @@
 //
 // Only `run` is public. The other functions of this file call the C interface, whose contracts stand in `kulabismuth`, and write:
 // no contract of the kit can name what C's `write` puts out, so they have no `ensures`, and are proved to be safe and to end.
+#![tactic(auto)]
+
 ghost use Rattle.std.specs.Prelude.{◌*◌, ◌≤◌, length};
 ghost use Rattle.cases.specs.Case.{most_input};
 

@@ -1,4 +1,6 @@
 // The checker: whether every clause of a set holds initially and is kept under every operator.
+#![tactic(auto)]
+
 ghost use Rattle.std.specs.Prelude.{◌≡◌, ◌*◌, ◌≤◌, length, take};
 ghost use Rattle.definitions.specs.Lists.{first_fail};
 ghost use Rattle.definitions.specs.Answer.{refused, verdict};

@@ -7,7 +7,7 @@ ghost use Rattle.clause.specs.Place.{At, Placed, AtRow, HasNext, HasPrevious};
 
 use super::WIDTH;
 
-#[derive(Drop)]
+#[derive(Clone, Copy)]
 pub struct RowPlace {
     pub number: usize,
     pub at: usize,

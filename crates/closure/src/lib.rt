@@ -1,4 +1,6 @@
 // The closure shown: what a clause set says about one operator.
+#![tactic(auto)]
+
 ghost use Rattle.std.specs.Prelude.{◌≡◌, length};
 ghost use Rattle.definitions.specs.Answer.{finding, outcome};
 ghost use Rattle.definitions.specs.Groups.{written};

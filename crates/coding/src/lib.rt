@@ -1,4 +1,6 @@
 // Coding of states: from a task's state to a finite-domain state and back (questions 17, 18 and, from atoms, 23).
+#![tactic(auto)]
+
 ghost use Rattle.std.specs.Prelude.{◌≡◌, length};
 ghost use Rattle.definitions.specs.Answer.{outcome, becomes};
 ghost use Rattle.definitions.specs.Coding.{from_atoms, from_atoms_call, to_atoms_call};

@@ -1,4 +1,6 @@
 // Mutex groups of atoms by a clause set: the variables of a re-encoding, their values and domains.
+#![tactic(auto)]
+
 ghost use Rattle.std.specs.Prelude.{◌+◌, ◌*◌, ◌≤◌, length};
 ghost use Rattle.definitions.specs.Lists.{each, below};
 ghost use Rattle.clause.specs.Rows.{clauses_of, ClausesRead};

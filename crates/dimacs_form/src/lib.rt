@@ -1,4 +1,6 @@
 // The form of a DIMACS text: question 24, and its numbers one by one.
+#![tactic(auto)]
+
 ghost use Rattle.std.specs.Prelude.{true, cond, ◌≡◌, ℕ, ◌+◌, ◌<◌, ◌≤◌, min, drop};
 ghost use Rattle.definitions.specs.Literal.{most_atoms};
 ghost use Rattle.definitions.specs.Dimacs.{tokens};
@@ -14,14 +16,14 @@ pub mod number; // number.rt: a word as a number
 pub mod word; // word.rt: blanks and words
 
 // A number without a minus, and where the next word begins.
-#[derive(Drop)]
+#[derive(Clone, Copy)]
 pub enum Count {
     Missing,
     Is(usize, usize),
 }
 
 // Where the clauses of a text begin.
-#[derive(Drop)]
+#[derive(Clone, Copy)]
 pub enum Form {
     // The text is not of the form.
     Other,

@@ -8,13 +8,13 @@ ghost use Rattle.dimacs_form.specs.Numbers.{most_size, begins, DigitsOf, signed_
 const MOST_SIZE: usize = 18446744073709551615;
 
 // Digits, the first of them not 0.
-#[derive(Drop)]
+#[derive(Clone, Copy)]
 pub enum Digits {
     Other,
     Size(usize),
 }
 
-#[derive(Drop)]
+#[derive(Clone, Copy)]
 pub struct Number {
     pub minus: bool,
     pub size: usize,
@@ -22,7 +22,7 @@ pub struct Number {
     pub next: usize,
 }
 
-#[derive(Drop)]
+#[derive(Clone, Copy)]
 pub enum Word {
     // no number
     Other,

@@ -1,4 +1,6 @@
 // The clauses of a DIMACS text as rows: question 25, and the rows in order, equal ones once.
+#![tactic(auto)]
+
 ghost use Rattle.std.specs.Prelude.{◌≡◌, length};
 ghost use Rattle.definitions.specs.Clauses.{width};
 ghost use Rattle.dimacs_rows.specs.Reading.{Clauses};
@@ -13,7 +15,7 @@ pub mod reading; // reading.rt: one clause, question 25
 pub mod rows; // rows.rt: rows stored in a buffer
 
 // What the clauses of a text come to.
-#[derive(Drop)]
+#[derive(Clone, Copy)]
 pub enum Collected {
     // Question 25 is answered no.
     Unfit,

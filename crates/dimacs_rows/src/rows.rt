@@ -9,7 +9,7 @@ use clause::{MOST_ROWS, WIDTH};
 // Rows that a buffer has room for: more than a clause set may have, so that equal ones are dropped now and then only.
 pub const MOST_STORED: usize = MOST_ROWS + MOST_ROWS / 4;
 
-#[derive(Drop)]
+#[derive(Clone, Copy)]
 pub enum Stored {
     // So many rows.
     Rows(usize),

@@ -1,4 +1,6 @@
 // The directory of an image: pairs (offset, length) that name its parts.
+#![tactic(auto)]
+
 ghost use Rattle.std.specs.Prelude.{◌≡◌, ◌+◌, ◌≤◌};
 ghost use Rattle.definitions.specs.Image.{most_operators, directory, part};
 ghost use Rattle.directory.specs.Directory.{Lies};

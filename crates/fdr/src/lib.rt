@@ -1,4 +1,6 @@
 // States of a re-encoded task: setting to the initial state, steps, goal tests and list runs (questions 17 and 18 to 22).
+#![tactic(auto)]
+
 ghost use Rattle.std.specs.Prelude.{◌≡◌, true};
 ghost use Rattle.definitions.specs.Answer.{outcome, becomes};
 ghost use Rattle.definitions.specs.StepLists.{run_from};

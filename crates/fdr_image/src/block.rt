@@ -5,7 +5,7 @@ ghost use Rattle.fdr_image.specs.Walk.{kind_of, row, whole_row, rows_right, bloc
 ghost use Rattle.fdr_image.specs.Post.{RowAt, RowRead, BlockRead};
 
 // What a row does with its value.
-#[derive(Drop)]
+#[derive(Clone, Copy)]
 pub enum Kind {
     Set,
     Clear,
@@ -59,7 +59,7 @@ fn is_whole(block: &[u16], at: usize) -> bool
 }
 
 // A row of a block: its kind, variable and value, and where its conditions begin and end. The next row begins at their end.
-#[derive(Drop)]
+#[derive(Clone, Copy)]
 pub struct RowPart {
     pub kind: u16,
     pub variable: usize,
@@ -129,7 +129,7 @@ pub fn is_block(domains: &[u16], block: &[u16]) -> bool
 }
 
 // Where the precondition of a block ends, and its number of rows, which begin after the word at that end.
-#[derive(Drop)]
+#[derive(Clone, Copy)]
 pub struct BlockHead {
     pub end: usize,
     pub rows: usize,

@@ -1,4 +1,6 @@
 // Reading of a re-encoded image (question 17), and access to the parts of an image that reads as a re-encoded task.
+#![tactic(auto)]
+
 ghost use Rattle.std.specs.Prelude.{◌≡◌, true, ◌+◌, ◌≤◌, ◌<◌, length, get_or};
 ghost use Rattle.definitions.specs.Answer.{verdict};
 ghost use Rattle.definitions.specs.Literal.{most_atoms};

@@ -1,4 +1,6 @@
 // The groups of a task by an accepted clause set: its variables, their values and domains.
+#![tactic(auto)]
+
 ghost use Rattle.std.specs.Prelude.{◌≡◌, length};
 ghost use Rattle.definitions.specs.Answer.{outcome};
 ghost use Rattle.definitions.specs.Groups.{written, groups_call};

@@ -1,4 +1,6 @@
 // Two tasks joined: one image in which the second's atoms and operators follow the first's.
+#![tactic(auto)]
+
 ghost use Rattle.std.specs.Prelude.{◌≡◌, ◌+◌, ◌≤◌, length};
 ghost use Rattle.definitions.specs.Answer.{outcome};
 ghost use Rattle.definitions.specs.Groups.{written};

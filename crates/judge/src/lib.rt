@@ -1,4 +1,6 @@
 // Kept clauses: one clause under one operator, and many clauses at once.
+#![tactic(auto)]
+
 ghost use Rattle.std.specs.Prelude.{◌≡◌, length};
 ghost use Rattle.definitions.specs.Checker.{keeps};
 ghost use Rattle.answer.specs.Answer.{test_answer};

@@ -1,5 +1,7 @@
 // The C interface. Each call returns 0 for a finding, else the number of the refusal; `first` and `second` receive the
 // finding's values or the places, zero unless named. A slice passes as a pointer and a length.
+#![tactic(auto)]
+
 ghost use Rattle.std.specs.Prelude.{◌≡◌, length};
 ghost use Rattle.definitions.specs.Answer.{verdict, state_after};
 ghost use Rattle.definitions.specs.Image.{read_task};

@@ -1,4 +1,6 @@
 // Literals and lists of them, as words of an image.
+#![tactic(auto)]
+
 ghost use Rattle.std.specs.Prelude.{◌≡◌, ◌&&◌, ◌<◌, ◌≤◌, get_or};
 ghost use Rattle.definitions.specs.Lists.{ascending};
 ghost use Rattle.definitions.specs.Literal.{most_atoms, atom, positive, complement, all_below, literal_list, is_state, true_in, all_true};
@@ -14,7 +16,7 @@ pub const MOST_ATOMS: usize = 1024;
 pub const MOST_LITERALS: usize = 2048;
 
 // A literal: twice its atom if the atom is true, one more if it is false.
-#[derive(Drop)]
+#[derive(Clone, Copy)]
 pub struct Literal {
     pub code: u16,
 }

@@ -1,4 +1,6 @@
 // The next set of a synthesis: the clauses that pass and the failing ones weakened, without those that contain another.
+#![tactic(auto)]
+
 ghost use Rattle.std.specs.Prelude.{◌≡◌, ◌≤◌, length};
 ghost use Rattle.definitions.specs.Synthesis.{next};
 ghost use Rattle.clause.specs.Rows.{row_count, clauses_of};

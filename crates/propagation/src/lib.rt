@@ -1,5 +1,7 @@
 // Propagation: the closure of clauses and literals in a mark buffer. From the clauses and literals given it marks the least set of
 // literals that holds those given and, for each clause all of whose literals but one have their complement in it, that one.
+#![tactic(auto)]
+
 ghost use Rattle.std.specs.Prelude.{◌≡◌, true, ◌&&◌, List, ◌++◌, ℕ, ◌+◌, ◌*◌, ◌/◌, ◌<◌, eqb, length, get_or, drop};
 ghost use Rattle.definitions.specs.Literal.{fill, complement, all_below};
 ghost use Rattle.definitions.specs.Clauses.{clause_of};
@@ -17,7 +19,7 @@ use literal::Literal;
 pub mod marks; // marks.rt: a bit for each literal
 
 // What propagation answers.
-#[derive(Drop)]
+#[derive(Clone, Copy)]
 pub enum Closing {
     // The marks are the closure, and it is not contradictory.
     Consistent,
@@ -26,7 +28,7 @@ pub enum Closing {
 }
 
 // What a word adds to the scan of a row for its open literals, those whose complement is not marked.
-#[derive(Drop)]
+#[derive(Clone, Copy)]
 enum Scan {
     // Nothing: it is fill, or not open.
     Same,
@@ -37,7 +39,7 @@ enum Scan {
 }
 
 // What marking literals that follow did.
-#[derive(Drop)]
+#[derive(Clone, Copy)]
 enum Pass {
     // All were marked.
     Same,

@@ -1,4 +1,6 @@
 // A task image and a clause set, read together.
+#![tactic(auto)]
+
 ghost use Rattle.reading.specs.Reading.{BothAnswer};
 
 use answer::Verdict;

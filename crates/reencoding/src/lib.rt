@@ -1,4 +1,6 @@
 // Re-encoding of a task by an accepted clause set: the finite-domain image.
+#![tactic(auto)]
+
 ghost use Rattle.std.specs.Prelude.{◌≡◌, ◌+◌, ◌≤◌, length};
 ghost use Rattle.definitions.specs.Answer.{outcome};
 ghost use Rattle.definitions.specs.Groups.{written};

@@ -1,4 +1,6 @@
 // States of a task: setting to the initial state, steps, goal tests and list runs (questions 1 to 7 and 18 to 20).
+#![tactic(auto)]
+
 ghost use Rattle.std.specs.Prelude.{◌≡◌, true, ◌*◌, length, replicate};
 ghost use Rattle.definitions.specs.Answer.{outcome, becomes};
 ghost use Rattle.definitions.specs.Literal.{all_true};

@@ -1,4 +1,6 @@
 // Synthesis: rounds that test a set of clauses against itself and weaken those that fail, until none fails.
+#![tactic(auto)]
+
 ghost use Rattle.std.specs.Prelude.{◌≡◌, ◌++◌, ◌-◌, ◌*◌, ◌≤◌, length, take, drop, replicate};
 ghost use Rattle.definitions.specs.Answer.{outcome, refused};
 ghost use Rattle.answer.specs.Answer.{refusal_at};
@@ -18,7 +20,7 @@ use clause_set::Built;
 pub mod first; // first.rt: the first set
 
 // The answer of a synthesis.
-#[derive(Drop)]
+#[derive(Clone, Copy)]
 pub enum Synthesis {
     // The numbers of rows and of rounds.
     Found(usize, usize),
@@ -26,7 +28,7 @@ pub enum Synthesis {
 }
 
 // How the rounds end.
-#[derive(Drop)]
+#[derive(Clone, Copy)]
 pub enum End {
     // No clause fails.
     Finished,
@@ -37,7 +39,7 @@ pub enum End {
 }
 
 // What a round comes to.
-#[derive(Drop)]
+#[derive(Clone, Copy)]
 pub enum Step {
     Ended(End),
     // The number of rows of the next set.

@@ -89,7 +89,7 @@ pub fn check(block: &[u16], atoms: usize, i: usize) -> Verdict
 }
 
 // Where the precondition of a block ends, and its number of rows, which begin after the word at that end.
-#[derive(Drop)]
+#[derive(Clone, Copy)]
 pub struct BlockHead {
     pub end: usize,
     pub rows: usize,
@@ -107,7 +107,7 @@ pub fn head(block: &[u16]) -> BlockHead
 }
 
 // A row of a block: its effect, and where its conditions begin and end. The next row begins at their end.
-#[derive(Drop)]
+#[derive(Clone, Copy)]
 pub struct RowPart {
     pub effect: usize,
     pub from: usize,

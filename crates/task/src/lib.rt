@@ -1,4 +1,6 @@
 // Reading of a task image (questions 1 to 7), and access to the parts of an image that reads as a task.
+#![tactic(auto)]
+
 ghost use Rattle.std.specs.Prelude.{◌≡◌, true, ◌≤◌, ◌<◌, length};
 ghost use Rattle.definitions.specs.Answer.{verdict};
 ghost use Rattle.definitions.specs.Literal.{most_atoms};

@@ -1,4 +1,6 @@
 // Numbers and fields of lines as bytes, written into a lent buffer from a place on. Each function that writes gives the place after the bytes that it wrote.
+#![tactic(auto)]
+
 ghost use Rattle.std.specs.Prelude.{◌≡◌, ◌∷◌, ◌++◌, ◌+◌, ◌%◌, ◌≤◌, ◌<◌, length, drop};
 ghost use Rattle.definitions.specs.Text.{decimal};
 ghost use Rattle.writing.specs.Writing.{Wrote};

@@ -1,5 +1,7 @@
 // Asking first and committing later (document 02 §8): a ticket says that a step can be made; its commit makes the step, if nothing was
 // committed since. A state is lent together with its commit count.
+#![tactic(auto)]
+
 ghost use Rattle.std.specs.Prelude.{◌≡◌};
 ghost use Rattle.definitions.specs.Answer.{outcome, becomes};
 ghost use Rattle.definitions.specs.Ticket.{ask_task, ticket_valid, commit, commit_task};
@@ -14,14 +16,14 @@ use answer::{Refusal, Verdict};
 pub const LAST_COUNT: u16 = 65535;
 
 // A commit count and an operator.
-#[derive(Drop)]
+#[derive(Clone, Copy)]
 pub struct Ticket {
     pub count: u16,
     pub operator: u16,
 }
 
 // The answer of an ask.
-#[derive(Drop)]
+#[derive(Clone, Copy)]
 pub enum Asked {
     Given(Ticket),
     Refused(Refusal),

@@ -1,4 +1,6 @@
 // A test program: asks and commits, over the cases of standard input (the file stdin; stdout is what they must answer).
+#![tactic(auto)]
+
 fn main() {
     cases::run();
 }

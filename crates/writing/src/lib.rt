@@ -1,4 +1,6 @@
 // Words and bytes written into a lent buffer, from a place on. Each function gives the place after what it wrote.
+#![tactic(auto)]
+
 ghost use Rattle.std.specs.Prelude.{◌≡◌, [], ◌∷◌, ◌+◌, ◌*◌, ◌≤◌, ◌<◌, length};
 ghost use Rattle.definitions.specs.Card.{words_of};
 ghost use Rattle.writing.specs.Writing.{Wrote};
