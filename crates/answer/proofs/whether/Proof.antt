@@ -4,11 +4,13 @@ use Rattle.definitions.specs.Answer.{finding}
 use Rattle.answer.proofs.whether.Statement.{statement}
 use Rattle.answer.proofs.whether.Tie as tie
 
-returns : tie.Need-returns
-returns c = ap finding (sym c.if1.true)
+returns : tie.Need-returns-then-holds
+returns c = ap finding (sym c.if-holds.true)
 
-returns-2 : tie.Need-returns-2
-returns-2 c = ap finding (sym c.if1.false)
+returns-2 : tie.Need-returns-else-holds
+returns-2 c = ap finding (sym c.if-holds.false)
 
-pub whether-spec : {M : Type 1} → statement M
-whether-spec = tie.close (tie.spec returns returns-2)
+pub whether_spec : {M : Type 1} → statement M
+whether_spec = tie.close (tie.spec
+    returns
+    returns-2)

@@ -11,52 +11,52 @@ use borrow.Author.Rules.{rules}
 use Rattle.literal.proofs.all_true.Statement.{statement}
 use Rattle.literal.proofs.all_true.Tie as tie
 
-abbrev invariant-loop : tie.invariant-loop
+abbrev invariant-loop : tie.invariant-loop-i
 invariant-loop state literals i₀ i = (i ≤ length literals) × (all_true state literals ≡ all (true_in state) (drop i literals))
 
-abbrev decreases-loop : tie.decreases-loop
+abbrev decreases-loop : tie.decreases-loop-i
 decreases-loop state literals i₀ i = length literals - i
 
-loop-holds : tie.Need-loop-init invariant-loop decreases-loop
+loop-holds : tie.Need-loop-i-init invariant-loop decreases-loop
 unfolding all_true
 loop-holds c = (omega arith, refl)
 
 -- in the loop, after the test of its literal
-abbrev at : tie.After-is-true invariant-loop decreases-loop → tie.In-loop invariant-loop decreases-loop
+abbrev at : tie.After-is_true invariant-loop decreases-loop → tie.In-loop-i invariant-loop decreases-loop
 at c = c.before.before
 
-mul-l : tie.Need-overflow-mul-l invariant-loop decreases-loop
+mul-l : tie.Need-offset_bounds-literals-i invariant-loop decreases-loop
 mul-l c = search rules
 
-shared-slice-read-l : tie.Need-shared-slice-read-l invariant-loop decreases-loop
+shared-slice-read-l : tie.Need-bounds-literals-i invariant-loop decreases-loop
 shared-slice-read-l c = search rules
 
-is-true-requires : tie.Need-is-true-requires invariant-loop decreases-loop
+is-true-requires : tie.Need-is_true-requires invariant-loop decreases-loop
 is-true-requires c κs = search rules
 
-returns : tie.Need-returns invariant-loop decreases-loop
+returns : tie.Need-returns-then-not-is_true invariant-loop decreases-loop
 returns c =
     let w = at c.before in
-    let false = sym c.before.is_true.ensures ∙ not-true _ c.if1.true in
-    sym (w.before.loop.inv.1 ∙ all_off _ _ 0 _ refl w.loop-test.taken (true_in _) false)
+    let false = sym c.before.is_true.ensures ∙ not-true _ c.if-not-is_true.true in
+    sym (w.before.loop-i.invariant.1 ∙ all_off _ _ 0 _ refl w.loop-i-test.true (true_in _) false)
 
-add-i : tie.Need-overflow-add-i invariant-loop decreases-loop
+add-i : tie.Need-overflow_add-i invariant-loop decreases-loop
 add-i c = search rules
 
-loop-less : tie.Need-loop-smaller invariant-loop decreases-loop
+loop-less : tie.Need-loop-i-smaller invariant-loop decreases-loop
 loop-less c = search rules
 
-loop-again : tie.Need-loop-preserved invariant-loop decreases-loop
+loop-again : tie.Need-loop-i-preserved invariant-loop decreases-loop
 loop-again c =
     let w = at c.before in
-    let true = sym c.before.is_true.ensures ∙ not-false _ c.if1.false in
-    (omega arith, w.before.loop.inv.1 ∙ all_on _ _ 0 _ refl w.loop-test.taken (true_in _) true)
+    let true = sym c.before.is_true.ensures ∙ not-false _ c.if-not-is_true.false in
+    (omega arith, w.before.loop-i.invariant.1 ∙ all_on _ _ 0 _ refl w.loop-i-test.true (true_in _) true)
 
-returns-2 : tie.Need-returns-2 invariant-loop decreases-loop
-returns-2 c = sym (c.before.loop.invariant.1 ∙ all_end (true_in _) _ _ c.loop-test.false)
+returns-2 : tie.Need-returns invariant-loop decreases-loop
+returns-2 c = sym (c.before.loop-i.invariant.1 ∙ all_end (true_in _) _ _ c.loop-i-test.false)
 
-pub all-true-spec : {M : Type 1} → statement M
-all-true-spec =
+pub all_true_spec : {M : Type 1} → statement M
+all_true_spec =
     tie.close
     (tie.spec
     invariant-loop

@@ -11,54 +11,54 @@ use borrow.Author.Rules.{rules}
 use Rattle.literal.proofs.is_atom_list.Statement.{statement}
 use Rattle.literal.proofs.is_atom_list.Tie as tie
 
-abbrev invariant-loop : tie.invariant-loop
+abbrev invariant-loop : tie.invariant-loop-i
 invariant-loop xs n from₀ i₀ from i = (i ≤ length xs) × ((ascending xs && all_below n xs) ≡ ascends next_atom n from (drop i xs))
 
-abbrev decreases-loop : tie.decreases-loop
+abbrev decreases-loop : tie.decreases-loop-i
 decreases-loop xs n from₀ i₀ from i = length xs - i
 
 -- where a word is read: the turn
-abbrev turn : tie.After-wide invariant-loop decreases-loop → tie.In-loop invariant-loop decreases-loop
+abbrev turn : tie.After-wide-x invariant-loop decreases-loop → tie.In-loop-i invariant-loop decreases-loop
 turn c = c.before.before
 
-loop-holds : tie.Need-loop-init invariant-loop decreases-loop
+loop-holds : tie.Need-loop-i-init invariant-loop decreases-loop
 loop-holds c = (omega arith, atoms_ascend _ _)
 
-mul_wide : tie.Need-overflow-mul-wide invariant-loop decreases-loop
+mul_wide : tie.Need-offset_bounds-words-i invariant-loop decreases-loop
 mul_wide c = search rules
 
-shared-slice-read-wide : tie.Need-shared-slice-read-wide invariant-loop decreases-loop
+shared-slice-read-wide : tie.Need-bounds-words-i invariant-loop decreases-loop
 shared-slice-read-wide c = search rules
 
-wide-requires : tie.Need-wide-requires invariant-loop decreases-loop
+wide-requires : tie.Need-wide-x-requires invariant-loop decreases-loop
 wide-requires c κs = search rules
 
-returns : tie.Need-returns invariant-loop decreases-loop
+returns : tie.Need-returns-then-x-from invariant-loop decreases-loop
 returns c =
     let w = c.before in
     let t = turn w in
-    sym (t.before.loop.inv.1 ∙ ascends_low _ _ _ _ _ _ w.wide.ensures.0 t.loop-test.taken c.if1.true)
+    sym (t.before.loop-i.invariant.1 ∙ ascends_low _ _ _ _ _ _ w.wide-x.ensures.0 t.loop-i-test.true c.if-x-from.true)
 
-add-from : tie.Need-overflow-add-from invariant-loop decreases-loop
+add-from : tie.Need-overflow_add-from invariant-loop decreases-loop
 add-from c = search rules
 
-add-i : tie.Need-overflow-add-i invariant-loop decreases-loop
+add-i : tie.Need-overflow_add-i invariant-loop decreases-loop
 add-i c = search rules
 
-loop-less : tie.Need-loop-smaller invariant-loop decreases-loop
+loop-less : tie.Need-loop-i-smaller invariant-loop decreases-loop
 loop-less c = search rules
 
-loop-again : tie.Need-loop-preserved invariant-loop decreases-loop
+loop-again : tie.Need-loop-i-preserved invariant-loop decreases-loop
 loop-again c =
     let w = c.before in
     let t = turn w in
-    (search rules, t.before.loop.inv.1 ∙ ascends_on _ _ _ _ _ _ w.wide.ensures.0 t.loop-test.taken c.if1.false)
+    (search rules, t.before.loop-i.invariant.1 ∙ ascends_on _ _ _ _ _ _ w.wide-x.ensures.0 t.loop-i-test.true c.if-x-from.false)
 
-returns-2 : tie.Need-returns-2 invariant-loop decreases-loop
-returns-2 c = sym (c.before.loop.invariant.1 ∙ ascends_end _ _ _ _ _ c.loop-test.false)
+returns-2 : tie.Need-returns invariant-loop decreases-loop
+returns-2 c = sym (c.before.loop-i.invariant.1 ∙ ascends_end _ _ _ _ _ c.loop-i-test.false)
 
-pub is-atom-list-spec : {M : Type 1} → statement M
-is-atom-list-spec =
+pub is_atom_list_spec : {M : Type 1} → statement M
+is_atom_list_spec =
     tie.close
     (tie.spec
     invariant-loop

@@ -13,45 +13,45 @@ use borrow.Author.Rules.{rules}
 use Rattle.literal.proofs.is_state.Statement.{statement}
 use Rattle.literal.proofs.is_state.Tie as tie
 
-abbrev invariant-loop : tie.invariant-loop
+abbrev invariant-loop : tie.invariant-loop-a
 invariant-loop state atoms a₀ a = (a ≤ length state) × (is_state atoms state ≡ all (λ x. ltb x 2) (drop a state))
 
-abbrev decreases-loop : tie.decreases-loop
+abbrev decreases-loop : tie.decreases-loop-a
 decreases-loop state atoms a₀ a = length state - a
 
-returns : tie.Need-returns invariant-loop decreases-loop
-returns c = state_long _ _ c.if1.true
+returns : tie.Need-returns-then-state-atoms invariant-loop decreases-loop
+returns c = state_long _ _ c.if-state-atoms.true
 
-loop-holds : tie.Need-loop-init invariant-loop decreases-loop
-loop-holds c = (omega arith, state_bytes _ _ c.if1.false)
+loop-holds : tie.Need-loop-a-init invariant-loop decreases-loop
+loop-holds c = (omega arith, state_bytes _ _ c.if-state-atoms.false)
 
-shared-slice-read-if2 : tie.Need-shared-slice-read-if2 invariant-loop decreases-loop
+shared-slice-read-if2 : tie.Need-bounds-state-a invariant-loop decreases-loop
 shared-slice-read-if2 c = search rules
 
-returns-2 : tie.Need-returns-2 invariant-loop decreases-loop
+returns-2 : tie.Need-returns-then-state-a-ge2 invariant-loop decreases-loop
 returns-2 c =
     sym
-    (c.before.before.before.loop.invariant.1
-    ∙ all_off _ c.before.before.before.loop.a 0 _ refl c.before.before.loop-test.true (λ x. ltb x 2) (le-ltb _ 2 c.if2.true))
+    (c.before.before.before.loop-a.invariant.1
+    ∙ all_off _ c.before.before.before.loop-a.a 0 _ refl c.before.before.loop-a-test.true (λ x. ltb x 2) (le-ltb _ 2 c.if-state-a-ge2.true))
 
-add_a : tie.Need-overflow-add-a invariant-loop decreases-loop
+add_a : tie.Need-overflow_add-a invariant-loop decreases-loop
 add_a c = search rules
 
-loop-less : tie.Need-loop-smaller invariant-loop decreases-loop
+loop-less : tie.Need-loop-a-smaller invariant-loop decreases-loop
 loop-less c = search rules
 
-loop-again : tie.Need-loop-preserved invariant-loop decreases-loop
+loop-again : tie.Need-loop-a-preserved invariant-loop decreases-loop
 loop-again c = (
   omega arith,
-  c.before.before.before.loop.invariant.1
-      ∙ all_on _ c.before.before.before.loop.a 0 _ refl c.before.before.loop-test.true (λ x. ltb x 2) (lt-ltb _ 2 c.if2.false),
+  c.before.before.before.loop-a.invariant.1
+      ∙ all_on _ c.before.before.before.loop-a.a 0 _ refl c.before.before.loop-a-test.true (λ x. ltb x 2) (lt-ltb _ 2 c.if-state-a-ge2.false),
 )
 
-returns-3 : tie.Need-returns-3 invariant-loop decreases-loop
-returns-3 c = sym (c.before.loop.invariant.1 ∙ all_end (λ x. ltb x 2) _ _ c.loop-test.false)
+returns-3 : tie.Need-returns invariant-loop decreases-loop
+returns-3 c = sym (c.before.loop-a.invariant.1 ∙ all_end (λ x. ltb x 2) _ _ c.loop-a-test.false)
 
-pub is-state-spec : {M : Type 1} → statement M
-is-state-spec =
+pub is_state_spec : {M : Type 1} → statement M
+is_state_spec =
     tie.close
     (tie.spec
     invariant-loop

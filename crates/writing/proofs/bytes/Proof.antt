@@ -7,53 +7,53 @@ use borrow.Author.Rules.{rules}
 use Rattle.writing.proofs.bytes.Statement.{statement}
 use Rattle.writing.proofs.bytes.Tie as tie
 
-abbrev invariant-loop : tie.invariant-loop
+abbrev invariant-loop : tie.invariant-loop-i
 invariant-loop bytes target₀ at to₀ i₀ target to i = Copying bytes target₀ at target to i
 
-abbrev decreases-loop : tie.decreases-loop
+abbrev decreases-loop : tie.decreases-loop-i
 decreases-loop bytes target₀ at to₀ i₀ target to i = length bytes - i
 
 abbrev test : Type 0
-test = tie.At-loop invariant-loop decreases-loop
+test = tie.At-loop-i invariant-loop decreases-loop
 
-abbrev step : tie.After-shared-slice-known invariant-loop decreases-loop → test
+abbrev step : tie.After-shared_slice_known-1 invariant-loop decreases-loop → test
 step c = c.before.before
 
-room : (l : test) → l.loop.to + (length l.before.args.bytes.now - l.loop.i) ≤ length l.loop.target
-room l = copy_room l.loop.inv l.before.pre
+room : (l : test) → l.loop-i.to + (length l.before.args.bytes.now - l.loop-i.i) ≤ length l.loop-i.target
+room l = copy_room l.loop-i.invariant l.before.requires
 
-same_size : (l : test) → length l.loop.target ≡ length l.before.args.target.now
-same_size l = l.loop.inv.left.size
+same_size : (l : test) → length l.loop-i.target ≡ length l.before.args.target.now
+same_size l = l.loop-i.invariant.left.size
 
-loop-holds : tie.Need-loop-init invariant-loop decreases-loop
+loop-holds : tie.Need-loop-i-init invariant-loop decreases-loop
 loop-holds c = copy_start
 
-shared-slice-read-target : tie.Need-shared-slice-read-target invariant-loop decreases-loop
+shared-slice-read-target : tie.Need-bounds-bytes-i invariant-loop decreases-loop
 shared-slice-read-target c = search rules
 
-slice-write-target : tie.Need-slice-write-target invariant-loop decreases-loop
+slice-write-target : tie.Need-bounds-target-to invariant-loop decreases-loop
 slice-write-target c = omega (arith, room (step c))
 
-add-to : tie.Need-overflow-add-to invariant-loop decreases-loop
+add-to : tie.Need-overflow_add-to invariant-loop decreases-loop
 add-to c = omega (arith, room (step c), same_size (step c))
 
-add-i : tie.Need-overflow-add-i invariant-loop decreases-loop
+add-i : tie.Need-overflow_add-i invariant-loop decreases-loop
 add-i c = search rules
 
-loop-less : tie.Need-loop-smaller invariant-loop decreases-loop
+loop-less : tie.Need-loop-i-smaller invariant-loop decreases-loop
 loop-less c = search rules
 
-loop-again : tie.Need-loop-preserved invariant-loop decreases-loop
-loop-again c = copy_next (step c).loop.invariant c.before.loop-test.true
+loop-again : tie.Need-loop-i-preserved invariant-loop decreases-loop
+loop-again c = copy_next (step c).loop-i.invariant c.before.loop-i-test.true
 
-same_length : tie.Need-same-length invariant-loop decreases-loop
+same_length : tie.Need-shape_of-target invariant-loop decreases-loop
 same_length c = same_size c.before
 
 returns : tie.Need-returns invariant-loop decreases-loop
-returns c = copy_done c.before.loop.invariant c.loop-test.false
+returns c = copy_done c.before.loop-i.invariant c.loop-i-test.false
 
-pub bytes-spec : {M : Type 1} → statement M
-bytes-spec =
+pub bytes_spec : {M : Type 1} → statement M
+bytes_spec =
     tie.close
     (tie.spec
     invariant-loop

@@ -11,5 +11,7 @@ returns : tie.Need-returns
 unfolding atom
 returns c = c.wide.ensures.0
 
-pub atom-spec : {M : Type 1} → statement M
-atom-spec = tie.close (tie.spec wide-requires returns)
+pub atom_spec : {M : Type 1} → statement M
+atom_spec = tie.close (tie.spec
+    wide-requires
+    returns)

@@ -7,5 +7,6 @@ use Rattle.literal.proofs.Literal.complement.Tie as tie
 returns : tie.Need-returns
 returns c = flipped _
 
-pub complement-spec : {M : Type 1} → statement M
-complement-spec = tie.close (tie.spec returns)
+pub complement_spec : {M : Type 1} → statement M
+complement_spec = tie.close (tie.spec
+    returns)

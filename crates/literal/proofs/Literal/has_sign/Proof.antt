@@ -6,12 +6,14 @@ use borrow.Author.Rules.{rules}
 use Rattle.literal.proofs.Literal.has_sign.Statement.{statement}
 use Rattle.literal.proofs.Literal.has_sign.Tie as tie
 
-is-positive-requires : tie.Need-is-positive-requires
+is-positive-requires : tie.Need-is_positive-requires
 is-positive-requires c κs = search rules
 
 returns : tie.Need-returns
 unfolding has_sign
 returns c = ap (λ (b : Bool). beq b c.before.args.positive) c.is_positive.ensures
 
-pub has-sign-spec : {M : Type 1} → statement M
-has-sign-spec = tie.close (tie.spec is-positive-requires returns)
+pub has_sign_spec : {M : Type 1} → statement M
+has_sign_spec = tie.close (tie.spec
+    is-positive-requires
+    returns)

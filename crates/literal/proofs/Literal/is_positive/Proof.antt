@@ -8,5 +8,6 @@ returns : tie.Need-returns
 unfolding positive
 returns c = search rules
 
-pub is-positive-spec : {M : Type 1} → statement M
-is-positive-spec = tie.close (tie.spec returns)
+pub is_positive_spec : {M : Type 1} → statement M
+is_positive_spec = tie.close (tie.spec
+    returns)

@@ -3,13 +3,15 @@ use Rattle.definitions.specs.Closure.{bit}
 use Rattle.literal.proofs.flags.byte.Statement.{statement}
 use Rattle.literal.proofs.flags.byte.Tie as tie
 
-returns : tie.Need-returns
+returns : tie.Need-returns-then-b
 unfolding bit
-returns c = ap bit (sym c.if1.true)
+returns c = ap bit (sym c.if-b.true)
 
-returns-2 : tie.Need-returns-2
+returns-2 : tie.Need-returns-else-b
 unfolding bit
-returns-2 c = ap bit (sym c.if1.false)
+returns-2 c = ap bit (sym c.if-b.false)
 
-pub byte-spec : {M : Type 1} → statement M
-byte-spec = tie.close (tie.spec returns returns-2)
+pub byte_spec : {M : Type 1} → statement M
+byte_spec = tie.close (tie.spec
+    returns
+    returns-2)

@@ -6,14 +6,17 @@ use borrow.Author.Rules.{rules}
 use Rattle.literal.proofs.flags.is_zero.Statement.{statement}
 use Rattle.literal.proofs.flags.is_zero.Tie as tie
 
-shared-slice-read-result : tie.Need-shared-slice-read-result
+shared-slice-read-result : tie.Need-bounds-flags-i
 shared-slice-read-result c = search rules
 
-returns : tie.Need-returns
-returns c = rw (lt-ltb c.before.before.args.i (length c.before.before.args.flags.now) c.before.if1.true)
+returns : tie.Need-returns-then-i-flags
+returns c = rw (lt-ltb c.before.before.args.i (length c.before.before.args.flags.now) c.before.if-i-flags.true)
 
-returns-2 : tie.Need-returns-2
-returns-2 c = rw (le-ltb c.before.args.i (length c.before.args.flags.now) c.if1.false)
+returns-2 : tie.Need-returns-else-i-flags
+returns-2 c = rw (le-ltb c.before.args.i (length c.before.args.flags.now) c.if-i-flags.false)
 
-pub is-zero-spec : {M : Type 1} → statement M
-is-zero-spec = tie.close (tie.spec shared-slice-read-result returns returns-2)
+pub is_zero_spec : {M : Type 1} → statement M
+is_zero_spec = tie.close (tie.spec
+    shared-slice-read-result
+    returns
+    returns-2)

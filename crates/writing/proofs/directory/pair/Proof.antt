@@ -6,31 +6,31 @@ use borrow.Author.Rules.{rules}
 use Rattle.writing.proofs.directory.pair.Statement.{statement}
 use Rattle.writing.proofs.directory.pair.Tie as tie
 
-cast-target : tie.Need-overflow-cast-target
+cast-target : tie.Need-overflow_cast-target
 cast-target c = search rules
 
-mul-target : tie.Need-overflow-mul-target
+mul-target : tie.Need-offset_bounds-target-at
 mul-target c = search rules
 
-slice-write-target : tie.Need-slice-write-target
+slice-write-target : tie.Need-bounds-target-at
 slice-write-target c = search rules
 
-cast-target-2 : tie.Need-overflow-cast-target-2
+cast-target-2 : tie.Need-overflow_cast-target-2
 cast-target-2 c = search rules
 
-add-target : tie.Need-overflow-add-target
+add-target : tie.Need-overflow_add-target
 add-target c = search rules
 
-mul-target-2 : tie.Need-overflow-mul-target-2
+mul-target-2 : tie.Need-offset_bounds-target-at-2
 mul-target-2 c = search rules
 
-slice-write-target-2 : tie.Need-slice-write-target-2
+slice-write-target-2 : tie.Need-bounds-target-at-2
 slice-write-target-2 c = simp length-set (omega (arith, c.requires.2))
 
-add-result : tie.Need-overflow-add-result
+add-result : tie.Need-overflow_add-result
 add-result c = search rules
 
-same_length : tie.Need-same-length
+same_length : tie.Need-shape_of-target
 same_length c = search rules
 
 returns : tie.Need-returns
