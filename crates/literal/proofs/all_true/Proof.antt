@@ -37,7 +37,7 @@ is-true-requires c κs = search rules
 returns : tie.Need-returns-then-not-is_true invariant-loop decreases-loop
 returns c =
     let w = at c.before in
-    let false = sym c.before.is_true.ensures ∙ not-true _ c.if-not-is_true.true in
+    let false = sym c.before.is_true.ensures ∙ c.if-not-is_true.true in
     sym (w.before.loop-i.invariant.1 ∙ all_off _ _ 0 _ refl w.loop-i-test.true (true_in _) false)
 
 add-i : tie.Need-overflow_add-i invariant-loop decreases-loop
@@ -49,7 +49,7 @@ loop-less c = search rules
 loop-again : tie.Need-loop-i-preserved invariant-loop decreases-loop
 loop-again c =
     let w = at c.before in
-    let true = sym c.before.is_true.ensures ∙ not-false _ c.if-not-is_true.false in
+    let true = sym c.before.is_true.ensures ∙ c.if-not-is_true.false in
     (omega arith, w.before.loop-i.invariant.1 ∙ all_on _ _ 0 _ refl w.loop-i-test.true (true_in _) true)
 
 returns-2 : tie.Need-returns invariant-loop decreases-loop
