@@ -11,76 +11,76 @@ use borrow.Author.Rules.{rules}
 use Rattle.task.proofs.check_operators.Statement.{statement}
 use Rattle.task.proofs.check_operators.Tie as tie
 
-abbrev invariant-loop : tie.invariant-loop
+abbrev invariant-loop : tie.invariant-loop-i
 invariant-loop image atoms operators i₀ i =
     (i ≤ operators) × (verdict (read_operators atoms image 0 operators) ≡ verdict (read_operators atoms image i (operators - i)))
 
-abbrev decreases-loop : tie.decreases-loop
+abbrev decreases-loop : tie.decreases-loop-i
 decreases-loop image atoms operators i₀ i = operators - i
 
 -- where an operator was checked: the loop, and the start
-abbrev loop_of : tie.After-check invariant-loop decreases-loop → tie.At-loop invariant-loop decreases-loop
+abbrev loop_of : tie.After-check-checked invariant-loop decreases-loop → tie.At-loop-i invariant-loop decreases-loop
 loop_of c = c.before.before.before
 
-abbrev start : tie.At-loop invariant-loop decreases-loop → tie.Start invariant-loop decreases-loop
+abbrev start : tie.At-loop-i invariant-loop decreases-loop → tie.Start invariant-loop decreases-loop
 start c = c.before.before
 
-loop-holds : tie.Need-loop-init invariant-loop decreases-loop
+loop-holds : tie.Need-loop-i-init invariant-loop decreases-loop
 loop-holds c =
     let m = c.before.args.operators in
     let z : m - 0 ≡ m = omega arith in
     (omega arith, rw z)
 
-add-part : tie.Need-overflow-add-part invariant-loop decreases-loop
+add-part : tie.Need-overflow_add-i invariant-loop decreases-loop
 add-part c = search rules
 
 part-requires : tie.Need-part-requires invariant-loop decreases-loop
-part-requires c κs = directory_lies _ _ _ (start c.before).pre.directory (omega arith)
+part-requires c κs = directory_lies _ _ _ (start c.before).requires.directory (omega arith)
 
-check-requires : tie.Need-check-requires invariant-loop decreases-loop
-check-requires c κs = (start c.before.before).pre.few
+check-requires : tie.Need-check-checked-requires invariant-loop decreases-loop
+check-requires c κs = (start c.before.before).requires.few
 
-enum-known-checked : tie.Need-enum-known-checked invariant-loop decreases-loop
+enum-known-checked : tie.Need-enum_known-checked invariant-loop decreases-loop
 enum-known-checked c = search rules
 
-returns : tie.Need-returns invariant-loop decreases-loop
+returns : tie.Need-returns-in-Refused invariant-loop decreases-loop
 returns c =
     let k = c.before.before.before in
     let l = loop_of k in
     let s = (start l).args in
-    let f = c.before.checked.given in
-    operators_refused s.atoms s.image.now _ l.loop.i (s.operators - l.loop.i) (s.operators - (l.loop.i + 1)) (omega arith)
-    k.before.part.ensures (placed f.0.0) (ap verdict_answer (sym f.1) ∙ k.check.ensures)
-    ∙ sym l.loop.inv.1
+    let f = c.before.checked-1.given in
+    operators_refused s.atoms s.image.now _ l.loop-i.i (s.operators - l.loop-i.i) (s.operators - (l.loop-i.i + 1)) (omega arith)
+    k.before.part.ensures (placed f.0.0) (ap verdict_answer (sym f.1) ∙ k.check-checked.ensures)
+    ∙ sym l.loop-i.invariant.1
 
-enum_told : tie.Need-enum-told invariant-loop decreases-loop
+enum_told : tie.Need-enum_told-1 invariant-loop decreases-loop
 enum_told c = search rules
 
-add-i : tie.Need-overflow-add-i invariant-loop decreases-loop
+add-i : tie.Need-overflow_add-i-in-loop-i invariant-loop decreases-loop
 add-i c = search rules
 
-loop-less : tie.Need-loop-smaller invariant-loop decreases-loop
+loop-less : tie.Need-loop-i-smaller invariant-loop decreases-loop
 loop-less c = search rules
 
-loop-again : tie.Need-loop-preserved invariant-loop decreases-loop
+loop-again : tie.Need-loop-i-preserved invariant-loop decreases-loop
 loop-again c =
     let k = c.before.before in
     let l = loop_of k in
     let s = (start l).args in (
       omega arith,
-      l.loop.inv.1
-          ∙ operators_on s.atoms s.image.now _ l.loop.i (s.operators - l.loop.i) (s.operators - (l.loop.i + 1)) (omega arith)
-          k.before.part.ensures (ap verdict_answer (sym c.enum_told.given.1) ∙ k.check.ensures),
+      l.loop-i.invariant.1
+          ∙ operators_on s.atoms s.image.now _ l.loop-i.i (s.operators - l.loop-i.i) (s.operators - (l.loop-i.i + 1)) (omega arith)
+          k.before.part.ensures (ap verdict_answer (sym c.enum_told-1.given.1) ∙ k.check-checked.ensures),
     )
 
-returns-2 : tie.Need-returns-2 invariant-loop decreases-loop
+returns-2 : tie.Need-returns invariant-loop decreases-loop
 returns-2 c =
     let l = c.before in
     let s = (start l).args in
-    operators_end s.atoms s.image.now l.loop.i (s.operators - l.loop.i) (omega arith) ∙ sym l.loop.invariant.1
+    operators_end s.atoms s.image.now l.loop-i.i (s.operators - l.loop-i.i) (omega arith) ∙ sym l.loop-i.invariant.1
 
-pub check-operators-spec : {M : Type 1} → statement M
-check-operators-spec =
+pub check_operators_spec : {M : Type 1} → statement M
+check_operators_spec =
     tie.close
     (tie.spec
     invariant-loop

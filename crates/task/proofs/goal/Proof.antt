@@ -12,5 +12,7 @@ part-requires c κs = directory_lies _ _ _ (task_read _ c.before.requires).direc
 returns : tie.Need-returns
 returns c = c.part.ensures ∙ sym (task_read _ c.before.before.requires).goal
 
-pub goal-spec : {M : Type 1} → statement M
-goal-spec = tie.close (tie.spec part-requires returns)
+pub goal_spec : {M : Type 1} → statement M
+goal_spec = tie.close (tie.spec
+    part-requires
+    returns)

@@ -12,5 +12,7 @@ part-requires c κs = directory_lies _ _ _ (task_read _ c.before.requires).direc
 returns : tie.Need-returns
 returns c = c.part.ensures ∙ sym (task_read _ c.before.before.requires).initial
 
-pub initial-spec : {M : Type 1} → statement M
-initial-spec = tie.close (tie.spec part-requires returns)
+pub initial_spec : {M : Type 1} → statement M
+initial_spec = tie.close (tie.spec
+    part-requires
+    returns)

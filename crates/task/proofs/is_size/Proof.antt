@@ -3,11 +3,13 @@ use borrow.Author.Rules.{rules}
 use Rattle.task.proofs.is_size.Statement.{statement}
 use Rattle.task.proofs.is_size.Tie as tie
 
-returns : tie.Need-returns
-returns c = size_small _ c.if1.true
+returns : tie.Need-returns-then-image-lt6
+returns c = size_small _ c.if-image-lt6.true
 
-returns-2 : tie.Need-returns-2
-returns-2 c = size_rest _ c.if1.false
+returns-2 : tie.Need-returns
+returns-2 c = size_rest _ c.if-image-lt6.false
 
-pub is-size-spec : {M : Type 1} → statement M
-is-size-spec = tie.close (tie.spec returns returns-2)
+pub is_size_spec : {M : Type 1} → statement M
+is_size_spec = tie.close (tie.spec
+    returns
+    returns-2)

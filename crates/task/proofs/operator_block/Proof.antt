@@ -10,7 +10,7 @@ use borrow.Author.Rules.{rules}
 use Rattle.task.proofs.operator_block.Statement.{statement}
 use Rattle.task.proofs.operator_block.Tie as tie
 
-add-part : tie.Need-overflow-add-part
+add-part : tie.Need-overflow_add-i
 add-part c = omega (arith, (task_read _ c.before.requires.0).few_operators, c.before.requires.1)
 
 part-requires : tie.Need-part-requires
@@ -23,5 +23,8 @@ returns c =
     subst (λ (b : List ℕ). BlockGiven b (task_of s.args.image.now) s.args.i) (sym c.part.ensures)
     (block_given s.args.image.now s.requires.0 s.args.i s.requires.1)
 
-pub operator-block-spec : {M : Type 1} → statement M
-operator-block-spec = tie.close (tie.spec add-part part-requires returns)
+pub operator_block_spec : {M : Type 1} → statement M
+operator_block_spec = tie.close (tie.spec
+    add-part
+    part-requires
+    returns)

@@ -5,7 +5,7 @@ use borrow.Author.Rules.{rules}
 use Rattle.task.proofs.operators.Statement.{statement}
 use Rattle.task.proofs.operators.Tie as tie
 
-shared-slice-read-wide : tie.Need-shared-slice-read-wide
+shared-slice-read-wide : tie.Need-bounds-image-1
 shared-slice-read-wide c = omega (arith, (task_read _ c.before.before.requires).room)
 
 wide-requires : tie.Need-wide-requires
@@ -16,5 +16,8 @@ returns c =
     let t = task_read _ c.before.before.before.requires in
     (c.wide.ensures.0 ∙ sym t.count, omega (arith, c.wide.ensures.0))
 
-pub operators-spec : {M : Type 1} → statement M
-operators-spec = tie.close (tie.spec shared-slice-read-wide wide-requires returns)
+pub operators_spec : {M : Type 1} → statement M
+operators_spec = tie.close (tie.spec
+    shared-slice-read-wide
+    wide-requires
+    returns)

@@ -14,64 +14,64 @@ use borrow.Author.Rules.{rules}
 use Rattle.task.proofs.read_lists.Statement.{statement}
 use Rattle.task.proofs.read_lists.Tie as tie
 
-abbrev start : tie.After-is-atom-list → tie.Start
+abbrev start : tie.After-is_atom_list → tie.Start
 start c = c.before.before.before
 
 -- the tests of the lists, by the parts of the image
 initial_is :
-    (c : tie.After-is-atom-list) → let s = (start c).args in let p = part s.image.now 0 in
-    (ascending p && all_below s.atoms p) ≡ c.is-atom-list.result
+    (c : tie.After-is_atom_list) → let s = (start c).args in let p = part s.image.now 0 in
+    (ascending p && all_below s.atoms p) ≡ c.is_atom_list.result
 initial_is c =
-    ap (λ (p : List ℕ). ascending p && all_below (start c).args.atoms p) (sym c.before.part.ensures) ∙ sym c.is-atom-list.ensures
+    ap (λ (p : List ℕ). ascending p && all_below (start c).args.atoms p) (sym c.before.part.ensures) ∙ sym c.is_atom_list.ensures
 
 -- where the initial atoms are right
-abbrev begun : tie.After-is-literal-list → tie.Else1
+abbrev begun : tie.After-is_literal_list → tie.Else-not-is_atom_list
 begun c = c.before.before
 
-begun_right : (c : tie.Else1) → let s = (start c.before).args in let p = part s.image.now 0 in (ascending p && all_below s.atoms p) ≡ true
-begun_right c = initial_is c.before ∙ not-false _ c.if1.false
+begun_right : (c : tie.Else-not-is_atom_list) → let s = (start c.before).args in let p = part s.image.now 0 in (ascending p && all_below s.atoms p) ≡ true
+begun_right c = initial_is c.before ∙ c.if-not-is_atom_list.false
 
 goal_is :
-    (c : tie.After-is-literal-list)
-    → let s = (start (begun c).before).args in literal_list s.atoms (part s.image.now 1) ≡ c.is-literal-list.result
-goal_is c = ap (literal_list (start (begun c).before).args.atoms) (sym c.before.part2.ensures) ∙ sym c.is-literal-list.ensures
+    (c : tie.After-is_literal_list)
+    → let s = (start (begun c).before).args in literal_list s.atoms (part s.image.now 1) ≡ c.is_literal_list.result
+goal_is c = ap (literal_list (start (begun c).before).args.atoms) (sym c.before.part-2.ensures) ∙ sym c.is_literal_list.ensures
 
 part-requires : tie.Need-part-requires
 part-requires c κs = directory_lies _ _ 0 c.before.requires.directory (omega arith)
 
-is-atom-list-requires : tie.Need-is-atom-list-requires
+is-atom-list-requires : tie.Need-is_atom_list-requires
 is-atom-list-requires c κs = search rules
 
 refuse-requires : tie.Need-refuse-requires
 refuse-requires c κs = search rules
 
-returns : tie.Need-returns
-returns c = c.refuse.ensures ∙ lists_4 _ _ _ (initial_is c.before.before ∙ not-true _ c.before.if1.true)
+returns : tie.Need-returns-then-not-is_atom_list
+returns c = c.refuse.ensures ∙ lists_4 _ _ _ (initial_is c.before.before ∙ c.before.if-not-is_atom_list.true)
 
 part-requires-2 : tie.Need-part-requires-2
 part-requires-2 c κs = directory_lies _ _ 1 (start c.before).requires.directory (omega arith)
 
-is-literal-list-requires : tie.Need-is-literal-list-requires
+is-literal-list-requires : tie.Need-is_literal_list-requires
 is-literal-list-requires c κs = (start c.before.before).requires.few
 
-refuse-requires-2 : tie.Need-refuse-requires-2
+refuse-requires-2 : tie.Need-refuse-requires-then-not-is_literal_list
 refuse-requires-2 c κs = search rules
 
-returns-2 : tie.Need-returns-2
+returns-2 : tie.Need-returns-then-not-is_literal_list
 returns-2 c =
     let g = c.before.before in
-    c.refuse2.ensures ∙ lists_5 _ _ _ (begun_right (begun g)) (goal_is g ∙ not-true _ c.before.if2.true)
+    c.refuse-then-not-is_literal_list.ensures ∙ lists_5 _ _ _ (begun_right (begun g)) (goal_is g ∙ c.before.if-not-is_literal_list.true)
 
-check-operators-requires : tie.Need-check-operators-requires
+check-operators-requires : tie.Need-check_operators-requires
 check-operators-requires c κs = (start (begun c.before).before).requires
 
-returns-3 : tie.Need-returns-3
+returns-3 : tie.Need-returns
 returns-3 c =
     let g = c.before.before in
-    c.check-operators.ensures ∙ lists_rest _ _ _ (begun_right (begun g)) (goal_is g ∙ not-false _ c.before.if2.false)
+    c.check_operators.ensures ∙ lists_rest _ _ _ (begun_right (begun g)) (goal_is g ∙ c.before.if-not-is_literal_list.false)
 
-pub read-lists-spec : {M : Type 1} → statement M
-read-lists-spec =
+pub read_lists_spec : {M : Type 1} → statement M
+read_lists_spec =
     tie.close
     (tie.spec
     part-requires

@@ -10,58 +10,58 @@ use borrow.Author.Rules.{rules}
 use Rattle.text.proofs.fill_digits.Statement.{statement}
 use Rattle.text.proofs.fill_digits.Tie as tie
 
-abbrev invariant-loop : tie.invariant-loop
+abbrev invariant-loop : tie.invariant-loop-i
 invariant-loop room₀ number left₀ i₀ room left i = (i ≤ 20) × (length room ≡ 20) × (decimal number ≡ digits i left (drop i room))
 
-abbrev decreases-loop : tie.decreases-loop
+abbrev decreases-loop : tie.decreases-loop-i
 decreases-loop room₀ number left₀ i₀ room left i = i
 
-loop-holds : tie.Need-loop-init invariant-loop decreases-loop
+loop-holds : tie.Need-loop-i-init invariant-loop decreases-loop
 loop-holds c = (omega arith, c.before.requires, digits_start c.before.args.room.now _ c.before.requires)
 
-sub-i : tie.Need-overflow-sub-i invariant-loop decreases-loop
+sub-i : tie.Need-overflow_sub-i invariant-loop decreases-loop
 sub-i c = search rules
 
 digit-requires : tie.Need-digit-requires invariant-loop decreases-loop
 digit-requires c κs = search rules
 
-slice-write-room : tie.Need-slice-write-room invariant-loop decreases-loop
-slice-write-room c = let l = c.before.before.loop.invariant.1 in omega arith
+slice-write-room : tie.Need-bounds-room-i invariant-loop decreases-loop
+slice-write-room c = let l = c.before.before.loop-i.invariant.1 in omega arith
 
-same_length : tie.Need-same-length invariant-loop decreases-loop
+same_length : tie.Need-shape_of-room-then-left-eq0 invariant-loop decreases-loop
 same_length c = simp length-set (omega arith)
 
-returns : tie.Need-returns invariant-loop decreases-loop
+returns : tie.Need-returns-then-left-eq0 invariant-loop decreases-loop
 returns c =
-    let l = c.before.before.before.loop in (
+    let l = c.before.before.before.loop-i in (
       sym
           (l.invariant.2
           ∙ digits_last l.room l.i (l.i - 1) l.left c.before.digit.result l.invariant.1 l.invariant.0 (omega arith) c.before.digit.ensures
-          c.if1.true),
+          c.if-left-eq0.true),
       omega arith,
     )
 
-loop-less : tie.Need-loop-smaller invariant-loop decreases-loop
+loop-less : tie.Need-loop-i-smaller invariant-loop decreases-loop
 loop-less c = search rules
 
-loop-again : tie.Need-loop-preserved invariant-loop decreases-loop
+loop-again : tie.Need-loop-i-preserved invariant-loop decreases-loop
 loop-again c =
-    let l = c.before.before.before.loop in (
+    let l = c.before.before.before.loop-i in (
       omega arith,
       (simp length-set l.invariant.1),
       (l.invariant.2
           ∙ digits_next l.room l.i (l.i - 1) l.left c.before.digit.result l.invariant.1 l.invariant.0 (omega arith) c.before.digit.ensures
-          c.if1.false),
+          c.if-left-eq0.false),
     )
 
-same-length-2 : tie.Need-same-length-2 invariant-loop decreases-loop
+same-length-2 : tie.Need-shape_of-room invariant-loop decreases-loop
 same-length-2 c = omega arith
 
-returns-2 : tie.Need-returns-2 invariant-loop decreases-loop
-returns-2 c = let l = c.before.loop in (sym (l.invariant.2 ∙ digits_end l.room l.left l.i (omega arith)), omega arith)
+returns-2 : tie.Need-returns invariant-loop decreases-loop
+returns-2 c = let l = c.before.loop-i in (sym (l.invariant.2 ∙ digits_end l.room l.left l.i (omega arith)), omega arith)
 
-pub fill-digits-spec : {M : Type 1} → statement M
-fill-digits-spec =
+pub fill_digits_spec : {M : Type 1} → statement M
+fill_digits_spec =
     tie.close
     (tie.spec
     invariant-loop

@@ -4,17 +4,21 @@ use borrow.Author.Rules.{rules}
 use Rattle.task.proofs.block.is_row.Statement.{statement}
 use Rattle.task.proofs.block.is_row.Tie as tie
 
-mul-if1 : tie.Need-overflow-mul-if1
+mul-if1 : tie.Need-overflow_mul-atoms
 mul-if1 c = search rules
 
-returns : tie.Need-returns
-returns c = row_high _ _ _ c.if1.true
+returns : tie.Need-returns-then-atoms-effect
+returns c = row_high _ _ _ c.if-atoms-effect.true
 
-is-literal-list-requires : tie.Need-is-literal-list-requires
+is-literal-list-requires : tie.Need-is_literal_list-requires
 is-literal-list-requires c κs = search rules
 
-returns-2 : tie.Need-returns-2
-returns-2 c = c.is-literal-list.ensures ∙ row_low _ _ _ c.before.if1.false
+returns-2 : tie.Need-returns
+returns-2 c = c.is_literal_list.ensures ∙ row_low _ _ _ c.before.if-atoms-effect.false
 
-pub is-row-spec : {M : Type 1} → statement M
-is-row-spec = tie.close (tie.spec mul-if1 returns is-literal-list-requires returns-2)
+pub is_row_spec : {M : Type 1} → statement M
+is_row_spec = tie.close (tie.spec
+    mul-if1
+    returns
+    is-literal-list-requires
+    returns-2)

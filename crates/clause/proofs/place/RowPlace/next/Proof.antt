@@ -4,11 +4,11 @@ use borrow.Author.Rules.{rules}
 use Rattle.clause.proofs.place.RowPlace.next.Statement.{statement}
 use Rattle.clause.proofs.place.RowPlace.next.Tie as tie
 
-add-t2 : tie.Need-overflow-add-t2
+add-t2 : tie.Need-overflow_add-result
 unfolding width
 add-t2 c = record { fits = omega (arith, c.before.requires.position, c.before.requires.fits) }
 
-add-t3 : tie.Need-overflow-add-t3
+add-t3 : tie.Need-overflow_add-result-2
 unfolding width
 add-t3 c = record { fits = omega (arith, c.before.before.requires.fits) }
 
@@ -16,5 +16,8 @@ returns : tie.Need-returns
 unfolding width
 returns c = search rules
 
-pub next-spec : {M : Type 1} → statement M
-next-spec = tie.close (tie.spec add-t2 add-t3 returns)
+pub next_spec : {M : Type 1} → statement M
+next_spec = tie.close (tie.spec
+    add-t2
+    add-t3
+    returns)
