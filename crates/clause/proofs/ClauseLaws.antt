@@ -31,7 +31,7 @@ use Rattle.clause.proofs.RowOrder.{row_trans, row_irrefl}
 
 -- ---- a right row and its clause
 pub right_good : (N : ℕ) (row : List ℕ) → length row ≡ width → clause_right N row ≡ true → GoodClause N width (clause_of row)
-right_good N row wide right = rows_read.right-good N row (omega arith) right
+right_good N row wide right = rows_read.right_good N row (omega arith) right
 
 module _ (N : ℕ) (f : List ℕ) (few : N ≤ most_atoms) where
   -- the clause of the row of a clause

@@ -15,7 +15,7 @@ wide-requires : tie.Need-wide-atoms-requires
 wide-requires c κs = search rules
 
 returns : tie.Need-returns-then-atoms-lt1
-returns c = counts_none _ (omega (arith, c.before.wide-atoms.ensures.0))
+returns c = counts_none _ (omega (arith, c.wide-atoms.ensures.0))
 
 returns-2 : tie.Need-returns-then-atoms-gt-MOST_ATOMS
 returns-2 c =

@@ -27,7 +27,7 @@ start c = c.before.before
 
 loop-holds : tie.Need-loop-i-init invariant-loop decreases-loop
 loop-holds c =
-    let m = c.before.args.operators in
+    let m = c.args.operators in
     let z : m - 0 ≡ m = omega arith in
     (omega arith, rw z)
 
@@ -45,12 +45,11 @@ enum-known-checked c = search rules
 
 returns : tie.Need-returns-in-Refused invariant-loop decreases-loop
 returns c =
-    let k = c.before.before.before in
+    let k = c.before in
     let l = loop_of k in
     let s = (start l).args in
-    let f = c.before.checked-1.given in
     operators_refused s.atoms s.image.now _ l.loop-i.i (s.operators - l.loop-i.i) (s.operators - (l.loop-i.i + 1)) (omega arith)
-    k.before.part.ensures (placed f.0.0) (ap verdict_answer (sym f.1) ∙ k.check-checked.ensures)
+    k.part.ensures (placed c.in-Refused.f) (ap verdict_answer (sym c.in-Refused.is) ∙ k.check-checked.ensures)
     ∙ sym l.loop-i.invariant.1
 
 enum_told : tie.Need-enum_told-1 invariant-loop decreases-loop
@@ -64,13 +63,13 @@ loop-less c = search rules
 
 loop-again : tie.Need-loop-i-preserved invariant-loop decreases-loop
 loop-again c =
-    let k = c.before.before in
+    let k = c.before in
     let l = loop_of k in
     let s = (start l).args in (
       omega arith,
       l.loop-i.invariant.1
           ∙ operators_on s.atoms s.image.now _ l.loop-i.i (s.operators - l.loop-i.i) (s.operators - (l.loop-i.i + 1)) (omega arith)
-          k.before.part.ensures (ap verdict_answer (sym c.enum_told-1.given.1) ∙ k.check-checked.ensures),
+          k.part.ensures (ap verdict_answer (sym c.in-Fine.is) ∙ k.check-checked.ensures),
     )
 
 returns-2 : tie.Need-returns invariant-loop decreases-loop

@@ -7,10 +7,10 @@ use Rattle.task.proofs.initial.Statement.{statement}
 use Rattle.task.proofs.initial.Tie as tie
 
 part-requires : tie.Need-part-requires
-part-requires c κs = directory_lies _ _ _ (task_read _ c.before.requires).directory (omega arith)
+part-requires c κs = directory_lies _ _ _ (task_read _ c.requires).directory (omega arith)
 
 returns : tie.Need-returns
-returns c = c.part.ensures ∙ sym (task_read _ c.before.before.requires).initial
+returns c = c.part.ensures ∙ sym (task_read _ c.requires).initial
 
 pub initial_spec : {M : Type 1} → statement M
 initial_spec = tie.close (tie.spec

@@ -11,11 +11,11 @@ use Rattle.task.proofs.operator_block.Statement.{statement}
 use Rattle.task.proofs.operator_block.Tie as tie
 
 add-part : tie.Need-overflow_add-i
-add-part c = omega (arith, (task_read _ c.before.requires.0).few_operators, c.before.requires.1)
+add-part c = omega (arith, (task_read _ c.requires.0).few_operators, c.requires.1)
 
 part-requires : tie.Need-part-requires
 part-requires c κs =
-    directory_lies _ _ _ (task_read _ c.before.requires.0).directory (omega (arith, (task_read _ c.before.requires.0).count, c.before.requires.1))
+    directory_lies _ _ _ (task_read _ c.requires.0).directory (omega (arith, (task_read _ c.requires.0).count, c.requires.1))
 
 returns : tie.Need-returns
 returns c =

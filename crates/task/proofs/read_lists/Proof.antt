@@ -22,7 +22,7 @@ initial_is :
     (c : tie.After-is_atom_list) → let s = (start c).args in let p = part s.image.now 0 in
     (ascending p && all_below s.atoms p) ≡ c.is_atom_list.result
 initial_is c =
-    ap (λ (p : List ℕ). ascending p && all_below (start c).args.atoms p) (sym c.before.part.ensures) ∙ sym c.is_atom_list.ensures
+    ap (λ (p : List ℕ). ascending p && all_below (start c).args.atoms p) (sym c.part.ensures) ∙ sym c.is_atom_list.ensures
 
 -- where the initial atoms are right
 abbrev begun : tie.After-is_literal_list → tie.Else-not-is_atom_list
@@ -34,10 +34,10 @@ begun_right c = initial_is c.before ∙ c.if-not-is_atom_list.false
 goal_is :
     (c : tie.After-is_literal_list)
     → let s = (start (begun c).before).args in literal_list s.atoms (part s.image.now 1) ≡ c.is_literal_list.result
-goal_is c = ap (literal_list (start (begun c).before).args.atoms) (sym c.before.part-2.ensures) ∙ sym c.is_literal_list.ensures
+goal_is c = ap (literal_list (start (begun c).before).args.atoms) (sym c.part-2.ensures) ∙ sym c.is_literal_list.ensures
 
 part-requires : tie.Need-part-requires
-part-requires c κs = directory_lies _ _ 0 c.before.requires.directory (omega arith)
+part-requires c κs = directory_lies _ _ 0 c.requires.directory (omega arith)
 
 is-atom-list-requires : tie.Need-is_atom_list-requires
 is-atom-list-requires c κs = search rules
@@ -46,7 +46,7 @@ refuse-requires : tie.Need-refuse-requires
 refuse-requires c κs = search rules
 
 returns : tie.Need-returns-then-not-is_atom_list
-returns c = c.refuse.ensures ∙ lists_4 _ _ _ (initial_is c.before.before ∙ c.before.if-not-is_atom_list.true)
+returns c = c.refuse.ensures ∙ lists_4 _ _ _ (initial_is c.before.before ∙ c.if-not-is_atom_list.true)
 
 part-requires-2 : tie.Need-part-requires-2
 part-requires-2 c κs = directory_lies _ _ 1 (start c.before).requires.directory (omega arith)
@@ -60,7 +60,7 @@ refuse-requires-2 c κs = search rules
 returns-2 : tie.Need-returns-then-not-is_literal_list
 returns-2 c =
     let g = c.before.before in
-    c.refuse-then-not-is_literal_list.ensures ∙ lists_5 _ _ _ (begun_right (begun g)) (goal_is g ∙ c.before.if-not-is_literal_list.true)
+    c.refuse-then-not-is_literal_list.ensures ∙ lists_5 _ _ _ (begun_right (begun g)) (goal_is g ∙ c.if-not-is_literal_list.true)
 
 check-operators-requires : tie.Need-check_operators-requires
 check-operators-requires c κs = (start (begun c.before).before).requires
@@ -68,7 +68,7 @@ check-operators-requires c κs = (start (begun c.before).before).requires
 returns-3 : tie.Need-returns
 returns-3 c =
     let g = c.before.before in
-    c.check_operators.ensures ∙ lists_rest _ _ _ (begun_right (begun g)) (goal_is g ∙ c.before.if-not-is_literal_list.false)
+    c.check_operators.ensures ∙ lists_rest _ _ _ (begun_right (begun g)) (goal_is g ∙ c.if-not-is_literal_list.false)
 
 pub read_lists_spec : {M : Type 1} → statement M
 read_lists_spec =

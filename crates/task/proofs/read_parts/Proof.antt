@@ -19,7 +19,7 @@ start c = c.before.before.before
 laid : (c : tie.After-is_directory) → let w = (start c.before).args.image.now in directory w (get_or w 1 0 + 2) ≡ c.is_directory.result
 laid c =
     let w = (start c.before).args.image.now in
-    ap (λ (k : ℕ). directory w (k + 2)) (sym c.before.wide-operators.ensures.0) ∙ sym c.is_directory.ensures
+    ap (λ (k : ℕ). directory w (k + 2)) (sym c.wide-operators.ensures.0) ∙ sym c.is_directory.ensures
 
 -- where the directory is right
 abbrev tested : tie.After-wide → tie.After-is_directory
@@ -41,7 +41,7 @@ refuse-requires : tie.Need-refuse-requires
 refuse-requires c κs = search rules
 
 returns : tie.Need-returns-then-not-is_directory
-returns c = c.refuse.ensures ∙ parts_3 _ (laid c.before.before ∙ c.before.if-not-is_directory.true)
+returns c = c.refuse.ensures ∙ parts_3 _ (laid c.before.before ∙ c.if-not-is_directory.true)
 
 shared-slice-read-wide-2 : tie.Need-bounds-image-0
 shared-slice-read-wide-2 c = search rules
@@ -55,8 +55,8 @@ read-lists-requires c κs =
     let s = start d.before in
     record {
       few = omega (arith, c.wide.ensures.0, counts_atoms _ s.requires.1);
-      few_operators = omega (arith, d.before.wide-operators.ensures.0, counts_operators _ s.requires.1);
-      directory = sym d.is_directory.ensures ∙ c.before.before.if-not-is_directory.false;
+      few_operators = omega (arith, d.wide-operators.ensures.0, counts_operators _ s.requires.1);
+      directory = sym d.is_directory.ensures ∙ c.if-not-is_directory.false;
     }
 
 returns-2 : tie.Need-returns
@@ -64,9 +64,9 @@ returns-2 c =
     let d = tested c.before in
     let w = (start d.before).args.image.now in
     c.read_lists.ensures
-    ∙ ap (λ (n : ℕ). lists_answer w n d.before.wide-operators.result) c.before.wide.ensures.0
-    ∙ ap (lists_answer w (get_or w 0 0)) d.before.wide-operators.ensures.0
-    ∙ parts_rest w (laid d ∙ c.before.before.before.if-not-is_directory.false)
+    ∙ ap (λ (n : ℕ). lists_answer w n d.wide-operators.result) c.wide.ensures.0
+    ∙ ap (lists_answer w (get_or w 0 0)) d.wide-operators.ensures.0
+    ∙ parts_rest w (laid d ∙ c.if-not-is_directory.false)
 
 pub read_parts_spec : {M : Type 1} → statement M
 read_parts_spec =

@@ -19,10 +19,10 @@ test = tie.At-loop-i invariant-loop decreases-loop
 abbrev step : tie.After-shared_slice_known-1 invariant-loop decreases-loop → test
 step c = c.before.before
 
-room : (l : test) → l.loop-i.to + (length l.before.args.words.now - l.loop-i.i) ≤ length l.loop-i.target
-room l = copy_room l.loop-i.invariant l.before.requires
+room : (l : test) → l.loop-i.to + (length l.args.words.now - l.loop-i.i) ≤ length l.loop-i.target
+room l = copy_room l.loop-i.invariant l.requires
 
-same_size : (l : test) → length l.loop-i.target ≡ length l.before.args.target.now
+same_size : (l : test) → length l.loop-i.target ≡ length l.args.target.now
 same_size l = l.loop-i.invariant.left.size
 
 loop-holds : tie.Need-loop-i-init invariant-loop decreases-loop
@@ -50,13 +50,13 @@ loop-less : tie.Need-loop-i-smaller invariant-loop decreases-loop
 loop-less c = search rules
 
 loop-again : tie.Need-loop-i-preserved invariant-loop decreases-loop
-loop-again c = copy_next (step c).loop-i.invariant c.before.loop-i-test.true
+loop-again c = copy_next (step c).loop-i.invariant c.loop-i-test.true
 
 same_length : tie.Need-shape_of-target invariant-loop decreases-loop
 same_length c = same_size c.before
 
 returns : tie.Need-returns invariant-loop decreases-loop
-returns c = copy_done c.before.loop-i.invariant c.loop-i-test.false
+returns c = copy_done c.loop-i.invariant c.loop-i-test.false
 
 pub words_spec : {M : Type 1} → statement M
 words_spec =

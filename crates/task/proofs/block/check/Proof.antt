@@ -31,7 +31,7 @@ refuse-at-requires-2 : tie.Need-refuse_at-requires-then-block-end
 refuse-at-requires-2 c κs = search rules
 
 returns-2 : tie.Need-returns-then-block-end
-returns-2 c = c.refuse_at-then-block-end.ensures ∙ block_6 _ _ _ (omega (arith, c.before.before.wide-count.ensures.0))
+returns-2 c = c.refuse_at-then-block-end.ensures ∙ block_6 _ _ _ (omega (arith, c.wide-count.ensures.0))
 
 sub-is-literal-list : tie.Need-slice_bounds-is_literal_list-count
 sub-is-literal-list c = search rules
@@ -64,7 +64,7 @@ returns-3 : tie.Need-returns
 returns-3 c =
     let t = tested c in
     let e = fits t in
-    block_rest _ _ _ _ _ _ _ e.before.wide-count.ensures.0 e.if-block-end.false t.is_literal_list-precondition.ensures c.before.wide-rows.ensures.0 c.check_rows.ensures
+    block_rest _ _ _ _ _ _ _ e.wide-count.ensures.0 e.if-block-end.false t.is_literal_list-precondition.ensures c.wide-rows.ensures.0 c.check_rows.ensures
 
 pub check_spec : {M : Type 1} → statement M
 check_spec =

@@ -49,7 +49,7 @@ returns : tie.Need-returns-then-block-at-lt2 invariant-loop decreases-loop
 returns c =
     let l = c.before.before.before in
     c.refuse_at.ensures
-    ∙ verdict_short _ _ l.loop-left.right (start l).args.block.now l.loop-left.at l.loop-left.left (l.loop-left.left - 1) (omega arith) c.before.if-block-at-lt2.true
+    ∙ verdict_short _ _ l.loop-left.right (start l).args.block.now l.loop-left.at l.loop-left.left (l.loop-left.left - 1) (omega arith) c.if-block-at-lt2.true
     ∙ sym l.loop-left.invariant.1
 
 mul_wide : tie.Need-offset_bounds-block-at invariant-loop decreases-loop
@@ -88,7 +88,7 @@ returns-2 c =
     let l = loop_of (effect_of w) in
     c.refuse_at-then-block-start.ensures
     ∙ verdict_over _ _ l.loop-left.right (start l).args.block.now l.loop-left.at l.loop-left.left (l.loop-left.left - 1) (omega arith)
-    _ w.wide-count.ensures.0 (omega arith) c.before.if-block-start.true
+    _ w.wide-count.ensures.0 (omega arith) c.if-block-start.true
     ∙ sym l.loop-left.invariant.1
 
 add-end : tie.Need-overflow_add-end invariant-loop decreases-loop
@@ -127,7 +127,7 @@ loop-again c =
       omega arith,
       l.loop-left.invariant.1
           ∙ verdict_next _ _ (start l).args.block.now l.loop-left.at l.loop-left.left l.loop-left.right _ _ _ _
-          f.wide-effect.ensures.0 w.wide-count.ensures.0 (omega arith) (omega arith) e.if-block-start.false c.before.is_row-ok.ensures c.both-right.ensures,
+          f.wide-effect.ensures.0 w.wide-count.ensures.0 (omega arith) (omega arith) e.if-block-start.false c.is_row-ok.ensures c.both-right.ensures,
     )
 
 refuse-at-requires-3 : tie.Need-refuse_at-requires-then-at-block invariant-loop decreases-loop
@@ -135,8 +135,8 @@ refuse-at-requires-3 c κs = search rules
 
 returns-3 : tie.Need-returns-then-at-block invariant-loop decreases-loop
 returns-3 c =
-    let l = c.before.before.before.loop-left in
-    c.refuse_at-then-at-block.ensures ∙ verdict_left _ _ l.right _ l.at l.left (omega arith) c.before.if-at-block.true ∙ sym l.invariant.1
+    let l = c.loop-left in
+    c.refuse_at-then-at-block.ensures ∙ verdict_left _ _ l.right _ l.at l.left (omega arith) c.if-at-block.true ∙ sym l.invariant.1
 
 refuse-at-requires-4 : tie.Need-refuse_at-requires-then-not-right invariant-loop decreases-loop
 refuse-at-requires-4 c κs = search rules
@@ -144,15 +144,15 @@ refuse-at-requires-4 c κs = search rules
 returns-4 : tie.Need-returns-then-not-right invariant-loop decreases-loop
 returns-4 c =
     let e = c.before.before in
-    let l = e.before.before.loop-left in
+    let l = e.loop-left in
     c.refuse_at-then-not-right.ensures
-    ∙ verdict_wrong _ _ l.right _ l.at l.left (omega arith) e.if-at-block.false (c.before.if-not-right.true)
+    ∙ verdict_wrong _ _ l.right _ l.at l.left (omega arith) e.if-at-block.false (c.if-not-right.true)
     ∙ sym l.invariant.1
 
 returns-5 : tie.Need-returns invariant-loop decreases-loop
 returns-5 c =
-    let l = c.before.before.before.loop-left in
-    verdict_right _ _ l.right _ l.at l.left (omega arith) c.before.if-at-block.false (c.if-not-right.false) ∙ sym l.invariant.1
+    let l = c.loop-left in
+    verdict_right _ _ l.right _ l.at l.left (omega arith) c.if-at-block.false (c.if-not-right.false) ∙ sym l.invariant.1
 
 pub check_rows_spec : {M : Type 1} → statement M
 check_rows_spec =

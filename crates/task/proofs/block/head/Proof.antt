@@ -5,7 +5,7 @@ use Rattle.task.proofs.block.head.Statement.{statement}
 use Rattle.task.proofs.block.head.Tie as tie
 
 shared-slice-read-wide : tie.Need-bounds-block-0
-shared-slice-read-wide c = omega (arith, block_room _ c.before.before.requires)
+shared-slice-read-wide c = omega (arith, block_room _ c.requires)
 
 wide-requires : tie.Need-wide-end-requires
 wide-requires c κs = search rules
@@ -30,13 +30,13 @@ abbrev at_start_from_wide2 : tie.After-wide → tie.Start
 at_start_from_wide2 c = at_start (after_wide (after_shared_slice_known3 c))
 
 shared-slice-read-wide-2 : tie.Need-bounds-block-end
-shared-slice-read-wide-2 c = omega (arith, block_room _ (at_start (after_wide c)).requires, c.before.wide-end.ensures.0)
+shared-slice-read-wide-2 c = omega (arith, block_room _ (at_start c.before).requires, c.wide-end.ensures.0)
 
 wide-requires-2 : tie.Need-wide-requires
 wide-requires-2 c κs = search rules
 
 returns : tie.Need-returns
-returns c = block_read _ (at_start_from_wide2 c).requires _ _ c.before.before.wide-end.ensures.0 c.wide.ensures.0
+returns c = block_read _ (at_start_from_wide2 c).requires _ _ c.wide-end.ensures.0 c.wide.ensures.0
 
 pub head_spec : {M : Type 1} → statement M
 head_spec =

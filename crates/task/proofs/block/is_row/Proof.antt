@@ -14,7 +14,7 @@ is-literal-list-requires : tie.Need-is_literal_list-requires
 is-literal-list-requires c κs = search rules
 
 returns-2 : tie.Need-returns
-returns-2 c = c.is_literal_list.ensures ∙ row_low _ _ _ c.before.if-atoms-effect.false
+returns-2 c = c.is_literal_list.ensures ∙ row_low _ _ _ c.if-atoms-effect.false
 
 pub is_row_spec : {M : Type 1} → statement M
 is_row_spec = tie.close (tie.spec

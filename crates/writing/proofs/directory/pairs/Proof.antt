@@ -47,7 +47,7 @@ shared-slice-read-size : tie.Need-bounds-lengths-i invariant-loop decreases-loop
 shared-slice-read-size c = search rules
 
 cast-size : tie.Need-overflow_cast-size invariant-loop decreases-loop
-cast-size c = omega (arith, c.shared_slice_known-in-loop-i-1.given (read c).before.loop-i.i)
+cast-size c = omega (arith, c.shared_slice_known-in-loop-i-1.given (read c).loop-i.i)
 
 pair-requires : tie.Need-pair-to-requires invariant-loop decreases-loop
 pair-requires c κs =
@@ -66,13 +66,13 @@ loop-less : tie.Need-loop-i-smaller invariant-loop decreases-loop
 loop-less c = search rules
 
 loop-again : tie.Need-loop-i-preserved invariant-loop decreases-loop
-loop-again c = pairing_next (turn c).before.loop-i.invariant (turn c).loop-i-test.true (wrote c).pair-to.ensures
+loop-again c = pairing_next (turn c).loop-i.invariant (turn c).loop-i-test.true (wrote c).pair-to.ensures
 
 same_length : tie.Need-shape_of-target invariant-loop decreases-loop
-same_length c = c.before.loop-i.invariant.left.size
+same_length c = c.loop-i.invariant.left.size
 
 returns : tie.Need-returns invariant-loop decreases-loop
-returns c = pairing_done c.before.loop-i.invariant c.loop-i-test.false
+returns c = pairing_done c.loop-i.invariant c.loop-i-test.false
 
 pub pairs_spec : {M : Type 1} → statement M
 pairs_spec =

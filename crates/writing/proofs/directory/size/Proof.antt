@@ -53,14 +53,14 @@ loop-less c = search rules
 
 loop-again : tie.Need-loop-i-preserved invariant-loop decreases-loop
 loop-again c =
-    let n = sum_next (at c).before.args.lengths.now (at c).loop-i.i (in_loop c).loop-i-test.true in
+    let n = sum_next (at c).args.lengths.now (at c).loop-i.i (in_loop c).loop-i-test.true in
     let h = c.shared_slice_known-1.given (at c).loop-i.i in
     (omega arith, omega arith, omega arith)
 
 returns : tie.Need-returns invariant-loop decreases-loop
 returns c =
     let l = c.before in
-    omega (arith, sum_end l.before.args.lengths.now l.loop-i.i c.loop-i-test.false)
+    omega (arith, sum_end l.args.lengths.now l.loop-i.i c.loop-i-test.false)
 
 pub size_spec : {M : Type 1} → statement M
 size_spec =

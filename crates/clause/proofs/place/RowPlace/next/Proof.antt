@@ -6,11 +6,11 @@ use Rattle.clause.proofs.place.RowPlace.next.Tie as tie
 
 add-t2 : tie.Need-overflow_add-result
 unfolding width
-add-t2 c = record { fits = omega (arith, c.before.requires.position, c.before.requires.fits) }
+add-t2 c = record { fits = omega (arith, c.requires.position, c.requires.fits) }
 
 add-t3 : tie.Need-overflow_add-result-2
 unfolding width
-add-t3 c = record { fits = omega (arith, c.before.before.requires.fits) }
+add-t3 c = record { fits = omega (arith, c.requires.fits) }
 
 returns : tie.Need-returns
 unfolding width

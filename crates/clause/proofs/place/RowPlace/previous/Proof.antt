@@ -9,7 +9,7 @@ sub-t2 c = search rules
 
 sub-t3 : tie.Need-overflow_sub-result-2
 unfolding width
-sub-t3 c = omega (arith, c.before.before.requires.position, c.before.before.requires.some_row)
+sub-t3 c = omega (arith, c.requires.position, c.requires.some_row)
 
 returns : tie.Need-returns
 unfolding width

@@ -27,7 +27,7 @@ part-result-end c = row_ends c.requires
 
 returns : tie.Need-returns
 unfolding width
-returns c = row_cut _ _ _ _ c.before.requires.position refl
+returns c = row_cut _ _ _ _ c.requires.position refl
 
 pub row_spec : {M : Type 1} → statement M
 row_spec =
