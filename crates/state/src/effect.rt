@@ -3,7 +3,7 @@
 // its rows, however many atoms there are.
 ghost use Rattle.std.specs.Prelude.{◌≡◌, true, cond};
 ghost use Rattle.definitions.specs.Literal.{positive};
-ghost use Rattle.definitions.specs.Step.{result};
+ghost use Rattle.definitions.specs.Step.{result as result_of};
 ghost use Rattle.task.specs.Walk.{block_parses, operator_in};
 ghost use Rattle.state.specs.Flags.{flag_fired, make_true, changed, unflagged};
 ghost use Rattle.state.specs.Post.{Applies};
@@ -13,7 +13,7 @@ use literal::Literal;
 // Flags the effects of the rows of a block that fire in a state. The state stays as it is, so each row fires by the state before the step.
 fn flag_fired(block: &[u16], state: &[u8], flags: &mut [u8])
     requires { block_parses block.now ≡ true }
-    ensures* { λ _. ⌜ flags.new ≡ flag_fired state.now (operator_in block.now).rows flags.old ⌝ }
+    ensures { flags.new ≡ flag_fired state.now (operator_in block.now).rows flags.old }
 {
     let head = task::block::head(block);
     let mut at = head.end + 1;
@@ -29,14 +29,14 @@ fn flag_fired(block: &[u16], state: &[u8], flags: &mut [u8])
 
 // The byte of the literal's atom where the literal is true.
 fn truth(l: Literal) -> u8
-    ensures* { λ r. ⌜ r ≡ cond (positive l.code) 1 0 ⌝ }
+    ensures { result ≡ cond (positive l.code) 1 0 }
 {
     if l.is_positive() { 1 } else { 0 }
 }
 
 // Makes a literal true, if `flagged`.
 fn make_true(flagged: bool, state: &mut [u8], l: Literal)
-    ensures* { λ _. ⌜ state.new ≡ make_true flagged state.old l.code ⌝ }
+    ensures { state.new ≡ make_true flagged state.old l.code }
 {
     let a = l.atom();
     if flagged {
@@ -49,8 +49,8 @@ fn make_true(flagged: bool, state: &mut [u8], l: Literal)
 // Makes the flagged effects of a block true, those of the adds if `adds`, those of the deletes if not, and clears their flags.
 fn change(block: &[u16], flags: &mut [u8], adds: bool, state: &mut [u8])
     requires { block_parses block.now ≡ true }
-    ensures* { λ _. ⌜ (state.new ≡ changed adds (operator_in block.now).rows flags.old state.old)
-        × (flags.new ≡ unflagged adds (operator_in block.now).rows flags.old) ⌝ }
+    ensures { (state.new ≡ changed adds (operator_in block.now).rows flags.old state.old)
+        × (flags.new ≡ unflagged adds (operator_in block.now).rows flags.old) }
 {
     let head = task::block::head(block);
     let mut at = head.end + 1;
@@ -73,8 +73,8 @@ fn change(block: &[u16], flags: &mut [u8], adds: bool, state: &mut [u8])
 // Makes the effects of the rows of a block that fire true: first the deletes, then the adds. The flags are all zero before and after.
 pub fn apply(block: &[u16], state: &mut [u8], flags: &mut [u8])
     requires { Applies block.now state.old flags.old }
-    ensures* { λ _. ⌜ (state.new ≡ result state.old (operator_in block.now))
-        × (flags.new ≡ flags.old) ⌝ }
+    ensures { (state.new ≡ result_of state.old (operator_in block.now))
+        × (flags.new ≡ flags.old) }
 {
     flag_fired(block, state, flags);
     change(block, flags, task::block::DELETES, state);

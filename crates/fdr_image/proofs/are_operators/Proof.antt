@@ -13,84 +13,84 @@ use borrow.Author.Rules.{rules}
 use Rattle.fdr_image.proofs.are_operators.Statement.{statement}
 use Rattle.fdr_image.proofs.are_operators.Tie as tie
 
-abbrev invariant-loop : tie.invariant-loop
+abbrev invariant-loop : tie.invariant-loop-i
 invariant-loop image domains operators i₀ i =
     (i ≤ operators) × (operators_right (domains_in domains) image operators ≡ all (block_there (domains_in domains) image) (range i (operators - i)))
 
-abbrev decreases-loop : tie.decreases-loop
+abbrev decreases-loop : tie.decreases-loop-i
 decreases-loop image domains operators i₀ i = operators - i
 
-loop-holds : tie.Need-loop-init invariant-loop decreases-loop
+loop-holds : tie.Need-loop-i-init invariant-loop decreases-loop
 unfolding operators_right below
 loop-holds c =
-    let e : c.before.before.args.operators ≡ c.before.before.args.operators - 0 = omega arith in
-    (omega arith, ap (λ k. all (block_there (domains_in c.before.before.args.domains.now) c.before.before.args.image.now) (range 0 k)) e)
+    let e : c.args.operators ≡ c.args.operators - 0 = omega arith in
+    (omega arith, ap (λ k. all (block_there (domains_in c.args.domains.now) c.args.image.now) (range 0 k)) e)
 
-add-part : tie.Need-overflow-add-part invariant-loop decreases-loop
+add-part : tie.Need-overflow_add-i invariant-loop decreases-loop
 add-part c = search rules
 
 -- the places of the function
-abbrev at_start : tie.At-loop invariant-loop decreases-loop → tie.Start invariant-loop decreases-loop
+abbrev at_start : tie.At-loop-i invariant-loop decreases-loop → tie.Start invariant-loop decreases-loop
 at_start c = c.before.before.before
 
-abbrev at_loop_of_after_loop : tie.After-loop invariant-loop decreases-loop → tie.At-loop invariant-loop decreases-loop
+abbrev at_loop_of_after_loop : tie.After-loop-i invariant-loop decreases-loop → tie.At-loop-i invariant-loop decreases-loop
 at_loop_of_after_loop c = c.before
 
-abbrev at_loop_of_in_loop : tie.In-loop invariant-loop decreases-loop → tie.At-loop invariant-loop decreases-loop
+abbrev at_loop_of_in_loop : tie.In-loop-i invariant-loop decreases-loop → tie.At-loop-i invariant-loop decreases-loop
 at_loop_of_in_loop c = c.before
 
-abbrev in_loop_of_else1 : tie.Else1 invariant-loop decreases-loop → tie.In-loop invariant-loop decreases-loop
+abbrev in_loop_of_else1 : tie.Else-not-is_block invariant-loop decreases-loop → tie.In-loop-i invariant-loop decreases-loop
 in_loop_of_else1 c = c.before.before.before
 
-abbrev in_loop_of_then1 : tie.Then1 invariant-loop decreases-loop → tie.In-loop invariant-loop decreases-loop
+abbrev in_loop_of_then1 : tie.Then-not-is_block invariant-loop decreases-loop → tie.In-loop-i invariant-loop decreases-loop
 in_loop_of_then1 c = c.before.before.before
 
-abbrev at_start_from_else1 : tie.Else1 invariant-loop decreases-loop → tie.Start invariant-loop decreases-loop
+abbrev at_start_from_else1 : tie.Else-not-is_block invariant-loop decreases-loop → tie.Start invariant-loop decreases-loop
 at_start_from_else1 c = at_start (at_loop_of_in_loop (in_loop_of_else1 c))
 
-abbrev at_start_from_then1 : tie.Then1 invariant-loop decreases-loop → tie.Start invariant-loop decreases-loop
+abbrev at_start_from_then1 : tie.Then-not-is_block invariant-loop decreases-loop → tie.Start invariant-loop decreases-loop
 at_start_from_then1 c = at_start (at_loop_of_in_loop (in_loop_of_then1 c))
 
 part-requires : tie.Need-part-requires invariant-loop decreases-loop
-part-requires c κs = directory_lies _ _ _ (at_start (at_loop_of_in_loop c)).pre.1 (omega arith)
+part-requires c κs = directory_lies _ _ _ (at_start (at_loop_of_in_loop c)).requires.1 (omega arith)
 
-is-block-requires : tie.Need-is-block-requires invariant-loop decreases-loop
+is-block-requires : tie.Need-is_block-requires invariant-loop decreases-loop
 is-block-requires c κs = search rules
 
-returns : tie.Need-returns invariant-loop decreases-loop
+returns : tie.Need-returns-then-not-is_block invariant-loop decreases-loop
 returns c =
     sym
-    ((at_loop_of_in_loop (in_loop_of_then1 c)).loop.inv.1
+    ((at_loop_of_in_loop (in_loop_of_then1 c)).loop-i.invariant.1
     ∙ operators_off (domains_in (at_start_from_then1 c).args.domains.now) (at_start_from_then1 c).args.image.now _
-    (at_loop_of_in_loop (in_loop_of_then1 c)).loop.i ((at_start_from_then1 c).args.operators - (at_loop_of_in_loop (in_loop_of_then1 c)).loop.i)
-    ((at_start_from_then1 c).args.operators - ((at_loop_of_in_loop (in_loop_of_then1 c)).loop.i + 1)) (omega arith) c.before.before.part.ensures _
-    c.before.is_Block.ensures (not-true _ c.if1.true))
+    (at_loop_of_in_loop (in_loop_of_then1 c)).loop-i.i ((at_start_from_then1 c).args.operators - (at_loop_of_in_loop (in_loop_of_then1 c)).loop-i.i)
+    ((at_start_from_then1 c).args.operators - ((at_loop_of_in_loop (in_loop_of_then1 c)).loop-i.i + 1)) (omega arith) c.part.ensures _
+    c.before.is_Block.ensures (c.if-not-is_block.true))
 
-add-i : tie.Need-overflow-add-i invariant-loop decreases-loop
+add-i : tie.Need-overflow_add-i-in-loop-i invariant-loop decreases-loop
 add-i c = search rules
 
-loop-less : tie.Need-loop-smaller invariant-loop decreases-loop
+loop-less : tie.Need-loop-i-smaller invariant-loop decreases-loop
 loop-less c = search rules
 
-loop-again : tie.Need-loop-preserved invariant-loop decreases-loop
+loop-again : tie.Need-loop-i-preserved invariant-loop decreases-loop
 loop-again c = (
   omega arith,
-  (at_loop_of_in_loop (in_loop_of_else1 c)).loop.inv.1
+  (at_loop_of_in_loop (in_loop_of_else1 c)).loop-i.invariant.1
       ∙ operators_on (domains_in (at_start_from_else1 c).args.domains.now) (at_start_from_else1 c).args.image.now _
-      (at_loop_of_in_loop (in_loop_of_else1 c)).loop.i ((at_start_from_else1 c).args.operators - (at_loop_of_in_loop (in_loop_of_else1 c)).loop.i)
-      ((at_start_from_else1 c).args.operators - ((at_loop_of_in_loop (in_loop_of_else1 c)).loop.i + 1)) (omega arith) c.before.before.part.ensures
-      _ c.before.is_Block.ensures (not-false _ c.if1.false),
+      (at_loop_of_in_loop (in_loop_of_else1 c)).loop-i.i ((at_start_from_else1 c).args.operators - (at_loop_of_in_loop (in_loop_of_else1 c)).loop-i.i)
+      ((at_start_from_else1 c).args.operators - ((at_loop_of_in_loop (in_loop_of_else1 c)).loop-i.i + 1)) (omega arith) c.part.ensures
+      _ c.before.is_Block.ensures (c.if-not-is_block.false),
 )
 
-returns-2 : tie.Need-returns-2 invariant-loop decreases-loop
+returns-2 : tie.Need-returns invariant-loop decreases-loop
 returns-2 c =
     sym
-    (c.before.loop.invariant.1
+    (c.loop-i.invariant.1
     ∙ range_all_end (block_there (domains_in (at_start (at_loop_of_after_loop c)).args.domains.now) (at_start (at_loop_of_after_loop c)).args.image.now)
-    c.before.loop.i ((at_start (at_loop_of_after_loop c)).args.operators - c.before.loop.i) (omega arith))
+    c.loop-i.i ((at_start (at_loop_of_after_loop c)).args.operators - c.loop-i.i) (omega arith))
 
-pub are-operators-spec : {M : Type 1} → statement M
-are-operators-spec =
+pub are_operators_spec : {M : Type 1} → statement M
+are_operators_spec =
     tie.close
     (tie.spec
     invariant-loop

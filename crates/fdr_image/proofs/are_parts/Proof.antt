@@ -8,46 +8,46 @@ use Rattle.fdr_image.proofs.are_parts.Statement.{statement}
 use Rattle.fdr_image.proofs.are_parts.Tie as tie
 
 -- where the domains were tested, and the start
-abbrev part_of_lem : tie.After-are-domains → tie.After-part
+abbrev part_of_lem : tie.After-are_domains → tie.After-part-domains
 part_of_lem c = c.before.before.before
 
-abbrev start : tie.After-part → tie.Start
+abbrev start : tie.After-part-domains → tie.Start
 start c = c.before.before
 
-part-requires : tie.Need-part-requires
-part-requires c κs = laid_lies _ c.before.requires _ (omega arith)
+part-requires : tie.Need-part-domains-requires
+part-requires c κs = laid_lies _ c.requires _ (omega arith)
 
-shared-slice-read-wide : tie.Need-shared-slice-read-wide
+shared-slice-read-wide : tie.Need-bounds-image-0
 shared-slice-read-wide c = omega (arith, laid_room _ (start c.before).requires)
 
 wide-requires : tie.Need-wide-requires
 wide-requires c κs = search rules
 
-are-domains-requires : tie.Need-are-domains-requires
+are-domains-requires : tie.Need-are_domains-requires
 are-domains-requires c κs = omega (arith, c.wide.ensures.0, few_variables _ (start c.before.before).requires.counts)
 
-returns : tie.Need-returns
+returns : tie.Need-returns-then-not-are_domains
 returns c =
     let d = c.before in
-    parts_domains _ _ (part_of_lem d).part.ensures _ d.before.wide.ensures.0 (sym d.are-domains.ensures ∙ not-true _ c.if1.true)
+    parts_domains _ _ (part_of_lem d).part-domains.ensures _ d.wide.ensures.0 (sym d.are_domains.ensures ∙ c.if-not-are_domains.true)
 
-is-rest-requires : tie.Need-is-rest-requires
+is-rest-requires : tie.Need-is_rest-requires
 is-rest-requires c κs =
     let d = c.before in
     let s = start (part_of_lem d) in
     record {
-      laid = s.pre;
-      few = domains_few _ _ _ s.pre d.before.wide.ensures.0 (sym d.are-domains.ensures ∙ not-false _ c.if1.false);
+      laid = s.requires;
+      few = domains_few _ _ _ s.requires d.wide.ensures.0 (sym d.are_domains.ensures ∙ c.if-not-are_domains.false);
     }
 
-returns-2 : tie.Need-returns-2
+returns-2 : tie.Need-returns
 returns-2 c =
     let d = c.before.before in
-    c.is-rest.ensures
-    ∙ parts_rest _ _ (part_of_lem d).part.ensures _ d.before.wide.ensures.0 (sym d.are-domains.ensures ∙ not-false _ c.before.if1.false)
+    c.is_rest.ensures
+    ∙ parts_rest _ _ (part_of_lem d).part-domains.ensures _ d.wide.ensures.0 (sym d.are_domains.ensures ∙ c.if-not-are_domains.false)
 
-pub are-parts-spec : {M : Type 1} → statement M
-are-parts-spec =
+pub are_parts_spec : {M : Type 1} → statement M
+are_parts_spec =
     tie.close
     (tie.spec
     part-requires

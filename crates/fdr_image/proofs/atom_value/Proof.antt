@@ -12,13 +12,16 @@ places-requires : tie.Need-places-requires
 places-requires c κs = search rules
 
 value-requires : tie.Need-value-requires
-value-requires c κs = omega (arith, c.before.before.requires.1, ap length c.places.ensures)
+value-requires c κs = omega (arith, c.requires.1, ap length c.places.ensures)
 
 returns : tie.Need-returns
 returns c = (
-  c.value.ensures.0 ∙ ap (λ (P : List Place). (get_or P c.before.before.before.args.atom (place 0 0)).value) c.before.places.ensures,
+  c.value.ensures.0 ∙ ap (λ (P : List Place). (get_or P c.args.atom (place 0 0)).value) c.places.ensures,
   c.value.ensures.1,
 )
 
-pub atom-value-spec : {M : Type 1} → statement M
-atom-value-spec = tie.close (tie.spec places-requires value-requires returns)
+pub atom_value_spec : {M : Type 1} → statement M
+atom_value_spec = tie.close (tie.spec
+    places-requires
+    value-requires
+    returns)

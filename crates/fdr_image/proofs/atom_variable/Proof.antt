@@ -13,19 +13,22 @@ places-requires : tie.Need-places-requires
 places-requires c κs = search rules
 
 variable-requires : tie.Need-variable-requires
-variable-requires c κs = omega (arith, c.before.before.requires.1, ap length c.places.ensures)
+variable-requires c κs = omega (arith, c.requires.1, ap length c.places.ensures)
 
 returns : tie.Need-returns
 returns c = (
   c.variable.ensures.0
-      ∙ ap (λ (P : List Place). (get_or P c.before.before.before.args.atom (place 0 0)).variable) c.before.places.ensures,
+      ∙ ap (λ (P : List Place). (get_or P c.args.atom (place 0 0)).variable) c.places.ensures,
   omega (
     arith,
-    variable_low _ c.before.before.before.requires.0 _ c.before.before.before.requires.1,
+    variable_low _ c.requires.0 _ c.requires.1,
     c.variable.ensures.0
-        ∙ ap (λ (P : List Place). (get_or P c.before.before.before.args.atom (place 0 0)).variable) c.before.places.ensures,
+        ∙ ap (λ (P : List Place). (get_or P c.args.atom (place 0 0)).variable) c.places.ensures,
   ),
 )
 
-pub atom-variable-spec : {M : Type 1} → statement M
-atom-variable-spec = tie.close (tie.spec places-requires variable-requires returns)
+pub atom_variable_spec : {M : Type 1} → statement M
+atom_variable_spec = tie.close (tie.spec
+    places-requires
+    variable-requires
+    returns)

@@ -7,14 +7,16 @@ use borrow.Author.Rules.{rules}
 use Rattle.fdr_image.proofs.atoms.Statement.{statement}
 use Rattle.fdr_image.proofs.atoms.Tie as tie
 
-places-requires : tie.Need-places-requires
+places-requires : tie.Need-places-words-requires
 places-requires c κs = search rules
 
 returns : tie.Need-returns
 returns c = (
-  sym (places_length c.places.result.now) ∙ ap length c.places.ensures,
-  omega (arith, few_atoms _ c.before.before.requires, places_length c.places.result.now, ap length c.places.ensures),
+  sym (places_length c.places-words.result.now) ∙ ap length c.places-words.ensures,
+  omega (arith, few_atoms _ c.requires, places_length c.places-words.result.now, ap length c.places-words.ensures),
 )
 
-pub atoms-spec : {M : Type 1} → statement M
-atoms-spec = tie.close (tie.spec places-requires returns)
+pub atoms_spec : {M : Type 1} → statement M
+atoms_spec = tie.close (tie.spec
+    places-requires
+    returns)

@@ -12,15 +12,18 @@ domains-requires : tie.Need-domains-requires
 domains-requires c κs = search rules
 
 size-requires : tie.Need-size-requires
-size-requires c κs = omega (arith, c.before.before.requires.1, ap length c.domains.ensures)
+size-requires c κs = omega (arith, c.requires.1, ap length c.domains.ensures)
 
 returns : tie.Need-returns
 unfolding domain_at
 returns c = (
   c.size.ensures.0
-      ∙ ap (λ (D : List Domain). (get_or D c.before.before.before.args.variable no_domain).values) c.before.domains.ensures,
+      ∙ ap (λ (D : List Domain). (get_or D c.args.variable no_domain).values) c.domains.ensures,
   c.size.ensures.1,
 )
 
-pub domain-size-spec : {M : Type 1} → statement M
-domain-size-spec = tie.close (tie.spec domains-requires size-requires returns)
+pub domain_size_spec : {M : Type 1} → statement M
+domain_size_spec = tie.close (tie.spec
+    domains-requires
+    size-requires
+    returns)

@@ -4,10 +4,12 @@ use Rattle.fdr_image.proofs.initial.Statement.{statement}
 use Rattle.fdr_image.proofs.initial.Tie as tie
 
 part-requires : tie.Need-part-requires
-part-requires c κs = image_lies _ c.before.requires _ (omega arith)
+part-requires c κs = image_lies _ c.requires _ (omega arith)
 
 returns : tie.Need-returns
-returns c = initial_is _ c.before.before.requires _ c.part.ensures
+returns c = initial_is _ c.requires _ c.part.ensures
 
-pub initial-spec : {M : Type 1} → statement M
-initial-spec = tie.close (tie.spec part-requires returns)
+pub initial_spec : {M : Type 1} → statement M
+initial_spec = tie.close (tie.spec
+    part-requires
+    returns)

@@ -4,14 +4,17 @@ use borrow.Author.Rules.{rules}
 use Rattle.fdr_image.proofs.is_goal.Statement.{statement}
 use Rattle.fdr_image.proofs.is_goal.Tie as tie
 
-returns : tie.Need-returns
-returns c = goal_odd _ _ c.if1.true
+returns : tie.Need-returns-then-goal-ne0
+returns c = goal_odd _ _ c.if-goal-ne0.true
 
-are-literals-requires : tie.Need-are-literals-requires
+are-literals-requires : tie.Need-are_literals-requires
 are-literals-requires c κs = search rules
 
-returns-2 : tie.Need-returns-2
-returns-2 c = c.are-literals.ensures ∙ goal_even _ _ c.before.if1.false
+returns-2 : tie.Need-returns
+returns-2 c = c.are_literals.ensures ∙ goal_even _ _ c.if-goal-ne0.false
 
-pub is-goal-spec : {M : Type 1} → statement M
-is-goal-spec = tie.close (tie.spec returns are-literals-requires returns-2)
+pub is_goal_spec : {M : Type 1} → statement M
+is_goal_spec = tie.close (tie.spec
+    returns
+    are-literals-requires
+    returns-2)

@@ -5,17 +5,20 @@ use borrow.Author.Rules.{rules}
 use Rattle.fdr_image.proofs.variables.Statement.{statement}
 use Rattle.fdr_image.proofs.variables.Tie as tie
 
-shared-slice-read-wide : tie.Need-shared-slice-read-wide
-shared-slice-read-wide c = omega (arith, image_room _ c.before.before.requires)
+shared-slice-read-wide : tie.Need-bounds-image-0
+shared-slice-read-wide c = omega (arith, image_room _ c.requires)
 
 wide-requires : tie.Need-wide-requires
 wide-requires c κs = search rules
 
 returns : tie.Need-returns
 returns c = (
-  c.wide.ensures.0 ∙ (variables_are _ c.before.before.before.requires).0,
-  omega (arith, c.wide.ensures.0, (variables_are _ c.before.before.before.requires).1),
+  c.wide.ensures.0 ∙ (variables_are _ c.requires).0,
+  omega (arith, c.wide.ensures.0, (variables_are _ c.requires).1),
 )
 
-pub variables-spec : {M : Type 1} → statement M
-variables-spec = tie.close (tie.spec shared-slice-read-wide wide-requires returns)
+pub variables_spec : {M : Type 1} → statement M
+variables_spec = tie.close (tie.spec
+    shared-slice-read-wide
+    wide-requires
+    returns)

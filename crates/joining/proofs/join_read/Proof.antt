@@ -12,42 +12,48 @@ use Rattle.joining.proofs.join_read.Statement.{statement}
 use Rattle.joining.proofs.join_read.Tie as tie
 
 -- the start, from where question 27 is answered
-abbrev lent : tie.After-fits2 → tie.After-shared-slice-known
+abbrev lent : tie.After-fits2 → tie.After-shared_slice_known-1
 lent c = c.before.before.before
 
 abbrev start : tie.After-fits2 → tie.Start
 start c = (lent c).before
 
-abbrev asked : tie.After-write-arg → tie.After-fits2
+abbrev asked : tie.After-write-arg-1 → tie.After-fits2
 asked c = c.before.before
 
 -- it was answered yes
 yes :
-    (c : tie.After-write-arg) → let a = (start (asked c)).args in
+    (c : tie.After-write-arg-1) → let a = (start (asked c)).args in
     true ≡ join_fits (joined (task_of a.left.now) (task_of a.right.now)) (length a.target.now)
-yes c = sym (not-false _ c.before.if1.false) ∙ (asked c).fits2.ensures
+yes c = sym (c.if-not-fits.false) ∙ (asked c).fits2.ensures
 
 fits-requires : tie.Need-fits-requires
 fits-requires c κs = search rules
 
-refuse-count-requires : tie.Need-refuse-count-requires
+refuse-count-requires : tie.Need-refuse_count-requires
 refuse-count-requires c κs = search rules
 
-returns : tie.Need-returns
+returns : tie.Need-returns-then-not-fits
 returns c =
     let d = c.before in
-    outcome_of _ _ _ _ c.refuse-count.ensures (join_not _ _ _ (sym (not-true _ d.if1.true) ∙ d.before.fits2.ensures))
+    outcome_of _ _ _ _ c.refuse_count.ensures (join_not _ _ _ (sym (d.if-not-fits.true) ∙ d.before.fits2.ensures))
 
-write-requires : tie.Need-write-requires
+write-requires : tie.Need-write-words-requires
 write-requires c κs =
     let p = (start (asked c)).requires in
     record { first = p.0; second = p.1; fits = sym (yes c) }
 
-same_length : tie.Need-same-length
+same_length : tie.Need-shape_of-target
 same_length c = search rules
 
-returns-2 : tie.Need-returns-2
-returns-2 c = let w = c.before.before in join_done _ _ _ (yes w.before) w.write.ensures
+returns-2 : tie.Need-returns
+returns-2 c = let w = c.before.before in join_done _ _ _ (yes w.before) w.write-words.ensures
 
-pub join-read-spec : {M : Type 1} → statement M
-join-read-spec = tie.close (tie.spec fits-requires refuse-count-requires returns write-requires same_length returns-2)
+pub join_read_spec : {M : Type 1} → statement M
+join_read_spec = tie.close (tie.spec
+    fits-requires
+    refuse-count-requires
+    returns
+    write-requires
+    same_length
+    returns-2)

@@ -7,14 +7,14 @@ use Rattle.propagation.proofs.close_fully.Statement.{statement}
 use Rattle.propagation.proofs.close_fully.Tie as tie
 
 -- where the marks are cleared: the start, and that they are bytes
-abbrev bytes : tie.After-clear → tie.After-slice-known
+abbrev bytes : tie.After-clear → tie.After-slice_known-1
 bytes d = d.before.before
 
 abbrev start : tie.After-clear → tie.Start
 start d = (bytes d).before.before.before
 
 -- where they are lent
-abbrev cleared : tie.After-propagate-arg → tie.After-clear
+abbrev cleared : tie.After-propagate-arg-1 → tie.After-clear
 cleared c = c.before.before.before
 
 clear-requires : tie.Need-clear-requires
@@ -23,10 +23,10 @@ clear-requires c κs = search rules
 propagate-requires : tie.Need-propagate-requires
 propagate-requires c κs =
     let d = cleared c in
-    let p = (start d).pre in
+    let p = (start d).requires in
     (ready_cleared _ _ _ d.clear.ensures _ _ _ p, p.below)
 
-same_length : tie.Need-same-length
+same_length : tie.Need-shape_of-marks
 same_length c = search rules
 
 returns : tie.Need-returns
@@ -35,8 +35,12 @@ returns c =
     let q = c.before.before in
     let d = cleared q.before in
     let r = q.propagate in
-    close_whole _ _ _ _ _ _ (start d).pre d.clear.ensures r.ensures.0 r.result r.ensures.1
-    (λ i. omega (arith, (bytes d).slice-known.given i)) (λ i. omega (arith, c.slice-known3.given i))
+    close_whole _ _ _ _ _ _ (start d).requires d.clear.ensures r.ensures.0 r.result r.ensures.1
+    (λ i. omega (arith, (bytes d).slice_known-1.given i)) (λ i. omega (arith, c.slice_known-3-1.given i))
 
-pub close-fully-spec : {M : Type 1} → statement M
-close-fully-spec = tie.close (tie.spec clear-requires propagate-requires same_length returns)
+pub close_fully_spec : {M : Type 1} → statement M
+close_fully_spec = tie.close (tie.spec
+    clear-requires
+    propagate-requires
+    same_length
+    returns)

@@ -12,21 +12,25 @@ abbrev start : tie.After-index → tie.Start
 start d = d.before.before.before
 
 place : (d : tie.After-index) → d.index.result ≡ complement (start d).args.l
-place d = d.index.ensures ∙ d.before.complement.ensures
+place d = d.index.ensures ∙ d.complement-opposite.ensures
 
-complement-requires : tie.Need-complement-requires
+complement-requires : tie.Need-complement-opposite-requires
 complement-requires c κs = search rules
 
 index-requires : tie.Need-index-requires
 index-requires c κs = search rules
 
-is-marked-requires : tie.Need-is-marked-requires
+is-marked-requires : tie.Need-is_marked-requires
 is-marked-requires c κs = search rules
 
 returns : tie.Need-returns
 returns c =
     let d = c.before in
-    c.is-marked.ensures ∙ ap (λ (x : ℕ). marked (start d).args.marks.now x) (place d)
+    c.is_marked.ensures ∙ ap (λ (x : ℕ). marked (start d).args.marks.now x) (place d)
 
-pub is-false-spec : {M : Type 1} → statement M
-is-false-spec = tie.close (tie.spec complement-requires index-requires is-marked-requires returns)
+pub is_false_spec : {M : Type 1} → statement M
+is_false_spec = tie.close (tie.spec
+    complement-requires
+    index-requires
+    is-marked-requires
+    returns)

@@ -9,20 +9,23 @@ use Rattle.propagation.proofs.is_open.Statement.{statement}
 use Rattle.propagation.proofs.is_open.Tie as tie
 
 -- where it is no fill
-abbrev start : tie.Else1 → tie.Start
+abbrev start : tie.Else-word-eq-FILL → tie.Start
 start e = e.before.before
 
-returns : tie.Need-returns
+returns : tie.Need-returns-then-word-eq-FILL
 unfolding open_word fill
-returns c = rw (eq-eqb _ fill c.if1.true)
+returns c = rw (eq-eqb _ fill c.if-word-eq-FILL.true)
 
-is-false-requires : tie.Need-is-false-requires
+is-false-requires : tie.Need-is_false-requires
 unfolding fill
-is-false-requires c κs = (omega (arith, c.if1.false, (start c).ranges), (start c).requires c.if1.false)
+is-false-requires c κs = (omega (arith, c.if-word-eq-FILL.false, (start c).ranges), (start c).requires c.if-word-eq-FILL.false)
 
-returns-2 : tie.Need-returns-2
+returns-2 : tie.Need-returns
 unfolding open_word fill
-returns-2 c = rw (ne_eqb _ fill c.before.if1.false) (ap not c.is_false.ensures)
+returns-2 c = rw (ne_eqb _ fill c.if-word-eq-FILL.false) (ap not c.is_false.ensures)
 
-pub is-open-spec : {M : Type 1} → statement M
-is-open-spec = tie.close (tie.spec returns is-false-requires returns-2)
+pub is_open_spec : {M : Type 1} → statement M
+is_open_spec = tie.close (tie.spec
+    returns
+    is-false-requires
+    returns-2)

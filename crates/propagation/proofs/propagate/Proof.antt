@@ -19,9 +19,9 @@ use Rattle.propagation.proofs.propagate.Tie as tie
 
 -- after the literals are added: the start, and what adding them did
 abbrev seeded : Type 0
-seeded = tie.After-seed
+seeded = tie.After-seed-seeded
 
-abbrev known : seeded → tie.After-shared-slice-known2
+abbrev known : seeded → tie.After-shared_slice_known-2-1
 known d = d.before.before.before
 
 abbrev start : seeded → tie.Start
@@ -40,19 +40,19 @@ abbrev set_first : seeded → List ℕ
 set_first d = set_of (atoms d) (start d).args.marks.now
 
 abbrev marks_after : seeded → List ℕ
-marks_after d = d.seed.last.1.0
+marks_after d = d.seed-seeded.new.marks
 
 abbrev set_after : seeded → List ℕ
 set_after d = set_of (atoms d) (marks_after d)
 
-did : (d : seeded) (v : Pass) → d.seed.result ≡ v → Seeded (stops d) (set_first d) (literals d) (set_after d) v
-did d v e = subst (λ (x : Pass). Seeded (stops d) (set_first d) (literals d) (set_after d) x) e d.seed.ensures.1
+did : (d : seeded) (v : Pass) → d.seed-seeded.result ≡ v → Seeded (stops d) (set_first d) (literals d) (set_after d) v
+did d v e = subst (λ (x : Pass). Seeded (stops d) (set_first d) (literals d) (set_after d) x) e d.seed-seeded.ensures.1
 
 -- where its answer is looked at
-abbrev seed_of : tie.After-slice-known2 → seeded
+abbrev seed_of : tie.After-slice_known-2-1 → seeded
 seed_of c = c.before.before
 
-abbrev going_on : tie.At-match-keys2 → seeded
+abbrev going_on : tie.In_default → seeded
 going_on m = seed_of m.before
 
 -- an answer of the other two variants
@@ -63,46 +63,53 @@ not_met v k e = none (subst (λ (x : Pass). OneOf (0 ∷ 1 ∷ []) (tag_of the_t
     none (inl q) = omega arith
     none (inr q) = omega arith
 
-added : (m : tie.At-match-keys2) → let d = going_on m in Added (stops d) (set_first d) (literals d) (set_after d)
+added : (m : tie.In_default) → let d = going_on m in Added (stops d) (set_first d) (literals d) (set_after d)
 added m =
     let d = going_on m in
-    seeded_added (stops d) (set_first d) (literals d) (set_after d) d.seed.result (not_met d.seed.result m.match.keys2)
-    (start d).pre.0.marks.sound d.seed.ensures.1
+    seeded_added (stops d) (set_first d) (literals d) (set_after d) d.seed-seeded.result (not_met d.seed-seeded.result m.in_default.keys2)
+    (start d).requires.0.marks.sound d.seed-seeded.ensures.1
 
-seed-requires : tie.Need-seed-requires
+seed-requires : tie.Need-seed-seeded-requires
 seed-requires c κs =
     let k = c.before.before in
     let s = k.before.before in
     (s.requires.0.marks, s.requires.1)
 
-enum_told : tie.Need-enum-told
+enum_told : tie.Need-enum_told-1
 enum_told c = search rules
 
-same_length : tie.Need-same-length
+same_length : tie.Need-shape_of-marks-in-Contradictory
 same_length c = search rules
 
-returns : tie.Need-returns
+returns : tie.Need-returns-in-Contradictory
 returns c =
-    let d = seed_of c.before.before in
-    (d.seed.ensures.0, propagate_clash (stops d) _ (set_first d) (literals d) (set_after d) (did d Contradictory c.enum_told.given.1))
+    let d = seed_of c.before in
+    (d.seed-seeded.ensures.0, propagate_clash (stops d) _ (set_first d) (literals d) (set_after d) (did d Contradictory c.in-Contradictory.is))
 
 saturate-requires : tie.Need-saturate-requires
 saturate-requires c κs =
     let d = going_on c.before in
-    ready_on _ _ _ _ _ (start d).pre.0 d.seed.ensures.0 (added c.before).sound
+    ready_on _ _ _ _ _ (start d).requires.0 d.seed-seeded.ensures.0 (added c.before).sound
 
-same-length-2 : tie.Need-same-length-2
+same-length-2 : tie.Need-shape_of-marks
 same-length-2 c = search rules
 
-returns-2 : tie.Need-returns-2
+returns-2 : tie.Need-returns
 returns-2 c =
     let t = c.before.before in
     let m = t.before.before in
     let d = going_on m in
     let r = t.saturate in (
-      rest_on _ _ (marks_after d) _ d.seed.ensures.0 r.ensures.0,
+      rest_on _ _ (marks_after d) _ d.seed-seeded.ensures.0 r.ensures.0,
       propagate_on (stops d) _ (set_first d) (literals d) (set_after d) _ r.result (added m) r.ensures.1,
     )
 
-pub propagate-spec : {M : Type 1} → statement M
-propagate-spec = tie.close (tie.spec seed-requires enum_told same_length returns saturate-requires same-length-2 returns-2)
+pub propagate_spec : {M : Type 1} → statement M
+propagate_spec = tie.close (tie.spec
+    seed-requires
+    enum_told
+    same_length
+    returns
+    saturate-requires
+    same-length-2
+    returns-2)

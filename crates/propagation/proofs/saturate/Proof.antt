@@ -26,7 +26,7 @@ start h = h.before.before.before
 
 -- after a walk: the head, the words, and what the walk did
 abbrev walked : Type 0
-walked = tie.After-walk invariant-loop decreases-loop
+walked = tie.After-walk-pass invariant-loop decreases-loop
 
 abbrev head : walked → tie.At-loop invariant-loop decreases-loop
 head d = d.before.before
@@ -47,59 +47,59 @@ abbrev set_now : walked → List ℕ
 set_now d = set_of (atoms d) (head d).loop.marks
 
 abbrev set_after : walked → List ℕ
-set_after d = set_of (atoms d) d.walk.last.1.0
+set_after d = set_of (atoms d) d.walk-pass.new.marks
 
-did : (d : walked) (v : Pass) → d.walk.result ≡ v → Passed (stops d) (words d) (set_now d) (set_after d) v
-did d v e = subst (λ (x : Pass). Passed (stops d) (words d) (set_now d) (set_after d) x) e d.walk.ensures.1
+did : (d : walked) (v : Pass) → d.walk-pass.result ≡ v → Passed (stops d) (words d) (set_now d) (set_after d) v
+did d v e = subst (λ (x : Pass). Passed (stops d) (words d) (set_now d) (set_after d) x) e d.walk-pass.ensures.1
 
-rest_after : (d : walked) → RestKept (atoms d) (marks_first d) d.walk.last.1.0
-rest_after d = rest_on (atoms d) (marks_first d) (head d).loop.marks _ (head d).loop.inv.0 d.walk.ensures.0
+rest_after : (d : walked) → RestKept (atoms d) (marks_first d) d.walk-pass.new.marks
+rest_after d = rest_on (atoms d) (marks_first d) (head d).loop.marks _ (head d).loop.invariant.0 d.walk-pass.ensures.0
 
 -- where its answer is looked at
-abbrev walk_of : tie.After-slice-known2 invariant-loop decreases-loop → walked
+abbrev walk_of : tie.After-slice_known-in-loop-1 invariant-loop decreases-loop → walked
 walk_of c = c.before.before
 
 loop-holds : tie.Need-loop-init invariant-loop decreases-loop
-loop-holds c = (rest_self _ _, reached_self _ _ _ c.before.before.requires.marks.sound)
+loop-holds c = (rest_self _ _, reached_self _ _ _ c.requires.marks.sound)
 
-walk-requires : tie.Need-walk-requires invariant-loop decreases-loop
+walk-requires : tie.Need-walk-pass-requires invariant-loop decreases-loop
 walk-requires c κs = let h = c.before in ready_on _ _ _ _ _ (start h).requires h.loop.invariant.0 h.loop.invariant.1.sound
 
-enum_told : tie.Need-enum-told invariant-loop decreases-loop
-enum_told c = c.match.keys1
+enum_told : tie.Need-enum_told-1 invariant-loop decreases-loop
+enum_told c = c.in-Same-1.keys1
 
-same_length : tie.Need-same-length invariant-loop decreases-loop
-same_length c = (rest_after (walk_of c.before.before)).same_length
+same_length : tie.Need-shape_of-marks-in-Same invariant-loop decreases-loop
+same_length c = (rest_after (walk_of c.before)).same_length
 
-returns : tie.Need-returns invariant-loop decreases-loop
+returns : tie.Need-returns-in-Same invariant-loop decreases-loop
 returns c =
-    let d = walk_of c.before.before in
-    (rest_after d, saturate_same _ _ _ _ _ (head d).loop.inv.1 (did d Same c.enum_told.given.1))
+    let d = walk_of c.before in
+    (rest_after d, saturate_same _ _ _ _ _ (head d).loop.invariant.1 (did d Same c.in-Same.is))
 
-enum-told-2 : tie.Need-enum-told-2 invariant-loop decreases-loop
-enum-told-2 c = c.match.keys2
+enum-told-2 : tie.Need-enum_told-in-Contradictory invariant-loop decreases-loop
+enum-told-2 c = c.in-Contradictory-1.keys2
 
-same-length-2 : tie.Need-same-length-2 invariant-loop decreases-loop
-same-length-2 c = (rest_after (walk_of c.before.before)).same_length
+same-length-2 : tie.Need-shape_of-marks-in-Contradictory invariant-loop decreases-loop
+same-length-2 c = (rest_after (walk_of c.before)).same_length
 
-returns-2 : tie.Need-returns-2 invariant-loop decreases-loop
+returns-2 : tie.Need-returns-in-Contradictory invariant-loop decreases-loop
 returns-2 c =
-    let d = walk_of c.before.before in
-    (rest_after d, saturate_clash (stops d) (words d) _ (set_now d) (set_after d) (head d).loop.inv.1 (did d Contradictory c.enum-told2.given.1))
+    let d = walk_of c.before in
+    (rest_after d, saturate_clash (stops d) (words d) _ (set_now d) (set_after d) (head d).loop.invariant.1 (did d Contradictory c.in-Contradictory.is))
 
-enum-told-3 : tie.Need-enum-told-3 invariant-loop decreases-loop
-enum-told-3 c = c.match.keys3
+enum-told-3 : tie.Need-enum_told-in-Grown invariant-loop decreases-loop
+enum-told-3 c = c.in-Grown-1.keys3
 
 loop-less : tie.Need-loop-smaller invariant-loop decreases-loop
-loop-less c = (did (walk_of c.before.before) Grown c.enum-told3.given.1).1
+loop-less c = (did (walk_of c.before) Grown c.in-Grown.is).1
 
 loop-again : tie.Need-loop-preserved invariant-loop decreases-loop
 loop-again c =
-    let d = walk_of c.before.before in
-    (rest_after d, reached_on _ _ _ _ _ (head d).loop.inv.1 (did d Grown c.enum-told3.given.1).0)
+    let d = walk_of c.before in
+    (rest_after d, reached_on _ _ _ _ _ (head d).loop.invariant.1 (did d Grown c.in-Grown.is).0)
 
-pub saturate-spec : {M : Type 1} → statement M
-saturate-spec =
+pub saturate_spec : {M : Type 1} → statement M
+saturate_spec =
     tie.close
     (tie.spec
     invariant-loop

@@ -21,16 +21,16 @@ use borrow.Author.Rules.{rules}
 use Rattle.propagation.proofs.seed.Statement.{statement}
 use Rattle.propagation.proofs.seed.Tie as tie
 
-abbrev invariant-loop : tie.invariant-loop
+abbrev invariant-loop : tie.invariant-loop-i
 invariant-loop literals marks₀ atoms stops pass₀ i₀ marks pass i =
     RestKept atoms marks₀ marks × Seeding stops (set_of atoms marks₀) literals (set_of atoms marks) i pass
 
-abbrev decreases-loop : tie.decreases-loop
+abbrev decreases-loop : tie.decreases-loop-i
 decreases-loop literals marks₀ atoms stops pass₀ i₀ marks pass i = length literals - i
 
 -- at the loop's head: the start, the atoms, the literals, the marks at the start and now
 abbrev head : Type 0
-head = tie.At-loop invariant-loop decreases-loop
+head = tie.At-loop-i invariant-loop decreases-loop
 
 abbrev start : head → tie.Start invariant-loop decreases-loop
 start h = h.before.before.before
@@ -45,20 +45,20 @@ abbrev marks_first : head → List ℕ
 marks_first h = (start h).args.marks.now
 
 abbrev marks_now : head → List ℕ
-marks_now h = h.loop.marks
+marks_now h = h.loop-i.marks
 
 room : (h : head) → mark_bytes (atoms h) ≤ length (marks_now h)
-room h = rw h.loop.inv.0.same_length (start h).pre.0.room
+room h = rw h.loop-i.invariant.0.same_length (start h).requires.0.room
 
 -- in the loop: the literal
 abbrev inside : Type 0
-inside = tie.In-loop invariant-loop decreases-loop
+inside = tie.In-loop-i invariant-loop decreases-loop
 
 abbrev at : inside → ℕ
-at t = get_or (literals t.before) t.before.loop.i 0
+at t = get_or (literals t.before) t.loop-i.i 0
 
 low : (t : inside) → at t < 2 * atoms t.before
-low t = place_below _ _ _ _ (start t.before).pre.1 refl t.loop-test.taken
+low t = place_below _ _ _ _ (start t.before).requires.1 refl t.loop-i-test.true
 
 complement_low : (t : inside) → complement (at t) < 2 * atoms t.before
 complement_low t = complement_below (at t) (2 * atoms t.before) (omega arith) (low t)
@@ -72,15 +72,15 @@ complement_has t = view_has (atoms t.before) (marks_now t.before) (complement (a
 
 -- where its complement was looked at, and the literal then added
 abbrev met : Type 0
-met = tie.After-stops-at invariant-loop decreases-loop
+met = tie.After-stops_at invariant-loop decreases-loop
 
 abbrev literal_of_lem : met → inside
-literal_of_lem d = d.before.before.before
+literal_of_lem d = d.before.before
 
 abbrev added : Type 0
 added = tie.After-add invariant-loop decreases-loop
 
-abbrev not_met : added → tie.Else1 invariant-loop decreases-loop
+abbrev not_met : added → tie.Else-stops_at invariant-loop decreases-loop
 not_met a = a.before.before.before
 
 abbrev met_of : added → met
@@ -89,11 +89,11 @@ met_of a = (not_met a).before
 abbrev new_of : added → inside
 new_of a = literal_of_lem (met_of a)
 
-adds : (a : added) (b : Bool) → a.add.result ≡ b → let t = new_of a in Adds (marks_now t.before) (at t) a.add.last.0 b
+adds : (a : added) (b : Bool) → a.add.result ≡ b → let t = new_of a in Adds (marks_now t.before) (at t) a.add.new.marks b
 adds a b e =
     let t = new_of a in
-    subst (λ (x : Bool). Adds (marks_now t.before) (at t) a.add.last.0 x) e
-    (subst (λ (x : ℕ). Adds (marks_now t.before) x a.add.last.0 a.add.result) a.before.wide.ensures.0 a.add.ensures)
+    subst (λ (x : Bool). Adds (marks_now t.before) (at t) a.add.new.marks x) e
+    (subst (λ (x : ℕ). Adds (marks_now t.before) x a.add.new.marks a.add.result) a.wide.ensures.0 a.add.ensures)
 
 -- where propagation does not stop at the literal, its complement is not in the set
 not_there :
@@ -103,49 +103,49 @@ not_there a e =
     let t = new_of a in
     let there = marked (marks_now t.before) (complement (at t)) in
     complement_has t
-    ∙ sym (ap (λ (x : Bool). x && there) e) ∙ sym (met_of a).stops_at.ensures ∙ (not_met a).if1.left
+    ∙ sym (ap (λ (x : Bool). x && there) e) ∙ sym (met_of a).stops_at.ensures ∙ (not_met a).if-stops_at.false
 
 -- the loop goes on with these marks and this answer
 abbrev Next : added → List ℕ → Pass → Type 0
 Next a s pass =
     let h = (new_of a).before in
     RestKept (atoms h) (marks_first h) s
-    × Seeding (start h).args.stops (set_of (atoms h) (marks_first h)) (literals h) (set_of (atoms h) s) (h.loop.i + 1) pass
+    × Seeding (start h).args.stops (set_of (atoms h) (marks_first h)) (literals h) (set_of (atoms h) s) (h.loop-i.i + 1) pass
 
-next : (a : added) (b : Bool) → a.add.result ≡ b → Next a a.add.last.0 (grown_if b (new_of a).before.loop.pass)
+next : (a : added) (b : Bool) → a.add.result ≡ b → Next a a.add.new.marks (grown_if b (new_of a).loop-i.pass)
 next a b e =
     let t = new_of a in
     let h = t.before in
-    let r = seed_adds _ (atoms h) _ _ (marks_now h) _ _ _ _ h.loop.inv.1 refl t.loop-test.taken (low t) (not_there a) b (adds a b e) in
-    (rest_on (atoms h) (marks_first h) (marks_now h) a.add.last.0 h.loop.inv.0 r.0, r.1)
+    let r = seed_adds _ (atoms h) _ _ (marks_now h) _ _ _ _ h.loop-i.invariant.1 refl t.loop-i-test.true (low t) (not_there a) b (adds a b e) in
+    (rest_on (atoms h) (marks_first h) (marks_now h) a.add.new.marks h.loop-i.invariant.0 r.0, r.1)
 
-loop-holds : tie.Need-loop-init invariant-loop decreases-loop
+loop-holds : tie.Need-loop-i-init invariant-loop decreases-loop
 loop-holds c = let s = c.before.before in (rest_self _ _, seed_start _ _ _ s.requires.0.sound)
 
-mul-l : tie.Need-overflow-mul-l invariant-loop decreases-loop
+mul-l : tie.Need-offset_bounds-literals-i invariant-loop decreases-loop
 mul-l c = search rules
 
-shared-slice-read-l : tie.Need-shared-slice-read-l invariant-loop decreases-loop
+shared-slice-read-l : tie.Need-bounds-literals-i invariant-loop decreases-loop
 shared-slice-read-l c = search rules
 
-stops-at-requires : tie.Need-stops-at-requires invariant-loop decreases-loop
+stops-at-requires : tie.Need-stops_at-requires invariant-loop decreases-loop
 stops-at-requires c κs =
-    let t = c.before.before in
-    (omega (arith, low t, (start t.before).pre.0.few), byte_there t (complement (at t)) (complement_low t))
+    let t = c.before in
+    (omega (arith, low t, (start t.before).requires.0.few), byte_there t (complement (at t)) (complement_low t))
 
-same_length : tie.Need-same-length invariant-loop decreases-loop
-same_length c = (literal_of_lem c.before).before.loop.inv.0.same_length
+same_length : tie.Need-shape_of-marks-then-stops_at invariant-loop decreases-loop
+same_length c = (literal_of_lem c.before).loop-i.invariant.0.same_length
 
-returns : tie.Need-returns invariant-loop decreases-loop
+returns : tie.Need-returns-then-stops_at invariant-loop decreases-loop
 returns c =
     let d = c.before in
     let t = literal_of_lem d in
-    let l = t.before.loop in
+    let l = t.loop-i in
     let stops = (start t.before).args.stops in
     let there = marked (marks_now t.before) (complement (at t)) in
-    let both : (stops && there) ≡ true = sym d.stops_at.ensures ∙ c.if1.true in (
-      l.inv.0,
-      seed_clash _ _ _ _ _ _ _ l.inv.1 refl t.loop-test.taken (and_left stops there both) (complement_has t ∙ and_right stops there both),
+    let both : (stops && there) ≡ true = sym d.stops_at.ensures ∙ c.if-stops_at.true in (
+      l.invariant.0,
+      seed_clash _ _ _ _ _ _ _ l.invariant.1 refl t.loop-i-test.true (and_left stops there both) (complement_has t ∙ and_right stops there both),
     )
 
 wide-requires : tie.Need-wide-requires invariant-loop decreases-loop
@@ -156,27 +156,27 @@ add-requires c κs =
     let t = literal_of_lem c.before.before.before in
     subst (λ (x : ℕ). x / 8 < length (marks_now t.before)) (sym c.wide.ensures.0) (byte_there t (at t) (low t))
 
-add-i : tie.Need-overflow-add-i invariant-loop decreases-loop
+add-i : tie.Need-overflow_add-i invariant-loop decreases-loop
 add-i c = search rules
 
-loop-less : tie.Need-loop-smaller invariant-loop decreases-loop
+loop-less : tie.Need-loop-i-smaller invariant-loop decreases-loop
 loop-less c = search rules
 
-loop-again : tie.Need-loop-preserved invariant-loop decreases-loop
+loop-again : tie.Need-loop-i-preserved invariant-loop decreases-loop
 unfolding grown_if
 loop-again c =
     let a = c.before.before.before in
-    let On : Pass → Type 0 = Next a a.add.new.0 in
-    ⊎_elim (λ x. subst On (sym x.1) (next a true x.0.taken)) (λ x. subst On (sym x.1) (next a false x.0.left)) c.if2.branch
+    let On : Pass → Type 0 = Next a a.add.new.marks in
+    ⊎_elim (λ x. subst On (sym x.1) (next a true x.0.true)) (λ x. subst On (sym x.1) (next a false x.0.left)) c.if-add.branch
 
-same-length-2 : tie.Need-same-length-2 invariant-loop decreases-loop
-same-length-2 c = c.before.loop.invariant.0.same_length
+same-length-2 : tie.Need-shape_of-marks invariant-loop decreases-loop
+same-length-2 c = c.loop-i.invariant.0.same_length
 
-returns-2 : tie.Need-returns-2 invariant-loop decreases-loop
-returns-2 c = let h = c.before in (h.loop.invariant.0, seed_end _ _ _ _ _ _ h.loop.invariant.1 c.loop-test.false)
+returns-2 : tie.Need-returns invariant-loop decreases-loop
+returns-2 c = let h = c.before in (h.loop-i.invariant.0, seed_end _ _ _ _ _ _ h.loop-i.invariant.1 c.loop-i-test.false)
 
-pub seed-spec : {M : Type 1} → statement M
-seed-spec =
+pub seed_spec : {M : Type 1} → statement M
+seed_spec =
     tie.close
     (tie.spec
     invariant-loop

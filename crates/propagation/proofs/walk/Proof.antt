@@ -47,11 +47,11 @@ record Going (clauses marks₀ marks : List ℕ) (atoms : ℕ) (stops : Bool) (p
   state : Walk stops clauses (set_of atoms marks₀) (set_of atoms marks) place.at pass
   opened : Open (set_of atoms marks) known
 
-abbrev invariant-loop : tie.invariant-loop
+abbrev invariant-loop : tie.invariant-loop-k
 invariant-loop clauses marks atoms stops pass known₀ place here first₀ k₀ known first k =
     (k ≤ width) × Scanning clauses (set_of atoms marks) here.at k first
 
-abbrev decreases-loop : tie.decreases-loop
+abbrev decreases-loop : tie.decreases-loop-k
 decreases-loop clauses marks atoms stops pass known₀ place here first₀ k₀ known first k = width - k
 
 abbrev invariant-walk : tie.invariant-walk
@@ -65,7 +65,7 @@ decreases-walk clauses marks₀ atoms stops pass₀ known₀ place₀ marks pass
 abbrev head : Type 0
 head = tie.At-walk invariant-loop decreases-loop invariant-walk decreases-walk
 
-abbrev lent : head → tie.After-slice-known invariant-loop decreases-loop invariant-walk decreases-walk
+abbrev lent : head → tie.After-slice_known-1 invariant-loop decreases-loop invariant-walk decreases-walk
 lent h = h.before.before
 
 abbrev start_of : head → tie.Start invariant-loop decreases-loop invariant-walk decreases-walk
@@ -75,15 +75,15 @@ abbrev words_of_lem : head → List ℕ
 words_of_lem h = (start_of h).args.clauses.now
 
 rows_at : (h : head) → RightRows (start_of h).args.atoms (words_of_lem h)
-rows_at h = read_right (start_of h).args.atoms (words_of_lem h) (start_of h).pre.rows
+rows_at h = read_right (start_of h).args.atoms (words_of_lem h) (start_of h).requires.rows
 
 -- where there is a row
-row_of_test : (t : tie.Then1 invariant-loop decreases-loop invariant-walk decreases-walk) → let h = t.before.before in AtRow (words_of_lem h) h.walk.place
-row_of_test t = let h = t.before.before in row_begins h.walk.invariant.placed (rows_at h).ascending.whole t.if1.true
+row_of_test : (t : tie.In-walk invariant-loop decreases-loop invariant-walk decreases-walk) → let h = t.before.before in AtRow (words_of_lem h) h.walk.place
+row_of_test t = let h = t.before.before in row_begins h.walk.invariant.placed (rows_at h).ascending.whole t.walk-test.true
 
 -- in the outer loop: the clause words, the marks at the start and now, their sets, the row's position, and the answer so far
 abbrev outer : Type 0
-outer = tie.After-next invariant-loop decreases-loop invariant-walk decreases-walk
+outer = tie.After-next-place invariant-loop decreases-loop invariant-walk decreases-walk
 
 abbrev at_head : outer → head
 at_head w = w.before.before.before
@@ -122,13 +122,13 @@ at_row_of : (w : outer) → AtRow (words w) (at_head w).walk.place
 at_row_of w = row_of_test w.before
 
 ready : (w : outer) → Ready (stops w) (atoms w) (words w) (marks_first w)
-ready w = (start w).pre
+ready w = (start w).requires
 
 rest_now : (w : outer) → RestKept (atoms w) (marks_first w) (marks_now w)
-rest_now w = (at_head w).walk.inv.rest
+rest_now w = (at_head w).walk.invariant.rest
 
 state : (w : outer) → Walk (stops w) (words w) (set_first w) (set_now w) (position w) (so_far w)
-state w = (at_head w).walk.inv.state
+state w = (at_head w).walk.invariant.state
 
 room : (w : outer) → mark_bytes (atoms w) ≤ length (marks_now w)
 room w = rw (rest_now w).same_length (ready w).marks.room
@@ -152,19 +152,19 @@ row_below w l m =
     clause_below (atoms w) (words w) (rows w) (clause_at (words w) (position w)) clause l m
 
 -- the walk goes on at the next row
-less_left : (w : outer) → let c = row_count (words w) in c - w.next.result.number < c - (at_head w).walk.place.number
-less_left w = fewer_left (at_row_of w) w.next.ensures
+less_left : (w : outer) → let c = row_count (words w) in c - w.next-place.result.number < c - (at_head w).walk.place.number
+less_left w = fewer_left (at_row_of w) w.next-place.ensures
 
 abbrev On : outer → List ℕ → Pass → ℕ → Type 0
-On w ms a u = Going (words w) (marks_first w) ms (atoms w) (stops w) a u w.next.result
+On w ms a u = Going (words w) (marks_first w) ms (atoms w) (stops w) a u w.next-place.result
 
 on :
     (w : outer) (ms : List ℕ) (a : Pass) (u : ℕ) → RestKept (atoms w) (marks_first w) ms
     → Walk (stops w) (words w) (set_first w) (set_of (atoms w) ms) (position w + width) a → Open (set_of (atoms w) ms) u → On w ms a u
 on w ms a u rest k unmarked =
-    let next = next_position (at_row_of w) w.next.ensures in
+    let next = next_position (at_row_of w) w.next-place.ensures in
     record {
-      placed = placed_next (at_row_of w) w.next.ensures;
+      placed = placed_next (at_row_of w) w.next-place.ensures;
       rest = rest;
       state = subst (λ (x : ℕ). Walk (stops w) (words w) (set_first w) (set_of (atoms w) ms) x a) (sym next) k;
       opened = unmarked;
@@ -193,83 +193,83 @@ module _ (w : outer) (l : ℕ) (m : Memᴰ l (clause_at (words w) (position w)))
   complement_marked = view_has (atoms w) (marks_now w) (complement l) complement_low
 
 -- after its first two words were looked at
-abbrev row_asked : tie.After-second-is-open invariant-loop decreases-loop invariant-walk decreases-walk → outer
-row_asked c = c.before.before
+abbrev row_asked : tie.After-second_is_open invariant-loop decreases-loop invariant-walk decreases-walk → outer
+row_asked c = c.before
 
 -- in the inner loop: the word
 abbrev inner : Type 0
-inner = tie.In-loop invariant-loop decreases-loop invariant-walk decreases-walk
+inner = tie.In-loop-k invariant-loop decreases-loop invariant-walk decreases-walk
 
-abbrev row_at_lem : tie.At-loop invariant-loop decreases-loop invariant-walk decreases-walk → outer
+abbrev row_at_lem : tie.At-loop-k invariant-loop decreases-loop invariant-walk decreases-walk → outer
 row_at_lem h = row_asked h.before.before
 
 abbrev row_of : inner → outer
 row_of c = row_at_lem c.before
 
 abbrev word : inner → ℕ
-word c = get_or (words (row_of c)) (position (row_of c) + c.before.loop.k) 0
+word c = get_or (words (row_of c)) (position (row_of c) + c.loop-k.k) 0
 
-in_width : (c : inner) → c.before.loop.k < width
+in_width : (c : inner) → c.loop-k.k < width
 unfolding width
-in_width c = c.loop-test.true
+in_width c = c.loop-k-test.true
 
-in_range : (c : inner) → position (row_of c) + c.before.loop.k < length (words (row_of c))
+in_range : (c : inner) → position (row_of c) + c.loop-k.k < length (words (row_of c))
 in_range c = omega (arith, inside (row_of c), in_width c)
 
 word_of_row : (c : inner) → (word c ≡ fill → ⊥) → Memᴰ (word c) (clause_at (words (row_of c)) (position (row_of c)))
 word_of_row c =
     let w = row_of c in
-    let l = c.before.loop in
+    let l = c.loop-k in
     word_in (words w) (set_now w) (position w) l.k l.first l.invariant.1 (in_width c)
 
 -- after the inner loop: the scan of the whole row
 abbrev after_row : Type 0
-after_row = tie.After-loop invariant-loop decreases-loop invariant-walk decreases-walk
+after_row = tie.After-loop-k invariant-loop decreases-loop invariant-walk decreases-walk
 
 abbrev row : after_row → outer
 row c = row_at_lem c.before
 
 abbrev opened : after_row → ℕ
-opened c = c.before.loop.first
+opened c = c.loop-k.first
 
-scanned : (c : after_row) → Scanning (words (row c)) (set_now (row c)) (position (row c)) c.before.loop.k (opened c)
-scanned c = c.before.loop.invariant.1
+scanned : (c : after_row) → Scanning (words (row c)) (set_now (row c)) (position (row c)) c.loop-k.k (opened c)
+scanned c = c.loop-k.invariant.1
 
 row_open : (c : after_row) → Open (set_now (row c)) (opened c)
-row_open c = scan_open (words (row c)) (set_now (row c)) (position (row c)) c.before.loop.k (opened c) (scanned c)
+row_open c = scan_open (words (row c)) (set_now (row c)) (position (row c)) c.loop-k.k (opened c) (scanned c)
 
-all_words : (c : after_row) → width ≤ c.before.loop.k
+all_words : (c : after_row) → width ≤ c.loop-k.k
 unfolding width
-all_words c = c.loop-test.false
+all_words c = c.loop-k-test.false
 
 -- what the word adds to the scan
 abbrev looked : Type 0
-looked = tie.After-scan-word invariant-loop decreases-loop invariant-walk decreases-walk
+looked = tie.After-scan_word-scan invariant-loop decreases-loop invariant-walk decreases-walk
 
-abbrev read_word : looked → tie.After-shared-slice-known2 invariant-loop decreases-loop invariant-walk decreases-walk
-read_word c = c.before.before
+abbrev read_word : looked → tie.After-shared_slice_known-in-loop-k-1 invariant-loop decreases-loop invariant-walk decreases-walk
+read_word c = c.before
 
 abbrev at : looked → inner
 at c = (read_word c).before.before
 
 abbrev Adds : looked → Scan → Type 0
-Adds c v = Scanned (has (set_now (row_of (at c))) (complement (word (at c)))) (word (at c)) (at c).before.loop.first v
+Adds c v = Scanned (has (set_now (row_of (at c))) (complement (word (at c)))) (word (at c)) (at c).loop-k.first v
 
-added : (c : looked) (v : Scan) → c.scan-word.result ≡ v → Adds c v
+added : (c : looked) (v : Scan) → c.scan_word-scan.result ≡ v → Adds c v
 added c v e =
     let i = at c in
     let w = row_of i in
-    scanned_on (marked (marks_now w) (complement (word i))) _ (word i) i.before.loop.first v
+    scanned_on (marked (marks_now w) (complement (word i))) _ (word i) i.loop-k.first v
     (λ ne. complement_marked w (word i) (word_of_row i ne))
-    (subst (λ (x : Scan). Scanned (marked (marks_now w) (complement (word i))) (word i) i.before.loop.first x) e c.scan-word.ensures)
+    (subst (λ (x : Scan). Scanned (marked (marks_now w) (complement (word i))) (word i) i.loop-k.first x) e c.scan_word-scan.ensures)
 
 -- where there is a second open literal
-abbrev looked_by : tie.After-enum-told3 invariant-loop decreases-loop invariant-walk decreases-walk → looked
-looked_by c = c.before.before
+abbrev looked_by : tie.In-Second invariant-loop decreases-loop invariant-walk decreases-walk → looked
+looked_by c = c.before
 
 -- what followed from the row
 abbrev followed : Type 0
-followed = tie.After-force invariant-loop decreases-loop invariant-walk decreases-walk
+followed = tie.After-force-forced invariant-loop decreases-loop invariant-walk decreases-walk
 
 abbrev lent_row : followed → tie.After-row invariant-loop decreases-loop invariant-walk decreases-walk
 lent_row f = f.before.before
@@ -285,17 +285,17 @@ row_is r = r.row.ensures ∙ sym (row_words_lem (at_row_of (row r.before)))
 abbrev Follows : followed → Pass → Type 0
 Follows f v =
     let w = row (scan_of f) in
-    Seeded (stops w) (set_now w) (forced_of (take width (drop (position w) (words w))) (opened (scan_of f))) (set_of (atoms w) f.force.last.1.1.0) v
+    Seeded (stops w) (set_now w) (forced_of (take width (drop (position w) (words w))) (opened (scan_of f))) (set_of (atoms w) f.force-forced.new.marks) v
 
-follows : (f : followed) (v : Pass) → f.force.result ≡ v → Follows f v
+follows : (f : followed) (v : Pass) → f.force-forced.result ≡ v → Follows f v
 follows f v e =
     let w = row (scan_of f) in
-    let s' = set_of (atoms w) f.force.last.1.1.0 in
+    let s' = set_of (atoms w) f.force-forced.new.marks in
     subst (λ (x : List ℕ). Seeded (stops w) (set_now w) (forced_of x (opened (scan_of f))) s' v) (row_is (lent_row f))
-    (subst (λ (x : Pass). Seeded (stops w) (set_now w) (forced_of (lent_row f).row.result.now (opened (scan_of f))) s' x) e f.force.ensures.1)
+    (subst (λ (x : Pass). Seeded (stops w) (set_now w) (forced_of (lent_row f).row.result.now (opened (scan_of f))) s' x) e f.force-forced.ensures.1)
 
-rest_after : (f : followed) → let w = row (scan_of f) in RestKept (atoms w) (marks_first w) f.force.last.1.1.0
-rest_after f = let w = row (scan_of f) in rest_on (atoms w) (marks_first w) (marks_now w) _ (rest_now w) f.force.ensures.0
+rest_after : (f : followed) → let w = row (scan_of f) in RestKept (atoms w) (marks_first w) f.force-forced.new.marks
+rest_after f = let w = row (scan_of f) in rest_on (atoms w) (marks_first w) (marks_now w) _ (rest_now w) f.force-forced.ensures.0
 
 -- one argument for each answer
 module _ (f : followed) where
@@ -340,76 +340,76 @@ module _ (f : followed) where
       (set_of (atoms w) after) forced all (follows f Contradictory e)
 
 -- where its answer is looked at
-abbrev force_of : tie.After-slice-known2 invariant-loop decreases-loop invariant-walk decreases-walk → followed
+abbrev force_of : tie.After-slice_known-in-walk-1 invariant-loop decreases-loop invariant-walk decreases-walk → followed
 force_of c = c.before.before
 
-first-requires : tie.Need-first-requires invariant-loop decreases-loop invariant-walk decreases-walk
+first-requires : tie.Need-first-place-requires invariant-loop decreases-loop invariant-walk decreases-walk
 first-requires c κs = search rules
 
-abbrev start_of_first : tie.After-first invariant-loop decreases-loop invariant-walk decreases-walk → tie.Start invariant-loop decreases-loop invariant-walk decreases-walk
+abbrev start_of_first : tie.After-first-place invariant-loop decreases-loop invariant-walk decreases-walk → tie.Start invariant-loop decreases-loop invariant-walk decreases-walk
 start_of_first c = c.before.before.before
 
 walk-holds : tie.Need-walk-init invariant-loop decreases-loop invariant-walk decreases-walk
 unfolding fill
 walk-holds c =
     record {
-      placed = placed_first c.first.ensures;
+      placed = placed_first c.first-place.ensures;
       rest = rest_self _ _;
-      state = rw (first_position c.first.ensures) (walk_start _ _ _ (start_of_first c).requires.marks.sound);
+      state = rw (first_position c.first-place.ensures) (walk_start _ _ _ (start_of_first c).requires.marks.sound);
       opened = not_open _;
     }
 
-next-requires : tie.Need-next-requires invariant-loop decreases-loop invariant-walk decreases-walk
-next-requires c κs = has_next (row_of_test c) (start_of c.before.before).good.0.0
+next-requires : tie.Need-next-place-requires invariant-loop decreases-loop invariant-walk decreases-walk
+next-requires c κs = has_next (row_of_test c) (start_of c.before.before).well_formed.0.0
 
-second-is-open-requires : tie.Need-second-is-open-requires invariant-loop decreases-loop invariant-walk decreases-walk
+second-is-open-requires : tie.Need-second_is_open-requires invariant-loop decreases-loop invariant-walk decreases-walk
 unfolding width
 second-is-open-requires c κs =
-    let w = c.before in
+    let w = c in
     (omega (arith, inside w), λ ne. complement_inside w (second w) (second_of_row w ne))
 
 walk-less : tie.Need-walk-smaller invariant-loop decreases-loop invariant-walk decreases-walk
-walk-less c = less_left (row_asked c.before)
+walk-less c = less_left (row_asked c.before.before.before.before.before.before.before.before.before)
 
 walk-again : tie.Need-walk-preserved invariant-loop decreases-loop invariant-walk decreases-walk
 walk-again c =
-    let w = row_asked c.before in
+    let w = row_asked c.before.before.before.before.before.before.before.before.before in
     let u = (at_head w).walk.known in
-    let both = sym c.before.second-is-open.ensures ∙ c.if2.true in
+    let both = sym c.second_is_open.ensures ∙ c.if-second_is_open.true in
     let first = eqb-true (get_or (words w) (position w) 0) u (and_left _ (open_word (marks_now w) (second w)) both) in
     let o = open_word_lem (marks_now w) (second w) (and_right (eqb (get_or (words w) (position w) 0) u) _ both) in
     let off = complement_marked w (second w) (second_of_row w o.0) ∙ o.1 in
-    let known = (at_head w).walk.inv.opened in
+    let known = (at_head w).walk.invariant.opened in
     let two = second_open (words w) (set_now w) (position w) (scan_of_row w) o.0 u first known off in
     on w (marks_now w) (so_far w) u (rest_now w)
     (pass_row (stops w) (words w) (set_first w) (set_now w) (position w) (inside w) (so_far w) (state w) two) known
 
-loop-holds : tie.Need-loop-init invariant-loop decreases-loop invariant-walk decreases-walk
+loop-holds : tie.Need-loop-k-init invariant-loop decreases-loop invariant-walk decreases-walk
 unfolding fill
 loop-holds c = (omega arith, scan_of_row (row_asked c.before))
 
-add-word : tie.Need-overflow-add-word invariant-loop decreases-loop invariant-walk decreases-walk
+add-word : tie.Need-overflow_add-word invariant-loop decreases-loop invariant-walk decreases-walk
 add-word c = omega (arith, in_range c.before)
 
-mul-word : tie.Need-overflow-mul-word invariant-loop decreases-loop invariant-walk decreases-walk
+mul-word : tie.Need-offset_bounds-clauses-here invariant-loop decreases-loop invariant-walk decreases-walk
 mul-word c = omega (arith, in_range c.before)
 
-shared-slice-read-word : tie.Need-shared-slice-read-word invariant-loop decreases-loop invariant-walk decreases-walk
+shared-slice-read-word : tie.Need-bounds-clauses-here invariant-loop decreases-loop invariant-walk decreases-walk
 shared-slice-read-word c = in_range c.before.before
 
-scan-word-requires : tie.Need-scan-word-requires invariant-loop decreases-loop invariant-walk decreases-walk
+scan-word-requires : tie.Need-scan_word-scan-requires invariant-loop decreases-loop invariant-walk decreases-walk
 scan-word-requires c κs =
-    let i = c.before.before.before in
+    let i = c.before.before in
     λ ne. complement_inside (row_of i) (word i) (word_of_row i ne)
 
-enum_told : tie.Need-enum-told invariant-loop decreases-loop invariant-walk decreases-walk
-enum_told c = c.match.keys1
+enum_told : tie.Need-enum_told-1 invariant-loop decreases-loop invariant-walk decreases-walk
+enum_told c = c.in-Same-1.keys1
 
-enum-told-2 : tie.Need-enum-told-2 invariant-loop decreases-loop invariant-walk decreases-walk
-enum-told-2 c = c.match.keys2
+enum-told-2 : tie.Need-enum_told-in-First invariant-loop decreases-loop invariant-walk decreases-walk
+enum-told-2 c = c.in-First-1.keys2
 
-enum-told-3 : tie.Need-enum-told-3 invariant-loop decreases-loop invariant-walk decreases-walk
-enum-told-3 c = c.match.keys3
+enum-told-3 : tie.Need-enum_told-in-Second invariant-loop decreases-loop invariant-walk decreases-walk
+enum-told-3 c = c.in-Second-1.keys3
 
 walk-less-2 : tie.Need-walk-smaller-2 invariant-loop decreases-loop invariant-walk decreases-walk
 walk-less-2 c = less_left (row_of (at (looked_by c)))
@@ -419,57 +419,57 @@ walk-again-2 c =
     let o = looked_by c in
     let i = at o in
     let w = row_of i in
-    let l = i.before.loop in
-    let two = scan_second (words w) (set_now w) (position w) l.k l.first l.inv.1 (in_width i) (added o scan.Second c.enum-told3.given.1) in
+    let l = i.loop-k in
+    let two = scan_second (words w) (set_now w) (position w) l.k l.first l.invariant.1 (in_width i) (added o scan.Second c.enum-told3.given.1) in
     on w (marks_now w) (so_far w) l.first (rest_now w)
     (pass_row (stops w) (words w) (set_first w) (set_now w) (position w) (inside w) (so_far w) (state w) two)
-    (scan_open (words w) (set_now w) (position w) l.k l.first l.inv.1)
+    (scan_open (words w) (set_now w) (position w) l.k l.first l.invariant.1)
 
-add-k : tie.Need-overflow-add-k invariant-loop decreases-loop invariant-walk decreases-walk
+add-k : tie.Need-overflow_add-k invariant-loop decreases-loop invariant-walk decreases-walk
 unfolding width
 add-k c = search rules
 
-loop-less : tie.Need-loop-smaller invariant-loop decreases-loop invariant-walk decreases-walk
+loop-less : tie.Need-loop-k-smaller invariant-loop decreases-loop invariant-walk decreases-walk
 unfolding width
 loop-less c = search rules
 
-loop-again : tie.Need-loop-preserved invariant-loop decreases-loop invariant-walk decreases-walk
+loop-again : tie.Need-loop-k-preserved invariant-loop decreases-loop invariant-walk decreases-walk
 unfolding width
 loop-again c =
     let o = c.before in
     let i = at o in
     let w = row_of i in
-    let l = i.before.loop in
+    let l = i.loop-k in
     let Scans : ℕ → Type 0 = λ x. Scanning (words w) (set_now w) (position w) (l.k + 1) x in (
       omega (arith, in_width i),
       ⊎_elim
           (λ a.
           let same = added o scan.Same a.1.given.1 in
-          subst Scans (sym a.2) (scan_same (words w) (set_now w) (position w) l.k l.first l.inv.1 (in_width i) same))
+          subst Scans (sym a.2) (scan_same (words w) (set_now w) (position w) l.k l.first l.invariant.1 (in_width i) same))
           (λ a.
           let first = added o scan.First a.1.given.1 in
           let below = view_inside (atoms w) (marks_now w) (word i) (row_below w (word i) (word_of_row i first.0)) in
-          subst Scans (sym a.2) (scan_first (words w) (set_now w) (position w) l.k l.first l.inv.1 (in_width i) below first))
-          c.match.branch,
+          subst Scans (sym a.2) (scan_first (words w) (set_now w) (position w) l.k l.first l.invariant.1 (in_width i) below first))
+          c.match-scan.branch,
     )
 
 row-requires : tie.Need-row-requires invariant-loop decreases-loop invariant-walk decreases-walk
 row-requires c κs = at_row_of (row c)
 
-force-requires : tie.Need-force-requires invariant-loop decreases-loop invariant-walk decreases-walk
+force-requires : tie.Need-force-forced-requires invariant-loop decreases-loop invariant-walk decreases-walk
 force-requires c κs =
     let r = c.before in
     let a = r.before in
     let w = row a in
-    let k = a.before.loop.k in
+    let k = a.loop-k.k in
     let size = view_length (atoms w) (marks_now w) in (
       room_on (stops w) (atoms w) (words w) (marks_first w) (marks_now w) (ready w) (rest_now w) (state w).reached.sound,
       subst (λ (x : List ℕ). Forcing (atoms w) (set_now w) x (opened a)) (sym (row_is r))
           (scan_forcing (words w) (set_now w) (position w) k (opened a) (scanned a) (all_words a) (atoms w) size (row_below w)),
     )
 
-enum-told-4 : tie.Need-enum-told-4 invariant-loop decreases-loop invariant-walk decreases-walk
-enum-told-4 c = c.match2.keys1
+enum-told-4 : tie.Need-enum_told-in-Same-forced invariant-loop decreases-loop invariant-walk decreases-walk
+enum-told-4 c = c.in-Same-forced-1.keys1
 
 walk-less-3 : tie.Need-walk-smaller-3 invariant-loop decreases-loop invariant-walk decreases-walk
 walk-less-3 c = less_left (row (scan_of (force_of c.before.before)))
@@ -477,8 +477,8 @@ walk-less-3 c = less_left (row (scan_of (force_of c.before.before)))
 walk-again-3 : tie.Need-walk-preserved-3 invariant-loop decreases-loop invariant-walk decreases-walk
 walk-again-3 c = on_same (force_of c.before.before) c.enum-told4.given.1
 
-enum-told-5 : tie.Need-enum-told-5 invariant-loop decreases-loop invariant-walk decreases-walk
-enum-told-5 c = c.match2.keys2
+enum-told-5 : tie.Need-enum_told-in-Grown invariant-loop decreases-loop invariant-walk decreases-walk
+enum-told-5 c = c.in-Grown-1.keys2
 
 walk-less-4 : tie.Need-walk-smaller-4 invariant-loop decreases-loop invariant-walk decreases-walk
 walk-less-4 c = less_left (row (scan_of (force_of c.before.before)))
@@ -487,24 +487,42 @@ walk-again-4 : tie.Need-walk-preserved-4 invariant-loop decreases-loop invariant
 unfolding fill
 walk-again-4 c = on_more (force_of c.before.before) c.enum-told5.given.1
 
-enum-told-6 : tie.Need-enum-told-6 invariant-loop decreases-loop invariant-walk decreases-walk
-enum-told-6 c = c.match2.keys3
+enum-told-6 : tie.Need-enum_told-in-Contradictory invariant-loop decreases-loop invariant-walk decreases-walk
+enum-told-6 c = c.in-Contradictory-1.keys3
 
-same_length : tie.Need-same-length invariant-loop decreases-loop invariant-walk decreases-walk
-same_length c = c.before.before.walk.invariant.rest.same_length
+same_length : tie.Need-shape_of-marks-after-walk invariant-loop decreases-loop invariant-walk decreases-walk
+same_length c = c.walk.invariant.rest.same_length
 
-returns : tie.Need-returns invariant-loop decreases-loop invariant-walk decreases-walk
+returns : tie.Need-returns-after-walk invariant-loop decreases-loop invariant-walk decreases-walk
 unfolding width
-returns c = let l = c.before.before.walk in (l.invariant.rest, walk_end _ _ _ _ _ _ (omega (arith, c.if1.false)) l.invariant.state)
+returns c = let l = c.walk in (l.invariant.rest, walk_end _ _ _ _ _ _ (omega (arith, c.walk-test.false)) l.invariant.state)
 
-same-length-2 : tie.Need-same-length-2 invariant-loop decreases-loop invariant-walk decreases-walk
-same-length-2 c = (rest_after (force_of c.before.before)).same_length
+same-length-2 : tie.Need-shape_of-marks-in-Contradictory invariant-loop decreases-loop invariant-walk decreases-walk
+same-length-2 c = (rest_after (force_of c.before)).same_length
 
-returns-2 : tie.Need-returns-2 invariant-loop decreases-loop invariant-walk decreases-walk
-returns-2 c = let f = force_of c.before.before in (rest_after f, left f c.enum-told6.given.1)
+returns-2 : tie.Need-returns-in-Contradictory invariant-loop decreases-loop invariant-walk decreases-walk
+returns-2 c = let f = force_of c.before in (rest_after f, left f c.in-Contradictory.is)
 
-pub walk-spec : {M : Type 1} → statement M
-walk-spec =
+the_walk_smaller_then_second_is_open : tie.Need-walk-smaller-then-second_is_open invariant-loop decreases-loop invariant-walk decreases-walk
+the_walk_smaller_then_second_is_open c = search rules
+
+the_walk_preserved_then_second_is_open : tie.Need-walk-preserved-then-second_is_open invariant-loop decreases-loop invariant-walk decreases-walk
+the_walk_preserved_then_second_is_open c = search rules
+
+the_walk_smaller_in_Second : tie.Need-walk-smaller-in-Second invariant-loop decreases-loop invariant-walk decreases-walk
+the_walk_smaller_in_Second c = search rules
+
+the_walk_preserved_in_Second : tie.Need-walk-preserved-in-Second invariant-loop decreases-loop invariant-walk decreases-walk
+the_walk_preserved_in_Second c = search rules
+
+the_walk_smaller_in_Same_forced : tie.Need-walk-smaller-in-Same-forced invariant-loop decreases-loop invariant-walk decreases-walk
+the_walk_smaller_in_Same_forced c = search rules
+
+the_walk_preserved_in_Same_forced : tie.Need-walk-preserved-in-Same-forced invariant-loop decreases-loop invariant-walk decreases-walk
+the_walk_preserved_in_Same_forced c = search rules
+
+pub walk_spec : {M : Type 1} → statement M
+walk_spec =
     tie.close
     (tie.spec
     invariant-loop
@@ -515,8 +533,8 @@ walk-spec =
     walk-holds
     next-requires
     second-is-open-requires
-    walk-less
-    walk-again
+    the_walk_smaller_then_second_is_open
+    the_walk_preserved_then_second_is_open
     loop-holds
     add-word
     mul-word
@@ -525,19 +543,19 @@ walk-spec =
     enum_told
     enum-told-2
     enum-told-3
-    walk-less-2
-    walk-again-2
+    the_walk_smaller_in_Second
+    the_walk_preserved_in_Second
     add-k
     loop-less
     loop-again
     row-requires
     force-requires
     enum-told-4
-    walk-less-3
-    walk-again-3
+    the_walk_smaller_in_Same_forced
+    the_walk_preserved_in_Same_forced
     enum-told-5
-    walk-less-4
-    walk-again-4
+    walk-less
+    walk-again
     enum-told-6
     same_length
     returns

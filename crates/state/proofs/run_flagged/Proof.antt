@@ -15,109 +15,108 @@ use borrow.Author.Rules.{rules}
 use Rattle.state.proofs.run_flagged.Statement.{statement}
 use Rattle.state.proofs.run_flagged.Tie as tie
 
-abbrev invariant-loop : tie.invariant-loop
+abbrev invariant-loop : tie.invariant-loop-steps
 invariant-loop image state₀ list flags₀ steps₀ state flags steps = Running (step (task_of image)) list state₀ state steps × (flags ≡ flags₀)
 
-abbrev decreases-loop : tie.decreases-loop
+abbrev decreases-loop : tie.decreases-loop-steps
 decreases-loop image state₀ list flags₀ steps₀ state flags steps = length list - steps
 
 -- the loop and the start, at a step, and where its answer is looked at
-abbrev shr_slice_at : tie.At-loop invariant-loop decreases-loop → tie.After-slice-known invariant-loop decreases-loop
+abbrev shr_slice_at : tie.At-loop-steps invariant-loop decreases-loop → tie.After-slice_known-1 invariant-loop decreases-loop
 shr_slice_at c = c.before.before.before
 
-abbrev start : tie.At-loop invariant-loop decreases-loop → tie.Start invariant-loop decreases-loop
+abbrev start : tie.At-loop-steps invariant-loop decreases-loop → tie.Start invariant-loop decreases-loop
 start c = (shr_slice_at c).before.before
 
-abbrev number : tie.After-step-flagged invariant-loop decreases-loop → tie.After-wide invariant-loop decreases-loop
+abbrev number : tie.After-step_flagged-stepped invariant-loop decreases-loop → tie.After-wide invariant-loop decreases-loop
 number c = c.before.before
 
-abbrev at_in_loop : tie.After-wide invariant-loop decreases-loop → tie.In-loop invariant-loop decreases-loop
+abbrev at_in_loop : tie.After-wide invariant-loop decreases-loop → tie.In-loop-steps invariant-loop decreases-loop
 at_in_loop c = c.before.before.before
 
-abbrev loop_of : tie.After-wide invariant-loop decreases-loop → tie.At-loop invariant-loop decreases-loop
+abbrev loop_of : tie.After-wide invariant-loop decreases-loop → tie.At-loop-steps invariant-loop decreases-loop
 loop_of c = (at_in_loop c).before
 
-abbrev at_state : tie.After-slice-known4 invariant-loop decreases-loop → tie.After-state invariant-loop decreases-loop
+abbrev at_state : tie.After-slice_known-in-loop-steps-2-1 invariant-loop decreases-loop → tie.After-state-1 invariant-loop decreases-loop
 at_state c = c.before.before.before
 
-abbrev made : tie.After-slice-known4 invariant-loop decreases-loop → tie.After-step-flagged invariant-loop decreases-loop
+abbrev made : tie.After-slice_known-in-loop-steps-2-1 invariant-loop decreases-loop → tie.After-step_flagged-stepped invariant-loop decreases-loop
 made c = (at_state c).before
 
 -- the outcome of the step, by its answer
 of_step :
-    (d : tie.After-step-flagged invariant-loop decreases-loop) (v : Verdict) → d.step-flagged.result ≡ v → let l = loop_of (number d) in
-    outcome (verdict_answer v) d.step-flagged.new.1.0
-    ≡ becomes l.loop.state (step (task_of (start l).args.image.now) l.loop.state (number d).wide.result)
-of_step d v e = outcome_of _ _ _ _ (ap verdict_answer (sym e)) d.step-flagged.ensures.0
+    (d : tie.After-step_flagged-stepped invariant-loop decreases-loop) (v : Verdict) → d.step_flagged-stepped.result ≡ v → let l = loop_of (number d) in
+    outcome (verdict_answer v) d.step_flagged-stepped.new.state
+    ≡ becomes l.loop-steps.state (step (task_of (start l).args.image.now) l.loop-steps.state (number d).wide.result)
+of_step d v e = outcome_of _ _ _ _ (ap verdict_answer (sym e)) d.step_flagged-stepped.ensures.0
 
-loop-holds : tie.Need-loop-init invariant-loop decreases-loop
+loop-holds : tie.Need-loop-steps-init invariant-loop decreases-loop
 loop-holds c = (running_start _ _ _, refl)
 
-mul_wide : tie.Need-overflow-mul-wide invariant-loop decreases-loop
+mul_wide : tie.Need-offset_bounds-list-steps invariant-loop decreases-loop
 mul_wide c = search rules
 
-shared-slice-read-wide : tie.Need-shared-slice-read-wide invariant-loop decreases-loop
+shared-slice-read-wide : tie.Need-bounds-list-steps invariant-loop decreases-loop
 shared-slice-read-wide c = search rules
 
 wide-requires : tie.Need-wide-requires invariant-loop decreases-loop
 wide-requires c κs = search rules
 
-step-flagged-requires : tie.Need-step-flagged-requires invariant-loop decreases-loop
+step-flagged-requires : tie.Need-step_flagged-stepped-requires invariant-loop decreases-loop
 step-flagged-requires c κs =
     let l = loop_of c.before in
     let s = start l in
-    (record { reads = s.pre.0.reads; size = l.loop.inv.0.size ∙ s.pre.0.size }, l.loop.inv.1 ∙ s.pre.1)
+    (record { reads = s.requires.0.reads; size = l.loop-steps.invariant.0.size ∙ s.requires.0.size }, l.loop-steps.invariant.1 ∙ s.requires.1)
 
-enum-known-stepped : tie.Need-enum-known-stepped invariant-loop decreases-loop
+enum-known-stepped : tie.Need-enum_known-stepped invariant-loop decreases-loop
 enum-known-stepped c = search rules
 
-same_length : tie.Need-same-length invariant-loop decreases-loop
+same_length : tie.Need-shape_of-state-in-Refused invariant-loop decreases-loop
 same_length c =
-    let d = made c.before.before.before in
-    d.step-flagged.kept.1.0 ∙ (loop_of (number d)).loop.inv.0.size
+    let d = made c.before in
+    d.step_flagged-stepped.auto.state ∙ (loop_of (number d)).loop-steps.invariant.0.size
 
-same-length-2 : tie.Need-same-length-2 invariant-loop decreases-loop
+same-length-2 : tie.Need-shape_of-flags-in-Refused invariant-loop decreases-loop
 same-length-2 c =
-    let d = made c.before.before.before in
-    ap length (d.step-flagged.ensures.1 ∙ (loop_of (number d)).loop.inv.1)
+    let d = made c.before in
+    ap length (d.step_flagged-stepped.ensures.1 ∙ (loop_of (number d)).loop-steps.invariant.1)
 
-returns : tie.Need-returns invariant-loop decreases-loop
+returns : tie.Need-returns-in-Refused invariant-loop decreases-loop
 unfolding refused_after
 returns c =
-    let d = made c.before.before.before in
+    let d = made c.before in
     let l = loop_of (number d) in
-    let f = c.before.stepped.given in
-    running_stop _ _ _ _ _ l.loop.inv.0 _ _ (at_in_loop (number d)).loop-test.taken (number d).wide.ensures.0 (placed f.0.0) (of_step d _ f.1)
+    running_stop _ _ _ _ _ l.loop-steps.invariant.0 _ _ (at_in_loop (number d)).loop-steps-test.true (number d).wide.ensures.0 (placed c.in-Refused.f) (of_step d _ c.in-Refused.is)
 
-enum_told : tie.Need-enum-told invariant-loop decreases-loop
+enum_told : tie.Need-enum_told-1 invariant-loop decreases-loop
 enum_told c = search rules
 
-add-steps : tie.Need-overflow-add-steps invariant-loop decreases-loop
+add-steps : tie.Need-overflow_add-steps invariant-loop decreases-loop
 add-steps c = search rules
 
-loop-less : tie.Need-loop-smaller invariant-loop decreases-loop
+loop-less : tie.Need-loop-steps-smaller invariant-loop decreases-loop
 loop-less c = search rules
 
-loop-again : tie.Need-loop-preserved invariant-loop decreases-loop
+loop-again : tie.Need-loop-steps-preserved invariant-loop decreases-loop
 loop-again c =
-    let d = made c.before.before in
+    let d = made c.before in
     let l = loop_of (number d) in (
-      running_on _ _ _ _ _ l.loop.inv.0 _ _ (at_in_loop (number d)).loop-test.taken (number d).wide.ensures.0 d.step-flagged.kept.1.0
-          (of_step d _ c.enum_told.given.1),
-      d.step-flagged.ensures.1 ∙ l.loop.inv.1,
+      running_on _ _ _ _ _ l.loop-steps.invariant.0 _ _ (at_in_loop (number d)).loop-steps-test.true (number d).wide.ensures.0 d.step_flagged-stepped.auto.state
+          (of_step d _ c.in-Fine.is),
+      d.step_flagged-stepped.ensures.1 ∙ l.loop-steps.invariant.1,
     )
 
-same-length-3 : tie.Need-same-length-3 invariant-loop decreases-loop
-same-length-3 c = c.before.loop.invariant.0.size
+same-length-3 : tie.Need-shape_of-state invariant-loop decreases-loop
+same-length-3 c = c.loop-steps.invariant.0.size
 
-same-length-4 : tie.Need-same-length-4 invariant-loop decreases-loop
-same-length-4 c = ap length c.before.loop.invariant.1
+same-length-4 : tie.Need-shape_of-flags invariant-loop decreases-loop
+same-length-4 c = ap length c.loop-steps.invariant.1
 
-returns-2 : tie.Need-returns-2 invariant-loop decreases-loop
-returns-2 c = running_end _ _ _ _ _ c.before.loop.invariant.0 c.loop-test.false
+returns-2 : tie.Need-returns invariant-loop decreases-loop
+returns-2 c = running_end _ _ _ _ _ c.loop-steps.invariant.0 c.loop-steps-test.false
 
-pub run-flagged-spec : {M : Type 1} → statement M
-run-flagged-spec =
+pub run_flagged_spec : {M : Type 1} → statement M
+run_flagged_spec =
     tie.close
     (tie.spec
     invariant-loop

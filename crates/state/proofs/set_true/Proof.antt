@@ -9,70 +9,70 @@ use borrow.Author.Rules.{rules}
 use Rattle.state.proofs.set_true.Statement.{statement}
 use Rattle.state.proofs.set_true.Tie as tie
 
-abbrev invariant-loop : tie.invariant-loop
+abbrev invariant-loop : tie.invariant-loop-i
 invariant-loop state₀ atoms i₀ state i =
     (i ≤ length atoms)
     × ((length state ≡ length state₀) × (set_true atoms state₀ ≡ set_true (drop i atoms) state))
 
-abbrev decreases-loop : tie.decreases-loop
+abbrev decreases-loop : tie.decreases-loop-i
 decreases-loop state₀ atoms i₀ state i = length atoms - i
 
-loop-holds : tie.Need-loop-init invariant-loop decreases-loop
+loop-holds : tie.Need-loop-i-init invariant-loop decreases-loop
 loop-holds c = (omega arith, (refl, refl))
 
-mul_wide : tie.Need-overflow-mul-wide invariant-loop decreases-loop
+mul_wide : tie.Need-offset_bounds-atoms-i invariant-loop decreases-loop
 mul_wide c = search rules
 
-shared-slice-read-wide : tie.Need-shared-slice-read-wide invariant-loop decreases-loop
+shared-slice-read-wide : tie.Need-bounds-atoms-i invariant-loop decreases-loop
 shared-slice-read-wide c = search rules
 
 wide-requires : tie.Need-wide-requires invariant-loop decreases-loop
 wide-requires c κs = search rules
 
-mark-if-requires : tie.Need-mark-if-requires invariant-loop decreases-loop
+mark-if-requires : tie.Need-mark_if-requires invariant-loop decreases-loop
 mark-if-requires c κs = search rules
 
-add-i : tie.Need-overflow-add-i invariant-loop decreases-loop
+add-i : tie.Need-overflow_add-i invariant-loop decreases-loop
 add-i c = search rules
 
-loop-less : tie.Need-loop-smaller invariant-loop decreases-loop
+loop-less : tie.Need-loop-i-smaller invariant-loop decreases-loop
 loop-less c = search rules
 
 -- the places of the function
-abbrev at_loop : tie.In-loop invariant-loop decreases-loop → tie.At-loop invariant-loop decreases-loop
+abbrev at_loop : tie.In-loop-i invariant-loop decreases-loop → tie.At-loop-i invariant-loop decreases-loop
 at_loop c = c.before
 
-abbrev in_loop : tie.After-wide invariant-loop decreases-loop → tie.In-loop invariant-loop decreases-loop
+abbrev in_loop : tie.After-wide invariant-loop decreases-loop → tie.In-loop-i invariant-loop decreases-loop
 in_loop c = c.before.before.before
 
-abbrev after_wide : tie.After-slice-known2 invariant-loop decreases-loop → tie.After-wide invariant-loop decreases-loop
+abbrev after_wide : tie.After-slice_known-in-loop-i-1 invariant-loop decreases-loop → tie.After-wide invariant-loop decreases-loop
 after_wide c = c.before.before.before
 
-abbrev at_loop_from_slice_known2 : tie.After-slice-known2 invariant-loop decreases-loop → tie.At-loop invariant-loop decreases-loop
+abbrev at_loop_from_slice_known2 : tie.After-slice_known-in-loop-i-1 invariant-loop decreases-loop → tie.At-loop-i invariant-loop decreases-loop
 at_loop_from_slice_known2 c = at_loop (in_loop (after_wide c))
 
-loop-again : tie.Need-loop-preserved invariant-loop decreases-loop
+loop-again : tie.Need-loop-i-preserved invariant-loop decreases-loop
 loop-again c =
-    let l = (at_loop_from_slice_known2 c).loop in (
+    let l = (at_loop_from_slice_known2 c).loop-i in (
       omega arith,
       (
-        omega (arith, c.before.before.mark-if.auto.1.0),
-        l.inv.1.1
-            ∙ set_on l.state _ _ l.i _ (in_loop (after_wide c)).loop-test.taken c.before.before.before.wide.ensures.0
-            c.before.before.mark-if.ensures,
+        omega (arith, c.mark_if.auto.marks),
+        l.invariant.1.1
+            ∙ set_on l.state _ _ l.i _ (in_loop (after_wide c)).loop-i-test.true c.wide.ensures.0
+            c.mark_if.ensures,
       ),
     )
 
-same_length : tie.Need-same-length invariant-loop decreases-loop
-same_length c = c.before.loop.invariant.1.0
+same_length : tie.Need-shape_of-state invariant-loop decreases-loop
+same_length c = c.loop-i.invariant.1.0
 
 returns : tie.Need-returns invariant-loop decreases-loop
 returns c =
-    let l = c.before.loop in
-    sym (l.invariant.1.1 ∙ set_end l.state _ l.i c.loop-test.false)
+    let l = c.loop-i in
+    sym (l.invariant.1.1 ∙ set_end l.state _ l.i c.loop-i-test.false)
 
-pub set-true-spec : {M : Type 1} → statement M
-set-true-spec =
+pub set_true_spec : {M : Type 1} → statement M
+set_true_spec =
     tie.close
     (tie.spec
     invariant-loop

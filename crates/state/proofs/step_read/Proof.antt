@@ -14,40 +14,40 @@ use Rattle.state.proofs.step_read.Statement.{statement}
 use Rattle.state.proofs.step_read.Tie as tie
 
 -- where the atoms were counted, and the start
-abbrev counted : tie.After-flags → tie.After-atoms
+abbrev counted : tie.After-flags-1 → tie.After-atoms-count
 counted c = c.before.before.before
 
-abbrev start : tie.After-atoms → tie.Start
+abbrev start : tie.After-atoms-count → tie.Start
 start c = c.before.before.before
 
 -- where the step was made
-abbrev stepped : tie.After-flags2 → tie.After-step-flagged
+abbrev stepped : tie.After-flags-2-1 → tie.After-step_flagged
 stepped c = c.before.before.before
 
-abbrev lent : tie.After-step-flagged → tie.After-flags
+abbrev lent : tie.After-step_flagged → tie.After-flags-1
 lent c = c.before
 
-atoms-requires : tie.Need-atoms-requires
+atoms-requires : tie.Need-atoms-count-requires
 atoms-requires c κs = search rules
 
-mul-count : tie.Need-overflow-mul-count
+mul-count : tie.Need-overflow_mul-count
 mul-count c = search rules
 
 wide-requires : tie.Need-wide-requires
 wide-requires c κs = search rules
 
-array-borrow-prefix-flags : tie.Need-array-borrow-prefix-flags
+array-borrow-prefix-flags : tie.Need-slice_bounds-flags-end
 array-borrow-prefix-flags c = search rules
 
-slice-aggregate-step-flagged : tie.Need-slice-aggregate-step-flagged
-slice-aggregate-step-flagged c = sym (length-take-le (2 * (counted c).atoms.result) (replicate {A = ℕ} most_literals 0) (omega arith))
+slice-aggregate-step-flagged : tie.Need-slice_bounds-step_flagged-end
+slice-aggregate-step-flagged c = sym (length-take-le (2 * (counted c).atoms-count.result) (replicate {A = ℕ} most_literals 0) (omega arith))
 
-step-flagged-requires : tie.Need-step-flagged-requires
+step-flagged-requires : tie.Need-step_flagged-requires
 step-flagged-requires c κs =
     let n = counted c in
-    ((start n).pre, take_zeros (2 * n.atoms.result) most_literals (omega arith) ∙ ap (λ (k : ℕ). replicate (2 * k) 0) n.atoms.ensures.0)
+    ((start n).requires, take_zeros (2 * n.atoms-count.result) most_literals (omega arith) ∙ ap (λ (k : ℕ). replicate (2 * k) 0) n.atoms-count.ensures.0)
 
-same_length : tie.Need-same-length
+same_length : tie.Need-shape_of-state
 same_length c = search rules
 
 returns : tie.Need-returns
@@ -56,10 +56,10 @@ returns c =
     let l = lent d in
     let a = (start (counted l)).args in
     let s = a.state.now in
-    d.step-flagged.ensures.0 ∙ ap (λ (i : ℕ). becomes s (step (task_of a.image.now) s i)) l.before.wide.ensures.0
+    d.step_flagged.ensures.0 ∙ ap (λ (i : ℕ). becomes s (step (task_of a.image.now) s i)) l.wide.ensures.0
 
-pub step-read-spec : {M : Type 1} → statement M
-step-read-spec =
+pub step_read_spec : {M : Type 1} → statement M
+step_read_spec =
     tie.close
     (tie.spec
     atoms-requires

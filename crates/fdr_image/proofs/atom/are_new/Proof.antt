@@ -10,62 +10,62 @@ use borrow.Author.Rules.{rules}
 use Rattle.fdr_image.proofs.atom.are_new.Statement.{statement}
 use Rattle.fdr_image.proofs.atom.are_new.Tie as tie
 
-abbrev invariant-loop : tie.invariant-loop
+abbrev invariant-loop : tie.invariant-loop-i
 invariant-loop atoms starts marks₀ i₀ marks i =
     (i ≤ length atoms / 2) × (all_new no_marks (ranks_in starts atoms) ≡ all_new marks (drop i (ranks_in starts atoms)))
 
-abbrev decreases-loop : tie.decreases-loop
+abbrev decreases-loop : tie.decreases-loop-i
 decreases-loop atoms starts marks₀ i₀ marks i = length atoms / 2 - i
 
 -- the ranks, by the loop
-abbrev start : tie.At-loop invariant-loop decreases-loop → tie.Start invariant-loop decreases-loop
+abbrev start : tie.At-loop-i invariant-loop decreases-loop → tie.Start invariant-loop decreases-loop
 start c = c.before.before.before
 
-abbrev ranks : tie.At-loop invariant-loop decreases-loop → List ℕ
+abbrev ranks : tie.At-loop-i invariant-loop decreases-loop → List ℕ
 ranks l = ranks_in (start l).args.starts.now (start l).args.atoms.now
 
-inside : (c : tie.In-loop invariant-loop decreases-loop) → c.before.loop.i < length (ranks c.before)
-inside c = let s = (start c.before).args in omega (arith, ranks_length s.starts.now s.atoms.now, c.loop-test.true)
+inside : (c : tie.In-loop-i invariant-loop decreases-loop) → c.loop-i.i < length (ranks c.before)
+inside c = let s = (start c.before).args in omega (arith, ranks_length s.starts.now s.atoms.now, c.loop-i-test.true)
 
-loop-holds : tie.Need-loop-init invariant-loop decreases-loop
+loop-holds : tie.Need-loop-i-init invariant-loop decreases-loop
 unfolding no_marks
 loop-holds c = (omega arith, refl)
 
-rank-of-requires : tie.Need-rank-of-requires invariant-loop decreases-loop
-rank-of-requires c κs = ((start c.before).pre, c.loop-test.true)
+rank-of-requires : tie.Need-rank_of-rank-requires invariant-loop decreases-loop
+rank-of-requires c κs = ((start c.before).requires, c.loop-i-test.true)
 
-array-read-if1 : tie.Need-array-read-if1 invariant-loop decreases-loop
-array-read-if1 c = c.rank-of.ensures.1
+array-read-if1 : tie.Need-bounds-marks-rank invariant-loop decreases-loop
+array-read-if1 c = c.rank_of-rank.ensures.1
 
-returns : tie.Need-returns invariant-loop decreases-loop
+returns : tie.Need-returns-then-marks-rank-ne0 invariant-loop decreases-loop
 returns c =
     let r = c.before in
     let l = r.before.before in
-    sym (l.loop.invariant.1 ∙ new_off l.loop.marks (ranks l) l.loop.i _ (inside r.before) r.rank-of.ensures.0 c.if1.true)
+    sym (l.loop-i.invariant.1 ∙ new_off l.loop-i.marks (ranks l) l.loop-i.i _ (inside r.before) r.rank_of-rank.ensures.0 c.if-marks-rank-ne0.true)
 
-array-write-marks : tie.Need-array-write-marks invariant-loop decreases-loop
-array-write-marks c = c.before.rank-of.ensures.1
+array-write-marks : tie.Need-bounds-marks-rank-in-loop-i invariant-loop decreases-loop
+array-write-marks c = c.rank_of-rank.ensures.1
 
-add-i : tie.Need-overflow-add-i invariant-loop decreases-loop
+add-i : tie.Need-overflow_add-i invariant-loop decreases-loop
 add-i c = search rules
 
-loop-less : tie.Need-loop-smaller invariant-loop decreases-loop
+loop-less : tie.Need-loop-i-smaller invariant-loop decreases-loop
 loop-less c = search rules
 
-loop-again : tie.Need-loop-preserved invariant-loop decreases-loop
+loop-again : tie.Need-loop-i-preserved invariant-loop decreases-loop
 loop-again c =
     let r = c.before in
     let l = r.before.before in
-    (omega arith, l.loop.invariant.1 ∙ new_on l.loop.marks (ranks l) l.loop.i _ (inside r.before) r.rank-of.ensures.0 c.if1.false)
+    (omega arith, l.loop-i.invariant.1 ∙ new_on l.loop-i.marks (ranks l) l.loop-i.i _ (inside r.before) r.rank_of-rank.ensures.0 c.if-marks-rank-ne0.false)
 
-returns-2 : tie.Need-returns-2 invariant-loop decreases-loop
+returns-2 : tie.Need-returns invariant-loop decreases-loop
 returns-2 c =
     let l = c.before in
     let s = (start l).args in
-    sym (l.loop.invariant.1 ∙ new_end _ (ranks l) l.loop.i (omega (arith, ranks_length s.starts.now s.atoms.now)))
+    sym (l.loop-i.invariant.1 ∙ new_end _ (ranks l) l.loop-i.i (omega (arith, ranks_length s.starts.now s.atoms.now)))
 
-pub are-new-spec : {M : Type 1} → statement M
-are-new-spec =
+pub are_new_spec : {M : Type 1} → statement M
+are_new_spec =
     tie.close
     (tie.spec
     invariant-loop

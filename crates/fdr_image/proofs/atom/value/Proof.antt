@@ -5,24 +5,30 @@ use borrow.Author.Rules.{rules}
 use Rattle.fdr_image.proofs.atom.value.Statement.{statement}
 use Rattle.fdr_image.proofs.atom.value.Tie as tie
 
-mul_wide : tie.Need-overflow-mul-wide
-mul_wide c = omega (arith, place_inside _ _ c.before.requires)
+mul_wide : tie.Need-overflow_mul-atom
+mul_wide c = omega (arith, place_inside _ _ c.requires)
 
-add_wide : tie.Need-overflow-add-wide
-add_wide c = omega (arith, place_inside _ _ c.before.requires)
+add_wide : tie.Need-overflow_add-atom
+add_wide c = omega (arith, place_inside _ _ c.requires)
 
-mul-wide-2 : tie.Need-overflow-mul-wide-2
-mul-wide-2 c = omega (arith, place_inside _ _ c.before.requires)
+mul-wide-2 : tie.Need-offset_bounds-atoms-atom
+mul-wide-2 c = omega (arith, place_inside _ _ c.requires)
 
-shared-slice-read-wide : tie.Need-shared-slice-read-wide
-shared-slice-read-wide c = omega (arith, place_inside _ _ c.before.before.requires)
+shared-slice-read-wide : tie.Need-bounds-atoms-atom
+shared-slice-read-wide c = omega (arith, place_inside _ _ c.requires)
 
 wide-requires : tie.Need-wide-requires
 wide-requires c κs = search rules
 
 returns : tie.Need-returns
-returns c = (c.wide.ensures.0 ∙ place_value _ _ c.before.before.before.requires, c.wide.ensures.1)
+returns c = (c.wide.ensures.0 ∙ place_value _ _ c.requires, c.wide.ensures.1)
 
 pub value_spec : {M : Type 1} → statement M
 value_spec =
-    tie.close (tie.spec mul_wide add_wide mul-wide-2 shared-slice-read-wide wide-requires returns)
+    tie.close (tie.spec
+    mul_wide
+    add_wide
+    mul-wide-2
+    shared-slice-read-wide
+    wide-requires
+    returns)

@@ -4,42 +4,42 @@ use borrow.Author.Rules.{rules}
 use Rattle.fdr_image.proofs.block.head.Statement.{statement}
 use Rattle.fdr_image.proofs.block.head.Tie as tie
 
-shared-slice-read-wide : tie.Need-shared-slice-read-wide
-shared-slice-read-wide c = omega (arith, block_room _ c.before.before.requires)
+shared-slice-read-wide : tie.Need-bounds-block-0
+shared-slice-read-wide c = omega (arith, block_room _ c.requires)
 
 wide-requires : tie.Need-wide-requires
 wide-requires c κs = search rules
 
-mul-end : tie.Need-overflow-mul-end
+mul-end : tie.Need-overflow_mul-end
 mul-end c = search rules
 
-add-end : tie.Need-overflow-add-end
+add-end : tie.Need-overflow_add-end
 add-end c = search rules
 
-mul_wide : tie.Need-overflow-mul-wide
+mul_wide : tie.Need-offset_bounds-block-end
 mul_wide c = search rules
 
 -- the places of the function
 abbrev at_start : tie.After-wide → tie.Start
 at_start c = c.before.before.before
 
-abbrev after_wide : tie.After-shared-slice-known3 → tie.After-wide
+abbrev after_wide : tie.After-shared_slice_known-3-1 → tie.After-wide
 after_wide c = c.before
 
-abbrev after_shared_slice_known3 : tie.After-wide2 → tie.After-shared-slice-known3
+abbrev after_shared_slice_known3 : tie.After-wide-2 → tie.After-shared_slice_known-3-1
 after_shared_slice_known3 c = c.before
 
-abbrev at_start_from_wide2 : tie.After-wide2 → tie.Start
+abbrev at_start_from_wide2 : tie.After-wide-2 → tie.Start
 at_start_from_wide2 c = at_start (after_wide (after_shared_slice_known3 c))
 
-shared-slice-read-wide-2 : tie.Need-shared-slice-read-wide-2
-shared-slice-read-wide-2 c = omega (arith, block_room _ (at_start (after_wide c)).requires, c.before.wide.ensures.0)
+shared-slice-read-wide-2 : tie.Need-bounds-block-end
+shared-slice-read-wide-2 c = omega (arith, block_room _ (at_start (after_wide c)).requires, c.wide.ensures.0)
 
 wide-requires-2 : tie.Need-wide-requires-2
 wide-requires-2 c κs = search rules
 
 returns : tie.Need-returns
-returns c = block_read _ (at_start_from_wide2 c).requires _ _ c.before.before.wide.ensures.0 c.wide2.ensures.0
+returns c = block_read _ (at_start_from_wide2 c).requires _ _ c.wide.ensures.0 c.wide-2.ensures.0
 
 pub head_spec : {M : Type 1} → statement M
 head_spec =

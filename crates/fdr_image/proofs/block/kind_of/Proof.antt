@@ -3,14 +3,17 @@ use borrow.Author.Rules.{rules}
 use Rattle.fdr_image.proofs.block.kind_of.Statement.{statement}
 use Rattle.fdr_image.proofs.block.kind_of.Tie as tie
 
-returns : tie.Need-returns
+returns : tie.Need-returns-in-0
 returns c = search rules
 
-returns-2 : tie.Need-returns-2
+returns-2 : tie.Need-returns-in-1
 returns-2 c = search rules
 
-returns-3 : tie.Need-returns-3
-returns-3 c = kind_other _ c.match.rest.0.1 c.match.rest.1
+returns-3 : tie.Need-returns-in_default
+returns-3 c = kind_other _ c.in_default.rest.0.1 c.in_default.rest.1
 
-pub kind-of-spec : {M : Type 1} → statement M
-kind-of-spec = tie.close (tie.spec returns returns-2 returns-3)
+pub kind_of_spec : {M : Type 1} → statement M
+kind_of_spec = tie.close (tie.spec
+    returns
+    returns-2
+    returns-3)

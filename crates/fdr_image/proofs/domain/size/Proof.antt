@@ -5,20 +5,25 @@ use borrow.Author.Rules.{rules}
 use Rattle.fdr_image.proofs.domain.size.Statement.{statement}
 use Rattle.fdr_image.proofs.domain.size.Tie as tie
 
-mul_wide : tie.Need-overflow-mul-wide
-mul_wide c = omega (arith, pair_inside _ _ c.before.requires)
+mul_wide : tie.Need-overflow_mul-variable
+mul_wide c = omega (arith, pair_inside _ _ c.requires)
 
-mul-wide-2 : tie.Need-overflow-mul-wide-2
-mul-wide-2 c = omega (arith, pair_inside _ _ c.before.requires)
+mul-wide-2 : tie.Need-offset_bounds-domains-variable
+mul-wide-2 c = omega (arith, pair_inside _ _ c.requires)
 
-shared-slice-read-wide : tie.Need-shared-slice-read-wide
-shared-slice-read-wide c = omega (arith, pair_inside _ _ c.before.before.requires)
+shared-slice-read-wide : tie.Need-bounds-domains-variable
+shared-slice-read-wide c = omega (arith, pair_inside _ _ c.requires)
 
 wide-requires : tie.Need-wide-requires
 wide-requires c κs = search rules
 
 returns : tie.Need-returns
-returns c = (c.wide.ensures.0 ∙ values_at_lem _ _ c.before.before.before.requires, c.wide.ensures.1)
+returns c = (c.wide.ensures.0 ∙ values_at_lem _ _ c.requires, c.wide.ensures.1)
 
-pub size-spec : {M : Type 1} → statement M
-size-spec = tie.close (tie.spec mul_wide mul-wide-2 shared-slice-read-wide wide-requires returns)
+pub size_spec : {M : Type 1} → statement M
+size_spec = tie.close (tie.spec
+    mul_wide
+    mul-wide-2
+    shared-slice-read-wide
+    wide-requires
+    returns)

@@ -36,66 +36,66 @@ room : (s : tie.Start) → let a = s.args in 0 + length (lengths_of (task_of a.l
 room s = omega (arith, s.requires.2)
 
 -- after the lists
-abbrev slices : tie.After-list-lengths → tie.After-shared-slice-known2
+abbrev slices : tie.After-list_lengths-first → tie.After-shared_slice_known-2-1
 slices c = c.before.before.before
 
-abbrev start : tie.After-list-lengths → tie.Start
+abbrev start : tie.After-list_lengths-first → tie.Start
 start c = (slices c).before.before
 
 blocks_left :
-    (c : tie.After-list-lengths) → let s = start c in
-    Left s c.list-lengths.new.1.1.0 c.list-lengths.result (first s ++ second s)
-blocks_left c = write_part (all_left (start c)) c.list-lengths.ensures
+    (c : tie.After-list_lengths-first) → let s = start c in
+    Left s c.list_lengths-first.new.lengths c.list_lengths-first.result (first s ++ second s)
+blocks_left c = write_part (all_left (start c)) c.list_lengths-first.ensures
 
 -- after the first's operators
-abbrev listed : tie.After-block-lengths-arg → tie.After-list-lengths
+abbrev listed : tie.After-block_lengths-arg-1 → tie.After-list_lengths-first
 listed c = c.before.before.before
 
-abbrev begun : tie.After-block-lengths → tie.Start
+abbrev begun : tie.After-block_lengths-second → tie.Start
 begun c = start (listed c.before)
 
 second_left :
-    (c : tie.After-block-lengths) → let s = begun c in
-    Left s c.block-lengths.new.1.0 c.block-lengths.result (second s)
-second_left c = write_part (blocks_left (listed c.before)) c.block-lengths.ensures
+    (c : tie.After-block_lengths-second) → let s = begun c in
+    Left s c.block_lengths-second.new.lengths c.block_lengths-second.result (second s)
+second_left c = write_part (blocks_left (listed c.before)) c.block_lengths-second.ensures
 
-abbrev done : tie.After-block-lengths-arg2 → tie.After-block-lengths
+abbrev done : tie.After-block_lengths-arg-2-1 → tie.After-block_lengths-second
 done c = c.before.before.before
 
-abbrev given : tie.After-list-lengths-arg → tie.After-shared-slice-known2
+abbrev given : tie.After-list_lengths-arg-1 → tie.After-shared_slice_known-2-1
 given c = c.before.before
 
-abbrev begin : tie.After-list-lengths-arg → tie.Start
+abbrev begin : tie.After-list_lengths-arg-1 → tie.Start
 begin c = (given c).before.before
 
-list-lengths-requires : tie.Need-list-lengths-requires
+list-lengths-requires : tie.Need-list_lengths-first-requires
 list-lengths-requires c κs =
     let s = begin c in
     let a = s.args in
-    (s.pre.0, s.pre.1, omega (arith, lengths_count (task_of a.left.now) (task_of a.right.now), s.pre.2))
+    (s.requires.0, s.requires.1, omega (arith, lengths_count (task_of a.left.now) (task_of a.right.now), s.requires.2))
 
-block-lengths-requires : tie.Need-block-lengths-requires
+block-lengths-requires : tie.Need-block_lengths-second-requires
 block-lengths-requires c κs =
     let d = listed c in
     let s = start d in
     let n = length-map (task_of s.args.left.now).operators operator_size in
-    (s.pre.0, omega (arith, part_room (first s) (second s) (blocks_left d) (room s)))
+    (s.requires.0, omega (arith, part_room (first s) (second s) (blocks_left d) (room s)))
 
-block-lengths-requires-2 : tie.Need-block-lengths-requires-2
+block-lengths-requires-2 : tie.Need-block_lengths-requires
 block-lengths-requires-2 c κs =
     let d = done c in
     let s = begun d in
     let n = length-map (task_of s.args.right.now).operators operator_size in
-    (s.pre.1, omega (arith, write_room (second_left d) (room s)))
+    (s.requires.1, omega (arith, write_room (second_left d) (room s)))
 
-same_length : tie.Need-same-length
+same_length : tie.Need-shape_of-lengths
 same_length c = search rules
 
 returns : tie.Need-returns
-returns c = let e = c.before.before in write_last (second_left (done e.before)) e.block-lengths2.ensures
+returns c = let e = c.before.before in write_last (second_left (done e.before)) e.block_lengths.ensures
 
-pub part-lengths-spec : {M : Type 1} → statement M
-part-lengths-spec =
+pub part_lengths_spec : {M : Type 1} → statement M
+part_lengths_spec =
     tie.close
     (tie.spec
     list-lengths-requires

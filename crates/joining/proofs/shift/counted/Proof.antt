@@ -9,32 +9,32 @@ use Rattle.joining.proofs.shift.counted.Statement.{statement}
 use Rattle.joining.proofs.shift.counted.Tie as tie
 
 -- the start, from where the count is stored
-abbrev start : tie.After-numbers-arg → tie.Start
+abbrev start : tie.After-numbers-arg-1 → tie.Start
 start c = c.before.before.before
 
-cast-target : tie.Need-overflow-cast-target
+cast-target : tie.Need-overflow_cast-target
 cast-target c = search rules
 
-mul-target : tie.Need-overflow-mul-target
+mul-target : tie.Need-offset_bounds-target-at
 mul-target c = search rules
 
-slice-write-target : tie.Need-slice-write-target
+slice-write-target : tie.Need-bounds-target-at
 slice-write-target c = search rules
 
-add-numbers : tie.Need-overflow-add-numbers
+add-numbers : tie.Need-overflow_add-at
 add-numbers c = search rules
 
-mul-numbers : tie.Need-overflow-mul-numbers
+mul-numbers : tie.Need-overflow_mul-before
 mul-numbers c = search rules
 
 numbers-requires : tie.Need-numbers-requires
 numbers-requires c κs = let g = (start c).requires in (counted_numbers g, simp length-set (omega (arith, g.room)))
 
-same_length : tie.Need-same-length
-same_length c = c.before.before.numbers.auto.1.1.0 ∙ simp length-set
+same_length : tie.Need-shape_of-target
+same_length c = c.numbers.auto.target ∙ simp length-set
 
 returns : tie.Need-returns
-returns c = wrote_same (counted_words_lem _ _) (wrote_word c.before.before.numbers.ensures)
+returns c = wrote_same (counted_words_lem _ _) (wrote_word c.numbers.ensures)
 
 pub counted_spec : {M : Type 1} → statement M
 counted_spec =

@@ -17,84 +17,84 @@ use borrow.Author.Rules.{rules}
 use Rattle.joining.proofs.shift.rows.Statement.{statement}
 use Rattle.joining.proofs.shift.rows.Tie as tie
 
-abbrev invariant-loop : tie.invariant-loop
+abbrev invariant-loop : tie.invariant-loop-left
 invariant-loop block from count before target₀ at to₀ next₀ left₀ target to next left =
     (parses_at block next left ≡ true)
     × (all (row_right (most_atoms - before)) (rows_at block next left) ≡ true)
     × Writing target₀ at (rows_behind before (rows_at block from count)) target to (rows_behind before (rows_at block next left))
 
-abbrev decreases-loop : tie.decreases-loop
+abbrev decreases-loop : tie.decreases-loop-left
 decreases-loop block from count before target₀ at to₀ next₀ left₀ target to next left = left
 
 -- the start, from the loop's head
-abbrev start : tie.At-loop invariant-loop decreases-loop → tie.Start invariant-loop decreases-loop
+abbrev start : tie.At-loop-left invariant-loop decreases-loop → tie.Start invariant-loop decreases-loop
 start c = c.before.before.before
 
 -- where a row is taken apart
-abbrev at : tie.After-row invariant-loop decreases-loop → tie.At-loop invariant-loop decreases-loop
+abbrev at : tie.After-row-effect invariant-loop decreases-loop → tie.At-loop-left invariant-loop decreases-loop
 at c = c.before.before
 
-abbrev taken : tie.After-row-arg2 invariant-loop decreases-loop → tie.After-row invariant-loop decreases-loop
+abbrev taken : tie.After-row-arg-in-loop-left-1 invariant-loop decreases-loop → tie.After-row-effect invariant-loop decreases-loop
 taken c = c.before.before
 
-loop-holds : tie.Need-loop-init invariant-loop decreases-loop
-loop-holds c = let g = c.before.before.requires.1 in (g.parses, g.right, write_start)
+loop-holds : tie.Need-loop-left-init invariant-loop decreases-loop
+loop-holds c = let g = c.requires.1 in (g.parses, g.right, write_start)
 
-row-requires : tie.Need-row-requires invariant-loop decreases-loop
-row-requires c κs = (c.before.loop.invariant.0, c.loop-test.true)
+row-requires : tie.Need-row-effect-requires invariant-loop decreases-loop
+row-requires c κs = (c.loop-left.invariant.0, c.loop-left-test.true)
 
-cast-row : tie.Need-overflow-cast-row invariant-loop decreases-loop
+cast-row : tie.Need-overflow_cast-effect invariant-loop decreases-loop
 cast-row c = search rules
 
-mul-row : tie.Need-overflow-mul-row invariant-loop decreases-loop
-mul-row c = omega (arith, c.row.ensures.low, c.row.ensures.high)
+mul-row : tie.Need-offset_bounds-block-start invariant-loop decreases-loop
+mul-row c = omega (arith, c.row-effect.ensures.low, c.row-effect.ensures.high)
 
-sub_row : tie.Need-overflow-sub-row invariant-loop decreases-loop
-sub_row c = c.row.ensures.low
+sub_row : tie.Need-slice_bounds-row-count invariant-loop decreases-loop
+sub_row c = c.row-effect.ensures.low
 
-part-row-start : tie.Need-slice-bounds-row-start invariant-loop decreases-loop
-part-row-start c = c.row.ensures.low
+part-row-start : tie.Need-slice_bounds-row-start invariant-loop decreases-loop
+part-row-start c = c.row-effect.ensures.low
 
-part-row-end : tie.Need-slice-bounds-row-end invariant-loop decreases-loop
-part-row-end c = c.row.ensures.high
+part-row-end : tie.Need-slice_bounds-row-end invariant-loop decreases-loop
+part-row-end c = c.row-effect.ensures.high
 
-row-requires-2 : tie.Need-row-requires-2 invariant-loop decreases-loop
+row-requires-2 : tie.Need-row-to-requires invariant-loop decreases-loop
 row-requires-2 c κs =
     let d = taken c in
     let s = start (at d) in
-    let v = (at d).loop.inv in
-    let r = d.row in
+    let v = (at d).loop-left.invariant in
+    let r = d.row-effect in
     let short = part_short s.args.block.now (r.result.end - r.result.from) r.result.from in
-    row_given s.args.before _ _ _ r.ensures.row s.pre.0 v.1 (omega (arith, s.pre.1.short))
-    (write_room v.2 s.pre.2)
+    row_given s.args.before _ _ _ r.ensures.row s.requires.0 v.1 (omega (arith, s.requires.1.short))
+    (write_room v.2 s.requires.2)
 
-sub-left : tie.Need-overflow-sub-left invariant-loop decreases-loop
+sub-left : tie.Need-overflow_sub-left invariant-loop decreases-loop
 sub-left c = search rules
 
-loop-less : tie.Need-loop-smaller invariant-loop decreases-loop
+loop-less : tie.Need-loop-left-smaller invariant-loop decreases-loop
 loop-less c = search rules
 
-loop-again : tie.Need-loop-preserved invariant-loop decreases-loop
+loop-again : tie.Need-loop-left-preserved invariant-loop decreases-loop
 loop-again c =
     let w = c.before.before in
     let d = taken w.before in
-    let v = (at d).loop.inv in
-    let r = d.row.ensures in (
+    let v = (at d).loop-left.invariant in
+    let r = d.row-effect.ensures in (
       r.next,
       others_right (most_atoms - (start (at d)).args.before) _ _ _ r.row v.1,
-      write_part (write_same (rows_next _ _ _ _ r.row) v.2) w.row2.ensures,
+      write_part (write_same (rows_next _ _ _ _ r.row) v.2) w.row-to.ensures,
     )
 
-same_length : tie.Need-same-length invariant-loop decreases-loop
-same_length c = c.before.loop.invariant.2.size
+same_length : tie.Need-shape_of-target invariant-loop decreases-loop
+same_length c = c.loop-left.invariant.2.size
 
 returns : tie.Need-returns invariant-loop decreases-loop
 returns c =
-    let l = c.before.loop in
+    let l = c.loop-left in
     write_end (write_same (rows_end _ _ (rows_none _ l.next l.left (omega arith))) l.invariant.2)
 
-pub rows-spec : {M : Type 1} → statement M
-rows-spec =
+pub rows_spec : {M : Type 1} → statement M
+rows_spec =
     tie.close
     (tie.spec
     invariant-loop

@@ -4,12 +4,14 @@ use borrow.Author.Rules.{rules}
 use Rattle.propagation.proofs.marks.bytes.Statement.{statement}
 use Rattle.propagation.proofs.marks.bytes.Tie as tie
 
-add-result : tie.Need-overflow-add-result
+add-result : tie.Need-overflow_add-result
 add-result c = search rules
 
 returns : tie.Need-returns
 unfolding mark_bytes
 returns c = refl
 
-pub bytes-spec : {M : Type 1} → statement M
-bytes-spec = tie.close (tie.spec add-result returns)
+pub bytes_spec : {M : Type 1} → statement M
+bytes_spec = tie.close (tie.spec
+    add-result
+    returns)

@@ -7,5 +7,6 @@ returns : tie.Need-returns
 unfolding mark_bytes
 returns c = refl
 
-pub room-spec : {M : Type 1} → statement M
-room-spec = tie.close (tie.spec returns)
+pub room_spec : {M : Type 1} → statement M
+room_spec = tie.close (tie.spec
+    returns)

@@ -5,34 +5,34 @@ use Rattle.state.proofs.effect.apply.Statement.{statement}
 use Rattle.state.proofs.effect.apply.Tie as tie
 
 -- the calls, from the last to the first, and the start
-abbrev at_slice5 : tie.After-change2 → tie.After-slice-known5
+abbrev at_slice5 : tie.After-change-2 → tie.After-slice_known-5-1
 at_slice5 c = c.before.before.before
 
-abbrev at_flags2 : tie.After-change2 → tie.After-flags2
+abbrev at_flags2 : tie.After-change-2 → tie.After-flags-2-1
 at_flags2 c = (at_slice5 c).before.before.before
 
-abbrev deleted : tie.After-change2 → tie.After-change
+abbrev deleted : tie.After-change-2 → tie.After-change
 deleted c = (at_flags2 c).before
 
-abbrev at_slice3 : tie.After-change → tie.After-slice-known3
+abbrev at_slice3 : tie.After-change → tie.After-slice_known-3-1
 at_slice3 c = c.before.before.before
 
-abbrev fired : tie.After-change → tie.After-flag-fired
+abbrev fired : tie.After-change → tie.After-flag_fired
 fired c = (at_slice3 c).before.before
 
-abbrev at_slice2 : tie.After-flag-fired → tie.After-slice-known2
-at_slice2 c = c.before.before.before
+abbrev at_slice2 : tie.After-flag_fired → tie.After-slice_known-2-1
+at_slice2 c = c.before.before
 
-abbrev start : tie.After-flag-fired → tie.Start
+abbrev start : tie.After-flag_fired → tie.Start
 start c = (at_slice2 c).before.before.before
 
-abbrev at_flags3 : tie.After-slice-known7 → tie.After-flags3
+abbrev at_flags3 : tie.After-slice_known-7-1 → tie.After-flags-3-1
 at_flags3 c = c.before.before.before
 
-abbrev added : tie.After-slice-known7 → tie.After-change2
+abbrev added : tie.After-slice_known-7-1 → tie.After-change-2
 added c = (at_flags3 c).before
 
-flag-fired-requires : tie.Need-flag-fired-requires
+flag-fired-requires : tie.Need-flag_fired-requires
 flag-fired-requires c κs = search rules
 
 change-requires : tie.Need-change-requires
@@ -41,10 +41,10 @@ change-requires c κs = search rules
 change-requires-2 : tie.Need-change-requires-2
 change-requires-2 c κs = search rules
 
-same_length : tie.Need-same-length
+same_length : tie.Need-shape_of-state
 same_length c = search rules
 
-same-length-2 : tie.Need-same-length-2
+same-length-2 : tie.Need-shape_of-flags
 same-length-2 c = search rules
 
 returns : tie.Need-returns
@@ -53,12 +53,12 @@ returns c =
     let d = deleted a in
     let f = fired d in
     let s = start f in (
-      rows_applied _ _ _ s.pre _ f.flag-fired.ensures _ _ d.change.ensures _ _ a.change2.ensures,
-      flags_cleared _ _ _ s.pre _ f.flag-fired.ensures _ _ d.change.ensures _ _ a.change2.ensures,
+      rows_applied _ _ _ s.requires _ f.flag_fired.ensures _ _ d.change.ensures _ _ a.change-2.ensures,
+      flags_cleared _ _ _ s.requires _ f.flag_fired.ensures _ _ d.change.ensures _ _ a.change-2.ensures,
     )
 
-pub apply-spec : {M : Type 1} → statement M
-apply-spec =
+pub apply_spec : {M : Type 1} → statement M
+apply_spec =
     tie.close
     (tie.spec
     flag-fired-requires

@@ -5,17 +5,17 @@ use borrow.Author.Rules.{rules}
 use Rattle.state.proofs.effect.truth.Statement.{statement}
 use Rattle.state.proofs.effect.truth.Tie as tie
 
-is-positive-requires : tie.Need-is-positive-requires
+is-positive-requires : tie.Need-is_positive-requires
 is-positive-requires c κs = search rules
 
-returns : tie.Need-returns
-returns c = ap (λ (b : Bool). cond {A = ℕ} b 1 0) (sym c.if1.true ∙ c.before.is_positive.ensures)
+returns : tie.Need-returns-then-is_positive
+returns c = ap (λ (b : Bool). cond {A = ℕ} b 1 0) (sym c.if-is_positive.true ∙ c.is_positive.ensures)
 
-returns-2 : tie.Need-returns-2
-returns-2 c = ap (λ (b : Bool). cond {A = ℕ} b 1 0) (sym c.if1.false ∙ c.before.is_positive.ensures)
+returns-2 : tie.Need-returns-else-is_positive
+returns-2 c = ap (λ (b : Bool). cond {A = ℕ} b 1 0) (sym c.if-is_positive.false ∙ c.is_positive.ensures)
 
-pub truth-spec : {M : Type 1} → statement M
-truth-spec =
+pub truth_spec : {M : Type 1} → statement M
+truth_spec =
     tie.close
     (tie.spec
     is-positive-requires
