@@ -28,10 +28,10 @@ enum-known-task c = search rules
 
 returns : tie.Need-returns-in-Refused
 returns c =
-    let r = c.before in
+    let r = c in
     let d = r in
-    let s = (start d).args in
-    both_task s.image.now s.clauses.now (placed r.task-1.given.0.0) (ap verdict_answer (sym r.task-1.given.1) ∙ d.read-task.ensures)
+    let s = (start d.before).args in
+    both_task s.image.now s.clauses.now (placed r.in-Refused.f) (ap verdict_answer (sym r.in-Refused.is) ∙ d.read-task.ensures)
 
 enum_told : tie.Need-enum_told-1
 enum_told c = search rules
