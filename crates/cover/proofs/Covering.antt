@@ -9,7 +9,7 @@ use lib.Dec.{eqb}
 use lib.Seq.{length-take-le}
 use lib.ListN.{length, get_or, take, replicate, get_or-replicate, length-replicate, get_or-eq_default}
 use borrow.Author.Tests.{eqb-true, eq-eqb}
-use Rattle.definitions.specs.Lists.{any, all, each, range, below, member}
+use Rattle.definitions.specs.Lists.{any, each, range, below, member}
 use Rattle.definitions.specs.Literal.{most_atoms, most_literals, atom, positive}
 use Rattle.definitions.specs.Clauses.{clause_of, row_at}
 use Rattle.definitions.specs.Groups.{groups_below, groups, covers, none_omitted, domain_of, domain_words, place_of, place_words, group_words}

@@ -1,7 +1,7 @@
 -- One atom joins the groups: what the code's marks say of them, and what the places and sizes become. Assumes nothing.
 use mathlib.Core.Bool.{Bool, true, false, not, ◌||◌}
 use mathlib.Core.Logic.{◌⊎◌, inl, inr}
-use mathlib.Core.Path.{◌≡◌, refl, sym, ◌∙◌, ap, subst}
+use mathlib.Core.Path.{◌≡◌, refl, sym, ◌∙◌, ap}
 use mathlib.Core.List.Memᴰ
 use mathlib.Core.List.{List, [], ◌∷◌, ◌++◌, Memᴰ}
 use Prim.Native.Nat.{ℕ, zero, suc, ◌+◌, ◌*◌, ◌≤◌, ◌<◌, max}
@@ -9,12 +9,12 @@ use native.Mathlib.Numerals.{add-one}
 use native.Mathlib.Decide.{dec_lt, ℕ_discrete}
 use native.Mathlib.Omega.{arith}
 use lib.Dec.{eqb}
-use lib.ListN.{length, get_or, set, replicate, length-set, length-append, get_or-replicate}
+use lib.ListN.{length, get_or, set, replicate, length-set, length-append}
 use lib.Seq.{get_or-set_same, get_or-set_other}
-use borrow.Author.Tests.{eqb-true, eqb-false, eq-eqb, ne_eqb}
+use borrow.Author.Tests.{eqb-false, eq-eqb, ne_eqb}
 use Rattle.definitions.specs.Lists.{any, all, member}
 use Rattle.definitions.specs.Groups.{mutex, join, groups_below, groups, Place, place_in, place_of}
-use Rattle.definitions.proofs.ListLaws.{decide, never, all_at, all_of, member_in, member_of, or_left, or_right, or_cases}
+use Rattle.definitions.proofs.ListLaws.{decide, never, all_at, all_of, member_in, member_of, or_right}
 use Rattle.definitions.proofs.Walks.{zero_at}
 use Rattle.definitions.proofs.GroupLaws.{In, in_low, in_mem, mem_in, all_below_lem, group_of}
 use Rattle.definitions.proofs.PlaceLaws as places

@@ -19,63 +19,63 @@ unfolding zeros
 taken n h = length-take-le n (replicate most_atoms 0) (omega (arith, length-replicate {A = ℕ} most_atoms 0))
 
 -- where the marks are lent
-abbrev lent : tie.After-alone → tie.After-slice-known
+abbrev lent : tie.After-alone-1 → tie.After-slice_known-1
 lent c = c.before.before.before
 
-abbrev start : tie.After-alone → tie.Start
+abbrev start : tie.After-alone-1 → tie.Start
 start c = (lent c).before.before
 
-marks_size : (c : tie.After-alone) → length (take (start c).args.atoms zeros) ≡ (start c).args.atoms
+marks_size : (c : tie.After-alone-1) → length (take (start c).args.atoms zeros) ≡ (start c).args.atoms
 marks_size c = taken (start c).args.atoms (start c).requires.1.few
 
-abbrev alone : tie.After-cover-marked-arg3 → tie.After-alone
+abbrev alone : tie.After-cover_marked-arg-3-1 → tie.After-alone-1
 alone c = c.before.before.before
 
 -- where the groups are made
-abbrev back : tie.After-slice-known6 → tie.After-sizes
+abbrev back : tie.After-slice_known-6-1 → tie.After-sizes-1
 back c = c.before.before.before
 
-abbrev sizes_back : tie.After-slice-known6 → tie.After-places
+abbrev sizes_back : tie.After-slice_known-6-1 → tie.After-places-1
 sizes_back c = (back c).before.before
 
-abbrev made : tie.After-slice-known6 → tie.After-cover-marked
+abbrev made : tie.After-slice_known-6-1 → tie.After-cover_marked
 made c = (sizes_back c).before.before
 
-array-borrow-prefix-alone : tie.Need-array-borrow-prefix-alone
+array-borrow-prefix-alone : tie.Need-slice_bounds-alone-end
 array-borrow-prefix-alone c = search rules
 
-slice-aggregate-cover-marked : tie.Need-slice-aggregate-cover-marked
+slice-aggregate-cover-marked : tie.Need-slice_bounds-cover_marked-end
 unfolding zeros
 slice-aggregate-cover-marked c = sym (marks_size c)
 
-cover-marked-requires : tie.Need-cover-marked-requires
+cover-marked-requires : tie.Need-cover_marked-requires
 unfolding zeros
 cover-marked-requires c κs =
     let s = start (alone c) in
     let a = s.args in
     let e = sym (marks_size (alone c)) in
-    let rows = subst (λ (k : ℕ). ClausesRead k a.clauses.now) e s.pre.0 in
-    (rows, subst (λ (k : ℕ). Room k a.places.now a.sizes.now a.none.now) e s.pre.1)
+    let rows = subst (λ (k : ℕ). ClausesRead k a.clauses.now) e s.requires.0 in
+    (rows, subst (λ (k : ℕ). Room k a.places.now a.sizes.now a.none.now) e s.requires.1)
 
-same_length : tie.Need-same-length
+same_length : tie.Need-shape_of-places
 same_length c = search rules
 
-same-length-2 : tie.Need-same-length-2
+same-length-2 : tie.Need-shape_of-sizes
 same-length-2 c = search rules
 
-same-length-3 : tie.Need-same-length-3
+same-length-3 : tie.Need-shape_of-none
 same-length-3 c = search rules
 
 returns : tie.Need-returns
 unfolding zeros
 returns c =
-    let m = (made c).cover-marked in
+    let m = (made c).cover_marked in
     let d = alone (made c).before in
     let C = clauses_of (start d).args.clauses.now in
-    subst (λ (k : ℕ). Covered k C m.last.1.1.0 m.last.1.1.1.0 m.last.1.1.1.1.0 m.result) (marks_size d) m.ensures
+    subst (λ (k : ℕ). Covered k C m.new.places m.new.sizes m.new.none m.result) (marks_size d) m.ensures
 
-pub cover-spec : {M : Type 1} → statement M
-cover-spec =
+pub cover_spec : {M : Type 1} → statement M
+cover_spec =
     tie.close
     (tie.spec
     array-borrow-prefix-alone

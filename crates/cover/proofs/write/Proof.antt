@@ -26,16 +26,16 @@ unfolding cover_words
 parts s = refl
 
 -- after the domains are written
-abbrev lent : tie.After-domains → tie.After-shared-slice-known3
+abbrev lent : tie.After-domains-to → tie.After-shared_slice_known-3-1
 lent c = c.before.before.before
 
-abbrev start : tie.After-domains → tie.Start
+abbrev start : tie.After-domains-to → tie.Start
 start c = (lent c).before.before.before
 
-abbrev domains : tie.After-words-arg → tie.After-domains
+abbrev domains : tie.After-words-arg-1 → tie.After-domains-to
 domains c = c.before.before.before
 
-domains-requires : tie.Need-domains-requires
+domains-requires : tie.Need-domains-to-requires
 domains-requires c κs =
     let d = c.before.before in
     let s = d.before.before.before in
@@ -47,18 +47,22 @@ words-requires c κs =
     let d = domains c in
     let a = (start d).args in
     let h = room (start d) in
-    let next = d.domains.ensures.next in
-    let size = wrote_size d.domains.ensures in
+    let next = d.domains-to.ensures.next in
+    let size = wrote_size d.domains-to.ensures in
     omega (arith, domains_size a.sizes.now a.none.now 0 a.count)
 
-same_length : tie.Need-same-length
+same_length : tie.Need-shape_of-target
 same_length c = search rules
 
 returns : tie.Need-returns
 returns c =
     let w = c.before.before in
     let d = domains w.before in
-    wrote_same (parts (start d)) (wrote_both d.domains.ensures w.words.ensures)
+    wrote_same (parts (start d)) (wrote_both d.domains-to.ensures w.words.ensures)
 
 pub write_spec : {M : Type 1} → statement M
-write_spec = tie.close (tie.spec domains-requires words-requires same_length returns)
+write_spec = tie.close (tie.spec
+    domains-requires
+    words-requires
+    same_length
+    returns)

@@ -11,37 +11,18 @@ use borrow.Author.Rules.{rules}
 use Rattle.joining.proofs.join.Statement.{statement}
 use Rattle.joining.proofs.join.Tie as tie
 
--- the start, from where the first image was read
-abbrev lent : tie.After-read-first → tie.After-shared_slice_known-1
-lent c = c.before.before.before
-
-abbrev start : tie.After-read-first → tie.Start
-start c = (lent c).before
-
--- where the first was read as a task, and where the second was
-abbrev first : tie.In_default → tie.After-read-first
-first c = c.before
-
-abbrev told : tie.After-read-second → tie.In_default
-told c = c.before
-
-abbrev second : tie.In_default-second → tie.After-read-second
-second c = c.before
-
 -- what each answer says
-first_says : (c : tie.After-read-first) (v : Verdict) → c.read-first.result ≡ v → verdict_answer v ≡ verdict (read_task (start c).args.left.now)
-first_says c v e = subst (λ (z : Verdict). verdict_answer z ≡ verdict (read_task (start c).args.left.now)) e c.read-first.ensures
+first_says : (c : tie.After-read-first) (v : Verdict) → c.read-first.result ≡ v → verdict_answer v ≡ verdict (read_task c.args.left.now)
+first_says c v e = subst (λ (z : Verdict). verdict_answer z ≡ verdict (read_task c.args.left.now)) e c.read-first.ensures
 
-second_says :
-    (c : tie.After-read-second) (v : Verdict) → c.read-second.result ≡ v → verdict_answer v ≡ verdict (read_task (start (first (told c))).args.right.now)
-second_says c v e =
-    subst (λ (z : Verdict). verdict_answer z ≡ verdict (read_task (start (first (told c))).args.right.now)) e c.read-second.ensures
+second_says : (c : tie.After-read-second) (v : Verdict) → c.read-second.result ≡ v → verdict_answer v ≡ verdict (read_task c.args.right.now)
+second_says c v e = subst (λ (z : Verdict). verdict_answer z ≡ verdict (read_task c.args.right.now)) e c.read-second.ensures
 
-first_reads : (c : tie.In_default) → Reads (start (first c)).args.left.now
-first_reads c = reads _ (first_says (first c) _ c.in_default.is)
+first_reads : (c : tie.In_default) → Reads c.args.left.now
+first_reads c = reads _ (first_says c.before _ c.in_default.is)
 
-second_reads : (c : tie.In_default-second) → Reads (start (first (told (second c)))).args.right.now
-second_reads c = reads _ (second_says (second c) _ c.in_default-second.is)
+second_reads : (c : tie.In_default-second) → Reads c.args.right.now
+second_reads c = reads _ (second_says c.before _ c.in_default-second.is)
 
 read-requires : tie.Need-read-first-requires
 read-requires c κs = search rules
@@ -50,9 +31,7 @@ enum-known-first : tie.Need-enum_known-first
 enum-known-first c = search rules
 
 returns : tie.Need-returns-in-Refused
-returns c =
-    let f = c.before in
-    first_refused _ _ _ _ (first_says f _ f.first-1.given.1)
+returns c = first_refused _ _ _ _ (first_says c.before _ c.in-Refused.is)
 
 enum_told : tie.Need-enum_told-1
 enum_told c = search rules
@@ -64,19 +43,15 @@ enum-known-second : tie.Need-enum_known-second
 enum-known-second c = search rules
 
 returns-2 : tie.Need-returns-in-Refused-second
-returns-2 c =
-    let f = c.before in
-    let d = f in
-    second_refused _ _ _ (first_reads (told d)) _ (second_says d _ f.second-1.given.1)
+returns-2 c = second_refused _ _ _ (first_reads c.before.before) _ (second_says c.before _ c.in-Refused-second.is)
 
 enum-told-2 : tie.Need-enum_told-in_default-second
 enum-told-2 c = search rules
 
 join-read-requires : tie.Need-join_read-requires
 join-read-requires c κs =
-    let d = c.before in
-    let a = first_reads (told (second d)) in
-    let b = second_reads d in
+    let a = first_reads c.before.before.before in
+    let b = second_reads c.before in
     search rules
 
 same_length : tie.Need-shape_of-target
@@ -84,9 +59,8 @@ same_length c = search rules
 
 returns-3 : tie.Need-returns
 returns-3 c =
-    let j = c.before.before in
-    let d = j.before.before in
-    j.join_read.ensures ∙ both_read _ _ _ (first_reads (told (second d))) (second_reads d)
+    let d = c.before.before.before.before in
+    c.join_read.ensures ∙ both_read _ _ _ (first_reads d.before.before) (second_reads d)
 
 pub join_spec : {M : Type 1} → statement M
 join_spec =

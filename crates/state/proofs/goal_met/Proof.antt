@@ -12,15 +12,9 @@ use borrow.Author.Rules.{rules}
 use Rattle.state.proofs.goal_met.Statement.{statement}
 use Rattle.state.proofs.goal_met.Tie as tie
 
--- where the image and the state were read, and the start
-abbrev read : tie.In_default → tie.After-read_state-reading
-read c = c.before
-
-abbrev start : tie.After-read_state-reading → tie.Start
-start c = c.before.before.before
-
-fine : (c : tie.In_default) → let s = (start (read c)).args in finding tt ≡ state_answer task_reader s.image.now s.state.now
-fine c = ap verdict_answer (sym c.in_default.is) ∙ (read c).read_state-reading.ensures
+-- where the image and the state were read
+fine : (c : tie.In_default) → finding tt ≡ state_answer task_reader c.args.image.now c.args.state.now
+fine c = ap verdict_answer (sym c.in_default.is) ∙ c.read_state-reading.ensures
 
 read-state-requires : tie.Need-read_state-reading-requires
 read-state-requires c κs = search rules
@@ -48,11 +42,9 @@ whether-requires c κs = search rules
 returns-2 : tie.Need-returns
 unfolding goal_task
 returns-2 c =
-    let t = c.before in
-    let g = t.before in
-    let y = fine g.before in
+    let y = fine c.before.before.before in
     c.whether.ensures
-    ∙ goal_rest task_reader _ _ y _ (standing _ _ y).reads.found _ (t.all_true.ensures ∙ ap (all_true _) g.goal.ensures)
+    ∙ goal_rest task_reader _ _ y _ (standing _ _ y).reads.found _ (c.all_true.ensures ∙ ap (all_true _) c.goal.ensures)
 
 pub goal_met_spec : {M : Type 1} → statement M
 goal_met_spec =

@@ -1,7 +1,6 @@
 -- `state::read_state`: the questions of the image, then 18.
 use Prim.Native.Nat.{ℕ}
 use mathlib.Core.Path.{◌≡◌, sym, ap, ◌∙◌}
-use borrow.Author.Tests.{not-true, not-false}
 use Rattle.definitions.specs.Literal.{is_state}
 use Rattle.answer.specs.Answer.{placed, verdict_answer}
 use Rattle.answer.proofs.ReaderCalls.{first_refused, first_fine, first_not}
@@ -12,27 +11,12 @@ use borrow.Author.Rules.{rules}
 use Rattle.state.proofs.read_state.Statement.{statement}
 use Rattle.state.proofs.read_state.Tie as tie
 
--- where the image was read, and the start
-abbrev start : tie.After-read-reading → tie.Start
-start c = c.before.before.before
-
-read_fine : (c : tie.In_default) → Reads (start c.before).args.image.now
+read_fine : (c : tie.In_default) → Reads c.args.image.now
 read_fine c = reads _ (ap verdict_answer (sym c.in_default.is) ∙ c.read-reading.ensures)
 
--- the places of the function
-abbrev after_read : tie.In_default-1 → tie.After-read-reading
-after_read c = c.before
-
-abbrev at_match_keys2 : tie.After-is_state → tie.In_default-1
-at_match_keys2 c = c.before.before.before
-
 -- the test of the state, by the task
-right_is :
-    (c : tie.After-is_state) → let s = (start (after_read (at_match_keys2 c))).args in
-    c.is_state.result ≡ is_state (task_of s.image.now).atoms s.state.now
-right_is c =
-    let s = (start (after_read (at_match_keys2 c))).args.state.now in
-    c.is_state.ensures ∙ ap (λ (n : ℕ). is_state n s) c.atoms.ensures.0
+right_is : (c : tie.After-is_state) → c.is_state.result ≡ is_state (task_of c.args.image.now).atoms c.args.state.now
+right_is c = c.is_state.ensures ∙ ap (λ (n : ℕ). is_state n c.args.state.now) c.atoms.ensures.0
 
 read-requires : tie.Need-read-reading-requires
 read-requires c κs = search rules

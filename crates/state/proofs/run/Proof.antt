@@ -1,5 +1,4 @@
 -- `state::run`: the questions up to 18, then the steps of the list.
-use denote.Slice.{shr_slice_at}
 use mathlib.Core.Path.{◌≡◌, sym, ap, ◌∙◌}
 use Rattle.definitions.specs.Answer.{finding}
 use Rattle.definitions.specs.Step.{run_task}
@@ -12,18 +11,9 @@ use borrow.Author.Rules.{rules}
 use Rattle.state.proofs.run.Statement.{statement}
 use Rattle.state.proofs.run.Tie as tie
 
--- where the image and the state were read, and the start
-abbrev read : tie.In_default → tie.After-read_state-reading
-read c = c.before
-
-abbrev shr_slice_at : tie.After-read_state-reading → tie.After-slice_known-1
-shr_slice_at c = c.before.before
-
-abbrev start : tie.After-read_state-reading → tie.Start
-start c = (shr_slice_at c).before.before
-
-fine : (c : tie.In_default) → let s = (start (read c)).args in finding tt ≡ state_answer task_reader s.image.now s.state.now
-fine c = ap verdict_answer (sym c.in_default.is) ∙ (read c).read_state-reading.ensures
+-- where the image and the state were read
+fine : (c : tie.In_default) → finding tt ≡ state_answer task_reader c.args.image.now c.args.state.now
+fine c = ap verdict_answer (sym c.in_default.is) ∙ c.read_state-reading.ensures
 
 read-state-requires : tie.Need-read_state-reading-requires
 read-state-requires c κs = search rules
@@ -51,9 +41,8 @@ same-length-2 c = search rules
 returns-2 : tie.Need-returns
 unfolding run_task
 returns-2 c =
-    let d = c.before.before in
-    let y = fine d.before.before in
-    d.run_read.ensures ∙ run_rest task_reader _ _ y _ (standing _ _ y).reads.found _
+    let y = fine c.before.before.before.before in
+    c.run_read.ensures ∙ run_rest task_reader _ _ y _ (standing _ _ y).reads.found _
 
 pub run_spec : {M : Type 1} → statement M
 run_spec =

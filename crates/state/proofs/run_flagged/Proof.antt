@@ -1,5 +1,4 @@
 -- `state::run_flagged`: the run of the whole list is that of what is left of it, from the state so far.
-use denote.Slice.{shr_slice_at}
 use Prim.Native.Nat.{◌-◌}
 use mathlib.Core.Path.{◌≡◌, refl, sym, ap, ◌∙◌}
 use lib.ListN.{length}
@@ -21,33 +20,15 @@ invariant-loop image state₀ list flags₀ steps₀ state flags steps = Running
 abbrev decreases-loop : tie.decreases-loop-steps
 decreases-loop image state₀ list flags₀ steps₀ state flags steps = length list - steps
 
--- the loop and the start, at a step, and where its answer is looked at
-abbrev shr_slice_at : tie.At-loop-steps invariant-loop decreases-loop → tie.After-slice_known-1 invariant-loop decreases-loop
-shr_slice_at c = c.before.before.before
-
-abbrev start : tie.At-loop-steps invariant-loop decreases-loop → tie.Start invariant-loop decreases-loop
-start c = (shr_slice_at c).before.before
-
-abbrev number : tie.After-step_flagged-stepped invariant-loop decreases-loop → tie.After-wide invariant-loop decreases-loop
-number c = c.before.before
-
-abbrev at_in_loop : tie.After-wide invariant-loop decreases-loop → tie.In-loop-steps invariant-loop decreases-loop
-at_in_loop c = c.before.before.before
-
-abbrev loop_of : tie.After-wide invariant-loop decreases-loop → tie.At-loop-steps invariant-loop decreases-loop
-loop_of c = (at_in_loop c).before
-
-abbrev at_state : tie.After-slice_known-in-loop-steps-2-1 invariant-loop decreases-loop → tie.After-state-1 invariant-loop decreases-loop
-at_state c = c.before.before.before
-
+-- where the step was made
 abbrev made : tie.After-slice_known-in-loop-steps-2-1 invariant-loop decreases-loop → tie.After-step_flagged-stepped invariant-loop decreases-loop
-made c = (at_state c).before
+made c = c.before.before.before.before
 
 -- the outcome of the step, by its answer
 of_step :
-    (d : tie.After-step_flagged-stepped invariant-loop decreases-loop) (v : Verdict) → d.step_flagged-stepped.result ≡ v → let l = loop_of (number d) in
+    (d : tie.After-step_flagged-stepped invariant-loop decreases-loop) (v : Verdict) → d.step_flagged-stepped.result ≡ v →
     outcome (verdict_answer v) d.step_flagged-stepped.new.state
-    ≡ becomes l.loop-steps.state (step (task_of (start l).args.image.now) l.loop-steps.state (number d).wide.result)
+    ≡ becomes d.loop-steps.state (step (task_of d.args.image.now) d.loop-steps.state d.wide.result)
 of_step d v e = outcome_of _ _ _ _ (ap verdict_answer (sym e)) d.step_flagged-stepped.ensures.0
 
 loop-holds : tie.Need-loop-steps-init invariant-loop decreases-loop
@@ -64,29 +45,22 @@ wide-requires c κs = search rules
 
 step-flagged-requires : tie.Need-step_flagged-stepped-requires invariant-loop decreases-loop
 step-flagged-requires c κs =
-    let l = loop_of c.before in
-    let s = start l in
-    (record { reads = s.requires.0.reads; size = l.loop-steps.invariant.0.size ∙ s.requires.0.size }, l.loop-steps.invariant.1 ∙ s.requires.1)
+    (record { reads = c.requires.0.reads; size = c.loop-steps.invariant.0.size ∙ c.requires.0.size }, c.loop-steps.invariant.1 ∙ c.requires.1)
 
 enum-known-stepped : tie.Need-enum_known-stepped invariant-loop decreases-loop
 enum-known-stepped c = search rules
 
 same_length : tie.Need-shape_of-state-in-Refused invariant-loop decreases-loop
-same_length c =
-    let d = made c.before in
-    d.step_flagged-stepped.auto.state ∙ (loop_of (number d)).loop-steps.invariant.0.size
+same_length c = c.step_flagged-stepped.auto.state ∙ c.loop-steps.invariant.0.size
 
 same-length-2 : tie.Need-shape_of-flags-in-Refused invariant-loop decreases-loop
-same-length-2 c =
-    let d = made c.before in
-    ap length (d.step_flagged-stepped.ensures.1 ∙ (loop_of (number d)).loop-steps.invariant.1)
+same-length-2 c = ap length (c.step_flagged-stepped.ensures.1 ∙ c.loop-steps.invariant.1)
 
 returns : tie.Need-returns-in-Refused invariant-loop decreases-loop
 unfolding refused_after
 returns c =
     let d = made c.before in
-    let l = loop_of (number d) in
-    running_stop _ _ _ _ _ l.loop-steps.invariant.0 _ _ (at_in_loop (number d)).loop-steps-test.true (number d).wide.ensures.0 (placed c.in-Refused.f) (of_step d _ c.in-Refused.is)
+    running_stop _ _ _ _ _ c.loop-steps.invariant.0 _ _ c.loop-steps-test.true c.wide.ensures.0 (placed c.in-Refused.f) (of_step d _ c.in-Refused.is)
 
 enum_told : tie.Need-enum_told-1 invariant-loop decreases-loop
 enum_told c = search rules
@@ -99,11 +73,10 @@ loop-less c = search rules
 
 loop-again : tie.Need-loop-steps-preserved invariant-loop decreases-loop
 loop-again c =
-    let d = made c.before in
-    let l = loop_of (number d) in (
-      running_on _ _ _ _ _ l.loop-steps.invariant.0 _ _ (at_in_loop (number d)).loop-steps-test.true (number d).wide.ensures.0 d.step_flagged-stepped.auto.state
+    let d = made c.before in (
+      running_on _ _ _ _ _ c.loop-steps.invariant.0 _ _ c.loop-steps-test.true c.wide.ensures.0 c.step_flagged-stepped.auto.state
           (of_step d _ c.in-Fine.is),
-      d.step_flagged-stepped.ensures.1 ∙ l.loop-steps.invariant.1,
+      c.step_flagged-stepped.ensures.1 ∙ c.loop-steps.invariant.1,
     )
 
 same-length-3 : tie.Need-shape_of-state invariant-loop decreases-loop

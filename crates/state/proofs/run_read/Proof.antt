@@ -10,16 +10,6 @@ use borrow.Author.Rules.{rules}
 use Rattle.state.proofs.run_read.Statement.{statement}
 use Rattle.state.proofs.run_read.Tie as tie
 
--- where the atoms were counted, and the start
-abbrev counted : tie.After-flags-1 → tie.After-atoms-count
-counted c = c.before.before
-
-abbrev at_shared_slice : tie.After-atoms-count → tie.After-shared_slice_known-1
-at_shared_slice c = c.before.before.before
-
-abbrev start : tie.After-atoms-count → tie.Start
-start c = (at_shared_slice c).before
-
 atoms-requires : tie.Need-atoms-count-requires
 atoms-requires c κs = search rules
 
@@ -30,12 +20,11 @@ array-borrow-prefix-flags : tie.Need-slice_bounds-flags-end
 array-borrow-prefix-flags c = search rules
 
 slice-aggregate-run-flagged : tie.Need-slice_bounds-run_flagged-end
-slice-aggregate-run-flagged c = sym (length-take-le (2 * (counted c).atoms-count.result) (replicate {A = ℕ} most_literals 0) (omega arith))
+slice-aggregate-run-flagged c = sym (length-take-le (2 * c.atoms-count.result) (replicate {A = ℕ} most_literals 0) (omega arith))
 
 run-flagged-requires : tie.Need-run_flagged-requires
 run-flagged-requires c κs =
-    let n = counted c in
-    ((start n).requires, take_zeros (2 * n.atoms-count.result) most_literals (omega arith) ∙ ap (λ (k : ℕ). replicate (2 * k) 0) n.atoms-count.ensures.0)
+    (c.requires, take_zeros (2 * c.atoms-count.result) most_literals (omega arith) ∙ ap (λ (k : ℕ). replicate (2 * k) 0) c.atoms-count.ensures.0)
 
 same_length : tie.Need-shape_of-state
 same_length c = search rules

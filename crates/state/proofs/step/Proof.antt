@@ -11,18 +11,9 @@ use borrow.Author.Rules.{rules}
 use Rattle.state.proofs.step.Statement.{statement}
 use Rattle.state.proofs.step.Tie as tie
 
--- where the image and the state were read, and the start
-abbrev read : tie.In_default → tie.After-read_state-reading
-read c = c.before
-
-abbrev at_shared_slice : tie.After-read_state-reading → tie.After-shared_slice_known-1
-at_shared_slice c = c.before.before
-
-abbrev start : tie.After-read_state-reading → tie.Start
-start c = (at_shared_slice c).before
-
-fine : (c : tie.In_default) → let s = (start (read c)).args in finding tt ≡ state_answer task_reader s.image.now s.state.now
-fine c = ap verdict_answer (sym c.in_default.is) ∙ (read c).read_state-reading.ensures
+-- where the image and the state were read
+fine : (c : tie.In_default) → finding tt ≡ state_answer task_reader c.args.image.now c.args.state.now
+fine c = ap verdict_answer (sym c.in_default.is) ∙ c.read_state-reading.ensures
 
 read-state-requires : tie.Need-read_state-reading-requires
 read-state-requires c κs = search rules
@@ -50,9 +41,8 @@ same-length-2 c = search rules
 returns-2 : tie.Need-returns
 unfolding step_task
 returns-2 c =
-    let d = c.before.before in
-    let y = fine d.before.before in
-    d.step_read.ensures ∙ step_rest task_reader _ _ y _ (standing _ _ y).reads.found _
+    let y = fine c.before.before.before.before in
+    c.step_read.ensures ∙ step_rest task_reader _ _ y _ (standing _ _ y).reads.found _
 
 pub step_spec : {M : Type 1} → statement M
 step_spec =

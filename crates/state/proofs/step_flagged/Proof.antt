@@ -13,23 +13,11 @@ use borrow.Author.Rules.{rules}
 use Rattle.state.proofs.step_flagged.Statement.{statement}
 use Rattle.state.proofs.step_flagged.Tie as tie
 
--- where the operator's number is right, and the start
-abbrev at_shared_slice : tie.After-operators → tie.After-shared_slice_known-1
-at_shared_slice c = c.before.before.before
-
-abbrev start : tie.After-operators → tie.Start
-start c = (at_shared_slice c).before
-
-there : (c : tie.Else-operators-operator) → let s = (start c.before).args in s.operator < length (task_of s.image.now).operators
+-- where the operator's number is right
+there : (c : tie.Else-operators-operator) → c.args.operator < length (task_of c.args.image.now).operators
 there c = omega (arith, c.operators.ensures.0)
 
--- where the step by the block was made
-abbrev at_state : tie.After-slice_known-4-1 → tie.After-state-1
-at_state c = c.before.before.before
-
-abbrev stepped : tie.After-slice_known-4-1 → tie.After-step_block
-stepped c = (at_state c).before
-
+-- where the operator's block was read
 abbrev given : tie.After-step_block → tie.After-operator_block
 given c = c.before.before.before
 
@@ -47,9 +35,7 @@ operator-block-requires c κs = search rules
 
 step-block-requires : tie.Need-step_block-requires
 step-block-requires c κs =
-    let g = c.before.before in
-    let s = start g.before.before in
-    applies _ _ _ _ s.requires.0 s.requires.1 _ g.operator_block.ensures
+    applies _ _ _ _ c.requires.0 c.requires.1 _ c.operator_block.ensures
 
 same_length : tie.Need-shape_of-state
 same_length c = search rules
@@ -59,14 +45,11 @@ same-length-2 c = search rules
 
 returns-2 : tie.Need-returns
 returns-2 c =
-    let d = stepped c in
-    let g = given d in
-    let s = start g.before.before in
-    let t = s.args.state.now in (
-      d.step_Block.ensures.0
-          ∙ ap (λ (o : Operator). becomes t (applied t o)) g.operator_block.ensures.operator
-          ∙ step_there (task_of s.args.image.now) t s.args.operator (there g.before),
-      d.step_Block.ensures.1,
+    let t = c.args.state.now in (
+      c.step_block.ensures.0
+          ∙ ap (λ (o : Operator). becomes t (applied t o)) c.operator_block.ensures.operator
+          ∙ step_there (task_of c.args.image.now) t c.args.operator (there (given c.before.before.before.before).before),
+      c.step_block.ensures.1,
     )
 
 pub step_flagged_spec : {M : Type 1} → statement M

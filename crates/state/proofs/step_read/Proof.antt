@@ -13,20 +13,6 @@ use borrow.Author.Rules.{rules}
 use Rattle.state.proofs.step_read.Statement.{statement}
 use Rattle.state.proofs.step_read.Tie as tie
 
--- where the atoms were counted, and the start
-abbrev counted : tie.After-flags-1 → tie.After-atoms-count
-counted c = c.before.before.before
-
-abbrev start : tie.After-atoms-count → tie.Start
-start c = c.before.before.before
-
--- where the step was made
-abbrev stepped : tie.After-flags-2-1 → tie.After-step_flagged
-stepped c = c.before.before.before
-
-abbrev lent : tie.After-step_flagged → tie.After-flags-1
-lent c = c.before
-
 atoms-requires : tie.Need-atoms-count-requires
 atoms-requires c κs = search rules
 
@@ -40,23 +26,18 @@ array-borrow-prefix-flags : tie.Need-slice_bounds-flags-end
 array-borrow-prefix-flags c = search rules
 
 slice-aggregate-step-flagged : tie.Need-slice_bounds-step_flagged-end
-slice-aggregate-step-flagged c = sym (length-take-le (2 * (counted c).atoms-count.result) (replicate {A = ℕ} most_literals 0) (omega arith))
+slice-aggregate-step-flagged c = sym (length-take-le (2 * c.atoms-count.result) (replicate {A = ℕ} most_literals 0) (omega arith))
 
 step-flagged-requires : tie.Need-step_flagged-requires
 step-flagged-requires c κs =
-    let n = counted c in
-    ((start n).requires, take_zeros (2 * n.atoms-count.result) most_literals (omega arith) ∙ ap (λ (k : ℕ). replicate (2 * k) 0) n.atoms-count.ensures.0)
+    (c.requires, take_zeros (2 * c.atoms-count.result) most_literals (omega arith) ∙ ap (λ (k : ℕ). replicate (2 * k) 0) c.atoms-count.ensures.0)
 
 same_length : tie.Need-shape_of-state
 same_length c = search rules
 
 returns : tie.Need-returns
 returns c =
-    let d = stepped c in
-    let l = lent d in
-    let a = (start (counted l)).args in
-    let s = a.state.now in
-    d.step_flagged.ensures.0 ∙ ap (λ (i : ℕ). becomes s (step (task_of a.image.now) s i)) l.wide.ensures.0
+    c.step_flagged.ensures.0 ∙ ap (λ (i : ℕ). becomes c.args.state.now (step (task_of c.args.image.now) c.args.state.now i)) c.wide.ensures.0
 
 pub step_read_spec : {M : Type 1} → statement M
 step_read_spec =

@@ -2,7 +2,6 @@ use Prim.Native.Nat.{◌≤◌, ◌-◌}
 use mathlib.Core.Path.{◌≡◌, refl, sym, ◌∙◌}
 use native.Mathlib.Omega.{arith}
 use lib.ListN.{length, drop}
-use borrow.Author.Tests.{not-true, not-false}
 use Rattle.definitions.specs.Lists.{all}
 use Rattle.definitions.proofs.Walks.{all_off, all_on, all_end}
 use Rattle.definitions.proofs.LiteralLaws.{low_at}
@@ -11,57 +10,57 @@ use borrow.Author.Rules.{rules}
 use Rattle.cover.proofs.none.lies_in.Statement.{statement}
 use Rattle.cover.proofs.none.lies_in.Tie as tie
 
-abbrev invariant-loop : tie.invariant-loop
+abbrev invariant-loop : tie.invariant-loop-i
 invariant-loop literals places group i₀ i = (i ≤ length literals) × (lies_in places group literals ≡ all (in_group places group) (drop i literals))
 
-abbrev decreases-loop : tie.decreases-loop
+abbrev decreases-loop : tie.decreases-loop-i
 decreases-loop literals places group i₀ i = length literals - i
 
-abbrev start : tie.At-loop invariant-loop decreases-loop → tie.Start invariant-loop decreases-loop
+abbrev start : tie.At-loop-i invariant-loop decreases-loop → tie.Start invariant-loop decreases-loop
 start c = c.before.before.before
 
 -- where the literal is asked
-abbrev in_loop : tie.After-is-in invariant-loop decreases-loop → tie.In-loop invariant-loop decreases-loop
+abbrev in_loop : tie.After-is_in invariant-loop decreases-loop → tie.In-loop-i invariant-loop decreases-loop
 in_loop c = c.before.before
 
-loop-holds : tie.Need-loop-init invariant-loop decreases-loop
+loop-holds : tie.Need-loop-i-init invariant-loop decreases-loop
 unfolding lies_in
 loop-holds c = (omega arith, refl)
 
-mul-l : tie.Need-overflow-mul-l invariant-loop decreases-loop
+mul-l : tie.Need-offset_bounds-literals-i invariant-loop decreases-loop
 mul-l c = search rules
 
-shared-slice-read-l : tie.Need-shared-slice-read-l invariant-loop decreases-loop
+shared-slice-read-l : tie.Need-bounds-literals-i invariant-loop decreases-loop
 shared-slice-read-l c = search rules
 
-is-in-requires : tie.Need-is-in-requires invariant-loop decreases-loop
+is-in-requires : tie.Need-is_in-requires invariant-loop decreases-loop
 is-in-requires c κs =
     let t = c.before in
-    low_at _ _ t.before.loop.i (start t.before).pre t.loop-test.true
+    low_at _ _ t.loop-i.i (start t.before).requires t.loop-i-test.true
 
-returns : tie.Need-returns invariant-loop decreases-loop
+returns : tie.Need-returns-then-not-is_in invariant-loop decreases-loop
 returns c =
     let t = in_loop c.before in
-    let out = sym c.before.is-in.ensures ∙ not-true _ c.if1.true in
-    sym (t.before.loop.inv.1 ∙ all_off _ t.before.loop.i 0 _ refl t.loop-test.taken (in_group _ _) out)
+    let out = sym c.is_in.ensures ∙ c.if-not-is_in.true in
+    sym (t.loop-i.invariant.1 ∙ all_off _ t.loop-i.i 0 _ refl t.loop-i-test.true (in_group _ _) out)
 
-add-i : tie.Need-overflow-add-i invariant-loop decreases-loop
+add-i : tie.Need-overflow_add-i invariant-loop decreases-loop
 add-i c = search rules
 
-loop-less : tie.Need-loop-smaller invariant-loop decreases-loop
+loop-less : tie.Need-loop-i-smaller invariant-loop decreases-loop
 loop-less c = search rules
 
-loop-again : tie.Need-loop-preserved invariant-loop decreases-loop
+loop-again : tie.Need-loop-i-preserved invariant-loop decreases-loop
 loop-again c =
     let t = in_loop c.before in
-    let inside = sym c.before.is-in.ensures ∙ not-false _ c.if1.false in
-    (omega arith, t.before.loop.inv.1 ∙ all_on _ t.before.loop.i 0 _ refl t.loop-test.taken (in_group _ _) inside)
+    let inside = sym c.is_in.ensures ∙ c.if-not-is_in.false in
+    (omega arith, t.loop-i.invariant.1 ∙ all_on _ t.loop-i.i 0 _ refl t.loop-i-test.true (in_group _ _) inside)
 
-returns-2 : tie.Need-returns-2 invariant-loop decreases-loop
-returns-2 c = sym (c.before.loop.invariant.1 ∙ all_end (in_group _ _) _ _ c.loop-test.false)
+returns-2 : tie.Need-returns invariant-loop decreases-loop
+returns-2 c = sym (c.loop-i.invariant.1 ∙ all_end (in_group _ _) _ _ c.loop-i-test.false)
 
-pub lies-in-spec : {M : Type 1} → statement M
-lies-in-spec =
+pub lies_in_spec : {M : Type 1} → statement M
+lies_in_spec =
     tie.close
     (tie.spec
     invariant-loop

@@ -9,66 +9,66 @@ use Rattle.cover.proofs.none.omit.Statement.{statement}
 use Rattle.cover.proofs.none.omit.Tie as tie
 
 -- where the first literal is read, and where its variable is
-abbrev lent : tie.After-wide → tie.After-shared-slice-known2
+abbrev lent : tie.After-wide-first → tie.After-shared_slice_known-2-1
 lent c = c.before.before.before
 
-abbrev start : tie.After-wide → tie.Start
+abbrev start : tie.After-wide-first → tie.Start
 start c = (lent c).before.before
 
-abbrev first : tie.After-wide2 → tie.After-wide
+abbrev first : tie.After-wide-group → tie.After-wide-first
 first c = c.before.before
 
-variable_low : (c : tie.After-wide2) → c.wide2.result < length (start (first c)).args.none.now
+variable_low : (c : tie.After-wide-group) → c.wide-group.result < length (start (first c)).args.none.now
 variable_low c =
-    let low = (start (first c)).requires.2 (first c).wide.result in
-    let e = c.wide2.ensures.0 in
+    let low = (start (first c)).requires.2 (first c).wide-first.result in
+    let e = c.wide-group.ensures.0 in
     omega arith
 
-shared-slice-read-wide : tie.Need-shared-slice-read-wide
+shared-slice-read-wide : tie.Need-bounds-literals-0
 shared-slice-read-wide c = search rules
 
-wide-requires : tie.Need-wide-requires
+wide-requires : tie.Need-wide-first-requires
 wide-requires c κs = search rules
 
-mul_wide : tie.Need-overflow-mul-wide
+mul_wide : tie.Need-offset_bounds-places-first
 mul_wide c = search rules
 
-shared-slice-read-wide-2 : tie.Need-shared-slice-read-wide-2
+shared-slice-read-wide-2 : tie.Need-bounds-places-first
 shared-slice-read-wide-2 c =
     let p = (start c.before).requires in
-    omega (arith, low_at _ _ 0 p.1 p.0, c.before.wide.ensures.0)
+    omega (arith, low_at _ _ 0 p.1 p.0, c.wide-first.ensures.0)
 
-wide-requires-2 : tie.Need-wide-requires-2
+wide-requires-2 : tie.Need-wide-group-requires
 wide-requires-2 c κs = search rules
 
-lies-in-requires : tie.Need-lies-in-requires
+lies-in-requires : tie.Need-lies_in-requires
 lies-in-requires c κs = search rules
 
-mul-none : tie.Need-overflow-mul-none
+mul-none : tie.Need-offset_bounds-none-group
 mul-none c = search rules
 
-slice-write-none : tie.Need-slice-write-none
+slice-write-none : tie.Need-bounds-none-group
 slice-write-none c = variable_low c.before.before
 
-same_length : tie.Need-same-length
+same_length : tie.Need-shape_of-none
 same_length c = search rules
 
-returns : tie.Need-returns
+returns : tie.Need-returns-then-lies_in
 returns c =
     let d = c.before.before in
     let s = start (first d) in
-    let lies = sym c.before.lies_in.ensures ∙ c.if1.true in
-    λ v. omit_lies _ _ _ _ s.pre.0 (first d).wide.ensures.0 d.wide2.ensures.0 s.args.none.now v (variable_low d) lies
+    let lies = sym c.lies_in.ensures ∙ c.if-lies_in.true in
+    λ v. omit_lies _ _ _ _ s.requires.0 (first d).wide-first.ensures.0 d.wide-group.ensures.0 s.args.none.now v (variable_low d) lies
 
-returns-2 : tie.Need-returns-2
+returns-2 : tie.Need-returns-else-lies_in
 returns-2 c =
     let d = c.before.before in
     let s = start (first d) in
-    let not = sym c.before.lies_in.ensures ∙ c.if1.false in
-    λ v. omit_not _ _ _ _ s.pre.0 (first d).wide.ensures.0 d.wide2.ensures.0 s.args.none.now v not
+    let not = sym c.lies_in.ensures ∙ c.if-lies_in.false in
+    λ v. omit_not _ _ _ _ s.requires.0 (first d).wide-first.ensures.0 d.wide-group.ensures.0 s.args.none.now v not
 
-pub omit-spec : {M : Type 1} → statement M
-omit-spec =
+pub omit_spec : {M : Type 1} → statement M
+omit_spec =
     tie.close
     (tie.spec
     shared-slice-read-wide

@@ -16,18 +16,18 @@ use borrow.Author.Rules.{rules}
 use Rattle.cover.proofs.none.omit_all.Statement.{statement}
 use Rattle.cover.proofs.none.omit_all.Tie as tie
 
-abbrev invariant-loop : tie.invariant-loop
+abbrev invariant-loop : tie.invariant-loop-at_row
 invariant-loop clauses places none₀ at-row₀ none at_row =
     Placed clauses at_row
     × (length none ≡ length none₀)
     × ((v : ℕ) → cond (any (lies_in places v) (clauses_of clauses)) 0 (get_or none₀ v 0) ≡ flag_after clauses places at_row.number v (get_or none v 0))
 
-abbrev decreases-loop : tie.decreases-loop
+abbrev decreases-loop : tie.decreases-loop-at_row
 decreases-loop clauses places none₀ at-row₀ none at_row = row_count clauses - at_row.number
 
 -- at the loop's head: the start, the clause words
 abbrev head : Type 0
-head = tie.At-loop invariant-loop decreases-loop
+head = tie.At-loop-at_row invariant-loop decreases-loop
 
 abbrev start : head → tie.Start invariant-loop decreases-loop
 start h =
@@ -39,39 +39,39 @@ words h = (start h).args.clauses.now
 
 -- in the loop: the row, and its literals
 abbrev turn : Type 0
-turn = tie.Then1 invariant-loop decreases-loop
+turn = tie.In-loop-at_row invariant-loop decreases-loop
 
 abbrev at : turn → head
 at t = t.before.before
 
-row : (t : turn) → AtRow (words (at t)) (at t).loop.at_row
-row t = is_row (at t).loop.inv.0 t.before.is-in.ensures t.if1.taken
+row : (t : turn) → AtRow (words (at t)) (at t).loop-at_row.at_row
+row t = is_row (at t).loop-at_row.invariant.0 t.is_in.ensures t.loop-at_row-test.true
 
 abbrev in_loop : tie.After-literals invariant-loop decreases-loop → turn
 in_loop c = c.before.before
 
 clause :
     (c : tie.After-literals invariant-loop decreases-loop) → let h = at (in_loop c) in
-    c.literals.result.now ≡ clause_of (row_at (words h) h.loop.at_row.number)
-clause c = c.literals.ensures ∙ ap clause_of c.before.row.ensures
+    c.literals.result.now ≡ clause_of (row_at (words h) h.loop-at_row.at_row.number)
+clause c = c.literals.ensures ∙ ap clause_of c.row-row.ensures
 
 -- after none is omitted
-abbrev omitted : tie.After-slice-known2 invariant-loop decreases-loop → tie.After-omit invariant-loop decreases-loop
+abbrev omitted : tie.After-slice_known-in-loop-at_row-1 invariant-loop decreases-loop → tie.After-omit invariant-loop decreases-loop
 omitted c = c.before.before
 
 abbrev listed : tie.After-omit invariant-loop decreases-loop → tie.After-literals invariant-loop decreases-loop
 listed c = c.before.before
 
-first-requires : tie.Need-first-requires invariant-loop decreases-loop
+first-requires : tie.Need-first-at_row-requires invariant-loop decreases-loop
 first-requires c κs = search rules
 
-loop-holds : tie.Need-loop-init invariant-loop decreases-loop
-loop-holds c = let a = c.first.ensures in (placed_first a, refl, rw a.number (λ v. refl))
+loop-holds : tie.Need-loop-at_row-init invariant-loop decreases-loop
+loop-holds c = let a = c.first-at_row.ensures in (placed_first a, refl, rw a.number (λ v. refl))
 
-is-in-requires : tie.Need-is-in-requires invariant-loop decreases-loop
-is-in-requires c κs = c.loop.invariant.0
+is-in-requires : tie.Need-is_in-requires invariant-loop decreases-loop
+is-in-requires c κs = c.loop-at_row.invariant.0
 
-row-requires : tie.Need-row-requires invariant-loop decreases-loop
+row-requires : tie.Need-row-row-requires invariant-loop decreases-loop
 row-requires c κs = row c
 
 literals-requires : tie.Need-literals-requires invariant-loop decreases-loop
@@ -81,44 +81,44 @@ omit-requires : tie.Need-omit-requires invariant-loop decreases-loop
 omit-requires c κs =
     let d = c.before in
     let t = in_loop d in
-    let l = (at t).loop in
-    let p = (start (at t)).pre in
+    let l = (at t).loop-at_row in
+    let p = (start (at t)).requires in
     let some = p.0.some_literal l.at_row.number (row t).inside in
     let low = p.0.low l.at_row.number (row t).inside in
-    (rw (clause d) some, rw (clause d) low, λ i. (let q = p.1 i in let e = l.inv.1 in omega arith))
+    (rw (clause d) some, rw (clause d) low, λ i. (let q = p.1 i in let e = l.invariant.1 in omega arith))
 
-next-requires : tie.Need-next-requires invariant-loop decreases-loop
+next-requires : tie.Need-next-at_row-requires invariant-loop decreases-loop
 next-requires c κs =
     let t = in_loop (listed (omitted c)) in
-    has_next (row t) (start (at t)).good.0.0
+    has_next (row t) (start (at t)).well_formed.0.0
 
-loop-less : tie.Need-loop-smaller invariant-loop decreases-loop
-loop-less c = fewer_left (row (in_loop (listed (omitted c.before)))) c.next.ensures
+loop-less : tie.Need-loop-at_row-smaller invariant-loop decreases-loop
+loop-less c = fewer_left (row (in_loop (listed (omitted c.before)))) c.next-at_row.ensures
 
-loop-again : tie.Need-loop-preserved invariant-loop decreases-loop
+loop-again : tie.Need-loop-at_row-preserved invariant-loop decreases-loop
 loop-again c =
     let o = omitted c.before in
     let d = listed o in
     let t = in_loop d in
-    let l = (at t).loop in
-    let a = c.next.ensures in
+    let l = (at t).loop-at_row in
+    let a = c.next-at_row.ensures in
     let n = l.at_row.number in (
       placed_next (row t) a,
-      o.omit.kept.1.1.0 ∙ l.inv.1,
-      rw a.number (λ v. l.inv.2 v ∙ omit_on _ _ n v (row t).inside _ _ _ (clause d) (o.omit.ensures v)),
+      o.omit.auto.none ∙ l.invariant.1,
+      rw a.number (λ v. l.invariant.2 v ∙ omit_on _ _ n v (row t).inside _ _ _ (clause d) (o.omit.ensures v)),
     )
 
-same_length : tie.Need-same-length invariant-loop decreases-loop
-same_length c = c.before.before.loop.invariant.1
+same_length : tie.Need-shape_of-none invariant-loop decreases-loop
+same_length c = c.loop-at_row.invariant.1
 
 returns : tie.Need-returns invariant-loop decreases-loop
 returns c =
-    let l = c.before.before.loop in
-    let done = no_row l.invariant.0 c.before.is-in.ensures c.if1.false in
+    let l = c.loop-at_row in
+    let done = no_row l.invariant.0 c.is_in.ensures c.loop-at_row-test.false in
     λ v. sym (l.invariant.2 v ∙ omit_end _ _ l.at_row.number v done _)
 
-pub omit-all-spec : {M : Type 1} → statement M
-omit-all-spec =
+pub omit_all_spec : {M : Type 1} → statement M
+omit_all_spec =
     tie.close
     (tie.spec
     invariant-loop
