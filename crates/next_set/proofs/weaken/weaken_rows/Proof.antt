@@ -119,7 +119,6 @@ loop-less c = fewer_left (row (turn_of (put_of c.before))) c.next-place.ensures
 
 loop-again : tie.Need-loop-place-preserved invariant-loop decreases-loop
 loop-again c =
-    let b = (c.before).built-1 in
     let o = put_of c.before in
     let t = turn_of o in
     let l = (at t).loop-place in
@@ -128,7 +127,7 @@ loop-again c =
       o.weaken_row-built.auto.work ∙ l.invariant.1,
       rw a.number
           (pending_on (start (at t)).args.rows _ _ l.taken l.work l.invariant.2 _ _ (left t) _ o.weaken_row-built.result o.weaken_row-built.ensures
-          b.given.0.0 b.given.1),
+          c.in-Rows.more c.in-Rows.is),
     )
 
 same-length-2 : tie.Need-shape_of-work invariant-loop decreases-loop
