@@ -50,10 +50,11 @@ fn check_operator(image: &[u16], state: &[u8], operator: usize) -> Verdict
     if task::operators(image) <= operator {
         return answer::refuse(Refusal::OPERATOR_NUMBER);
     }
-    if !precondition_holds(task::operator_block(image, operator), state) {
-        return answer::refuse(Refusal::PRECONDITION);
+    if precondition_holds(task::operator_block(image, operator), state) {
+        Verdict::Fine
+    } else {
+        answer::refuse(Refusal::PRECONDITION)
     }
-    Verdict::Fine
 }
 
 // Whether a step can be made: its questions, and nothing is changed.

@@ -9,13 +9,13 @@ use Rattle.state.proofs.check_operator.Goals as goal
 pub returns-then-operators-operator : goal.returns-then-operators-operator
 returns-then-operators-operator c = c.refuse.ensures ∙ no_19 _ _ _ (omega (arith, c.operators.ensures.0))
 
-pub returns-then-not-precondition_holds : goal.returns-then-not-precondition_holds
-returns-then-not-precondition_holds c =
+pub returns-then-precondition_holds : goal.returns-then-precondition_holds
+returns-then-precondition_holds c =
     let tested = c.precondition_holds.ensures ∙ ap (λ (o : Operator). all_true c.args.state.now o.precondition) c.operator_block.ensures.operator in
-    c.refuse-then-not-precondition_holds.ensures
-    ∙ no_20 _ _ _ (omega (arith, c.operators.ensures.0)) (sym tested ∙ c.if-not-precondition_holds.true)
+    yes_20 _ _ _ (omega (arith, c.operators.ensures.0)) (sym tested ∙ c.if-precondition_holds.true)
 
-pub returns : goal.returns
-returns c =
+pub returns-else-precondition_holds : goal.returns-else-precondition_holds
+returns-else-precondition_holds c =
     let tested = c.precondition_holds.ensures ∙ ap (λ (o : Operator). all_true c.args.state.now o.precondition) c.operator_block.ensures.operator in
-    yes_20 _ _ _ (omega (arith, c.operators.ensures.0)) (sym tested ∙ c.if-not-precondition_holds.false)
+    c.refuse-else-precondition_holds.ensures
+    ∙ no_20 _ _ _ (omega (arith, c.operators.ensures.0)) (sym tested ∙ c.if-precondition_holds.false)
