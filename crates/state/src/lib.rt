@@ -2,7 +2,7 @@
 #![tactic(auto)]
 
 ghost use Rattle.std.specs.Prelude.{◌≡◌, true, ◌*◌, length, replicate};
-ghost use Rattle.definitions.specs.Answer.{outcome, becomes};
+ghost use Rattle.definitions.specs.Answer.{verdict, outcome, becomes};
 ghost use Rattle.definitions.specs.Literal.{all_true};
 ghost use Rattle.definitions.specs.Image.{initial_state};
 ghost use Rattle.definitions.specs.StepLists.{run_from};
@@ -42,6 +42,32 @@ fn precondition_holds(block: &[u16], state: &[u8]) -> bool
     literal::all_true(state, &block[1..end])
 }
 
+// Whether an operator can be applied in a task's state: questions 19 and 20.
+fn check_operator(image: &[u16], state: &[u8], operator: usize) -> Verdict
+    requires { Reads image.now }
+    ensures { verdict_answer result ≡ verdict (step (task_of image.now) state.now operator) }
+{
+    if task::operators(image) <= operator {
+        return answer::refuse(Refusal::OPERATOR_NUMBER);
+    }
+    if precondition_holds(task::operator_block(image, operator), state) {
+        Verdict::Fine
+    } else {
+        answer::refuse(Refusal::PRECONDITION)
+    }
+}
+
+// Whether a step can be made: its questions, and nothing is changed.
+pub fn check_step(image: &[u16], state: &[u8], operator: u16) -> Verdict
+    ensures { verdict_answer result ≡ verdict (step_task image.now state.now operator) }
+{
+    let reading = read_state(image, state);
+    if let Verdict::Refused(f) = reading {
+        return Verdict::Refused(f);
+    }
+    check_operator(image, state, literal::wide(operator))
+}
+
 // A step by the block of its operator, with flags that are all zero before and after: question 20.
 fn step_block(block: &[u16], state: &mut [u8], flags: &mut [u8]) -> Verdict
     requires { Applies block.now state.old flags.old }
@@ -70,7 +96,7 @@ fn step_flagged(image: &[u16], state: &mut [u8], operator: usize, flags: &mut [u
 }
 
 // A step in a task's state: questions 19 and 20.
-fn step_read(image: &[u16], state: &mut [u8], operator: u16) -> Verdict
+pub fn step_read(image: &[u16], state: &mut [u8], operator: u16) -> Verdict
     requires { Standing image.now state.old }
     ensures { outcome (verdict_answer result) state.new
         ≡ becomes state.old (step (task_of image.now) state.old operator) }

@@ -5,6 +5,7 @@ use mathlib.Core.Bool.{true, false}
 use Prim.Native.Nat.{ℕ, suc, ◌+◌}
 use native.Mathlib.Numerals.{add-one}
 use Rattle.definitions.specs.Answer.{Refusal, finding, refused, verdict, outcome, becomes, ◌>>=◌}
+use Rattle.definitions.specs.CallLists.{outcome_of_call, call_becomes}
 use Rattle.definitions.specs.Image.{Task, read_task}
 use Rattle.definitions.specs.Step.{step, step_task}
 use Rattle.definitions.specs.Ticket.{Ticket, ask_task, ticket_valid, commit, commit_task}
@@ -12,9 +13,10 @@ use Rattle.definitions.proofs.AnswerLaws.{step_found, step_refused}
 use Rattle.answer.specs.Answer.{refusal_at}
 use Rattle.answer.specs.Reader.{state_answer}
 use Rattle.answer.proofs.Laws.{verdict_finding, refused_first}
-use Rattle.answer.proofs.ReaderCalls.{question_no, question_yes, stays, done, rest_becomes, rest_stays}
+use Rattle.answer.proofs.ReaderCalls.{question_no, question_yes}
 use Rattle.state.specs.Post.{task_reader}
 use Rattle.ticket.specs.Answer.{counted, ticket_with}
+use Rattle.ticket.proofs.Outcomes.{stays, done, rest_becomes, rest_stays}
 
 -- ---- an ask, by the questions of the step
 module _ (w s : List ℕ) (n i : ℕ) where
@@ -30,7 +32,7 @@ module _ (w s : List ℕ) (n i : ℕ) where
 module _ (t : Task) (s : List ℕ) (n : ℕ) (k : Ticket) where
   pub no_28 :
       ticket_valid k.count n ≡ false
-      → outcome (refused (refusal_at 28 0 0)) (counted s n) ≡ becomes (counted s n) (commit t (counted s n) k)
+      → outcome_of_call (refused (refusal_at 28 0 0)) (counted s n) ≡ call_becomes (counted s n) (commit t (counted s n) k)
   unfolding commit
   no_28 h = stays (counted s n) _ (refusal_at 28 0 0) (question_no 28 (ticket_valid k.count n) _ h)
 
@@ -43,7 +45,7 @@ module _ (t : Task) (s : List ℕ) (n : ℕ) (k : Ticket) where
     module _ (s' : List ℕ) where
       pub not_committed :
           (r : Refusal) → outcome (refused r) s' ≡ becomes s (step t s k.operator)
-          → outcome (refused r) (counted s' n) ≡ becomes (counted s n) (commit t (counted s n) k)
+          → outcome_of_call (refused r) (counted s' n) ≡ call_becomes (counted s n) (commit t (counted s n) k)
       unfolding ◌>>=◌
       not_committed r e =
           let d = step_refused (step t s k.operator) s s' r e in
@@ -51,7 +53,7 @@ module _ (t : Task) (s : List ℕ) (n : ℕ) (k : Ticket) where
 
       pub committed :
           outcome (finding tt) s' ≡ becomes s (step t s k.operator)
-          → outcome (finding tt) (counted s' (n + 1)) ≡ becomes (counted s n) (commit t (counted s n) k)
+          → outcome_of_call (finding tt) (counted s' (n + 1)) ≡ call_becomes (counted s n) (commit t (counted s n) k)
       unfolding ◌>>=◌
       committed e = rw (add-one n) (done (counted s n) _ (counted s' (suc n)) (rw (step_found (step t s k.operator) s s' e) at steps))
 
@@ -59,12 +61,12 @@ module _ (t : Task) (s : List ℕ) (n : ℕ) (k : Ticket) where
 module _ (w s : List ℕ) (n : ℕ) (k : Ticket) where
   pub commit_refused :
       (r : Refusal) → refused r ≡ state_answer task_reader w s
-      → outcome (refused r) (counted s n) ≡ becomes (counted s n) (commit_task w (counted s n) k)
+      → outcome_of_call (refused r) (counted s n) ≡ call_becomes (counted s n) (commit_task w (counted s n) k)
   unfolding commit_task
-  commit_refused r e = rest_stays task_reader w s r e (counted s n) (λ t. commit t (counted s n) k)
+  commit_refused r e = rest_stays task_reader w s (counted s n) (λ t. commit t (counted s n) k) r e
 
   pub commit_rest :
       finding tt ≡ state_answer task_reader w s → (t : Task) → read_task w ≡ finding t
-      → becomes (counted s n) (commit t (counted s n) k) ≡ becomes (counted s n) (commit_task w (counted s n) k)
+      → call_becomes (counted s n) (commit t (counted s n) k) ≡ call_becomes (counted s n) (commit_task w (counted s n) k)
   unfolding commit_task
-  commit_rest e t found = rest_becomes task_reader w s e t found (counted s n) (λ t. commit t (counted s n) k)
+  commit_rest e t found = rest_becomes task_reader w s (counted s n) (λ t. commit t (counted s n) k) e t found

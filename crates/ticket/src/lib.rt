@@ -3,7 +3,7 @@
 #![tactic(auto)]
 
 ghost use Rattle.std.specs.Prelude.{◌≡◌};
-ghost use Rattle.definitions.specs.Answer.{outcome, becomes};
+ghost use Rattle.definitions.specs.CallLists.{outcome_of_call, call_becomes};
 ghost use Rattle.definitions.specs.Ticket.{ask_task, ticket_valid, commit, commit_task};
 ghost use Rattle.answer.specs.Answer.{verdict_answer};
 ghost use Rattle.state.specs.Post.{Standing};
@@ -53,8 +53,8 @@ fn is_valid(given: u16, count: u16) -> bool
 // Commits a ticket in a task's state: questions 28, 19 and 20.
 fn commit_read(image: &[u16], state: &mut [u8], count: &mut u16, ticket: Ticket) -> Verdict
     requires { Standing image.now state.old }
-    ensures { outcome (verdict_answer result) (counted state.new count.new)
-        ≡ becomes (counted state.old count.old)
+    ensures { outcome_of_call (verdict_answer result) (counted state.new count.new)
+        ≡ call_becomes (counted state.old count.old)
         (commit (task_of image.now) (counted state.old count.old) (ticket_of ticket)) }
 {
     if !is_valid(ticket.count, *count) {
@@ -70,8 +70,8 @@ fn commit_read(image: &[u16], state: &mut [u8], count: &mut u16, ticket: Ticket)
 
 // Commits a ticket: makes its step in the lent state, and adds one to the lent count. Questions 1 to 7, 18, 28, 19 and 20.
 pub fn commit(image: &[u16], state: &mut [u8], count: &mut u16, ticket: Ticket) -> Verdict
-    ensures { outcome (verdict_answer result) (counted state.new count.new)
-        ≡ becomes (counted state.old count.old)
+    ensures { outcome_of_call (verdict_answer result) (counted state.new count.new)
+        ≡ call_becomes (counted state.old count.old)
         (commit_task image.now (counted state.old count.old) (ticket_of ticket)) }
 {
     let reading = state::read_state(image, state);

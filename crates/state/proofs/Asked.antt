@@ -1,0 +1,63 @@
+-- The questions of a call that changes nothing: those up to 18 and then the rest, and questions 19 and 20. Assumes nothing.
+use mathlib.Core.Path.{◌≡◌, sym, ap, ◌∙◌}
+use mathlib.Core.List.{List}
+use mathlib.Core.Bool.{Bool, true, false}
+use Prim.Native.Nat.{ℕ, ◌≤◌, ◌<◌}
+use lib.Dec.{ltb}
+use lib.ListN.{length}
+use borrow.Author.Tests.{lt-ltb, le-ltb}
+use Rattle.definitions.specs.Answer.{Refusal, Answer, finding, refused, verdict, ask, ask_at, ◌>>=◌}
+use Rattle.definitions.specs.Literal.{all_true}
+use Rattle.definitions.specs.Image.{Task}
+use Rattle.definitions.specs.Step.{applicable, result, operator_at, step}
+use Rattle.definitions.proofs.AnswerLaws.{not_finding}
+use Rattle.answer.specs.Answer.{refusal_at}
+use Rattle.answer.specs.Reader.{Reader, asking, state_answer, step_call}
+use Rattle.answer.proofs.ReaderCalls.{question_no, question_yes, rest_asked, state_is}
+
+-- ---- the questions up to 18, and the rest, for every kind of image
+module _ {T : Type 0} (R : Reader T) (w s : List ℕ) where
+  -- where they are answered yes
+  module _ (yes-18 : finding tt ≡ state_answer R w s) (t : T) (found : R.read w ≡ finding t) where
+    pub all_asked : {B : Type 0} (rest : T → Answer B) → rest t ≡ asking (R.read w) (λ t. R.is_state t s) rest
+    all_asked rest = rest_asked (R.read w) (λ t. R.is_state t s) rest t found (state_is R w s yes-18 t found)
+
+    pub check_rest : (i : ℕ) → verdict (R.step t s i) ≡ verdict (step_call R w s i)
+    check_rest i = ap verdict (all_asked (λ t. R.step t s i))
+
+  -- where one of them is answered no
+  module _ (r : Refusal) (no-18 : refused r ≡ state_answer R w s) where
+    pub either_refused : {B : Type 0} (rest : T → Answer B) → refused r ≡ asking (R.read w) (λ t. R.is_state t s) rest
+    unfolding state_answer ◌>>=◌ ask ask_at
+    either_refused {B} rest = go (R.read w) no-18
+      where
+        at_18 : (t : T) (b : Bool) → refused r ≡ (ask 18 b >>= λ _. finding (tt {0})) → refused r ≡ (ask 18 b >>= λ _. rest t)
+        at_18 t true e = absurd (not_finding e)
+        at_18 t false e = ap refused (cc)
+
+        go : (a : Answer T) → refused r ≡ asking a (λ t. R.is_state t s) (λ _. finding (tt {0})) → refused r ≡ asking a (λ t. R.is_state t s) rest
+        go (finding t) e = at_18 t (R.is_state t s) e
+        go (refused q) e = ap refused (cc)
+
+    pub check_refused : (i : ℕ) → refused r ≡ verdict (step_call R w s i)
+    unfolding verdict
+    check_refused i = ap verdict (either_refused (λ t. R.step t s i))
+
+-- ---- questions 19 and 20
+module _ (t : Task) (s : List ℕ) (i : ℕ) where
+  pub no_19 : length t.operators ≤ i → refused (refusal_at 19 0 0) ≡ verdict (step t s i)
+  unfolding step verdict
+  no_19 h = ap verdict (question_no 19 (ltb i (length t.operators)) _ (le-ltb i (length t.operators) h))
+
+  module _ (there : i < length t.operators) where
+    asks_20 : step t s i ≡ (ask 20 (applicable s (operator_at t i)) >>= λ _. finding (result s (operator_at t i)))
+    unfolding step
+    asks_20 = sym (question_yes 19 (ltb i (length t.operators)) _ (lt-ltb i (length t.operators) there))
+
+    pub no_20 : all_true s (operator_at t i).precondition ≡ false → refused (refusal_at 20 0 0) ≡ verdict (step t s i)
+    unfolding applicable verdict
+    no_20 h = ap verdict (question_no 20 (applicable s (operator_at t i)) _ h ∙ sym asks_20)
+
+    pub yes_20 : all_true s (operator_at t i).precondition ≡ true → finding tt ≡ verdict (step t s i)
+    unfolding applicable verdict
+    yes_20 h = ap verdict (question_yes 20 (applicable s (operator_at t i)) _ h ∙ sym asks_20)
