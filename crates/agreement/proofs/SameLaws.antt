@@ -20,11 +20,11 @@ use Rattle.agreement.specs.Same.{same_refusal, same_answer, both_found, same_uni
 
 -- ---- what a tested call says
 module _ {r b : Bool} (said : r ≡ b) where
-  pub said_no : not r ≡ true → b ≡ false
-  said_no h = sym said ∙ not-true r h
+  pub said_no : r ≡ false → b ≡ false
+  said_no h = sym said ∙ h
 
-  pub said_yes : not r ≡ false → b ≡ true
-  said_yes h = sym said ∙ not-false r h
+  pub said_yes : r ≡ true → b ≡ true
+  said_yes h = sym said ∙ h
 
 -- ---- no clause is the lowest that is false, or one is
 module _ (p : List ℕ → Bool) (C : List (List ℕ)) where

@@ -15,9 +15,9 @@ use Rattle.agreement.proofs.agree.Tie as tie
 
 -- after the checker: the start, with the task image, the clause words, the list and the bytes of marks
 abbrev checked : Type 0
-checked = tie.After-accept
+checked = tie.After-accept-checked
 
-abbrev lent : checked → tie.After-shared-slice-known3
+abbrev lent : checked → tie.After-shared_slice_known-3-1
 lent d = d.before.before.before
 
 abbrev start : checked → tie.Start
@@ -36,73 +36,72 @@ abbrev marks : checked → ℕ
 marks d = length (start d).args.marks.now
 
 -- where its verdict is looked at
-abbrev answered : tie.After-slice-known2 → checked
+abbrev answered : tie.After-slice_known-2-1 → checked
 answered c = c.before.before
 
 -- where it accepts
 abbrev fine : Type 0
-fine = tie.After-enum-told
+fine = tie.In_default
 
 abbrev checked_by : fine → checked
-checked_by c = answered c.before.before
+checked_by c = answered c.before
 
 ok : (c : fine) → let d = checked_by c in Accepts (image d) (set d) (marks d)
-ok c = accepted _ _ _ (ap verdict_answer (sym c.enum_told.given.1) ∙ (checked_by c).accept.ensures)
+ok c = accepted _ _ _ (ap verdict_answer (sym c.in_default.is) ∙ (checked_by c).accept-checked.ensures)
 
 -- after the comparison
-abbrev compared : tie.After-room2 → tie.After-compare-accepted
+abbrev compared : tie.After-room-2-1 → tie.After-compare_accepted
 compared c = c.before.before.before
 
-abbrev room : tie.After-compare-accepted → tie.After-image-room
+abbrev room : tie.After-compare_accepted → tie.After-image_room-room
 room c = c.before.before.before
 
-accept-requires : tie.Need-accept-requires
+accept-requires : tie.Need-accept-checked-requires
 accept-requires c κs = search rules
 
-enum-known-checked : tie.Need-enum-known-checked
+enum-known-checked : tie.Need-enum_known-checked
 enum-known-checked c = search rules
 
-same_length : tie.Need-same-length
+same_length : tie.Need-shape_of-marks-in-Refused
 same_length c = search rules
 
-returns : tie.Need-returns
+returns : tie.Need-returns-in-Refused
 returns c =
-    let d = answered c.before.before.before in
-    let f = c.before.checked.given in
-    let h = ap verdict_answer (sym f.1) ∙ d.accept.ensures in
+    let d = answered c.before in
+    let h = ap verdict_answer (sym c.in-Refused.is) ∙ d.accept-checked.ensures in
     record {
-      compared = comparison_refused _ _ _ _ (placed f.0.0) h;
-      demand = demanded_refused _ _ _ (list d) (placed f.0.0) h;
+      compared = comparison_refused _ _ _ _ (placed c.in-Refused.f) h;
+      demand = demanded_refused _ _ _ (list d) (placed c.in-Refused.f) h;
     }
 
-enum_told : tie.Need-enum-told
+enum_told : tie.Need-enum_told-1
 enum_told c = search rules
 
-image-room-requires : tie.Need-image-room-requires
+image-room-requires : tie.Need-image_room-room-requires
 image-room-requires c κs = search rules
 
-slice-aggregate-compare-accepted : tie.Need-slice-aggregate-compare-accepted
+slice-aggregate-compare-accepted : tie.Need-slice_bounds-compare_accepted-end
 slice-aggregate-compare-accepted c = search rules
 
-compare-accepted-requires : tie.Need-compare-accepted-requires
+compare-accepted-requires : tie.Need-compare_accepted-requires
 compare-accepted-requires c κs =
     let r = c.before.before in
     let d = checked_by r.before in
-    (subst (Accepts (image d) (set d)) (sym d.accept.kept.1.1.0) (ok r.before), r.image-room.ensures)
+    (subst (Accepts (image d) (set d)) (sym d.accept-checked.auto.marks) (ok r.before), r.image_room-room.ensures)
 
-same-length-2 : tie.Need-same-length-2
+same-length-2 : tie.Need-shape_of-marks
 same-length-2 c = search rules
 
-returns-2 : tie.Need-returns-2
+returns-2 : tie.Need-returns
 returns-2 c =
     let e = compared c in
     let m = (room e).before in
     let d = checked_by m in
-    let h = e.compare-accepted.ensures ∙ ap (λ (k : ℕ). comparison (image d) (set d) k (list d)) d.accept.kept.1.1.0 in
+    let h = e.compare_accepted.ensures ∙ ap (λ (k : ℕ). comparison (image d) (set d) k (list d)) d.accept-checked.auto.marks in
     record { compared = h; demand = h ∙ comparison_passes (image d) (set d) (marks d) (ok m) (list d) }
 
-pub agree-spec : {M : Type 1} → statement M
-agree-spec =
+pub agree_spec : {M : Type 1} → statement M
+agree_spec =
     tie.close
     (tie.spec
     accept-requires

@@ -21,12 +21,12 @@ use Rattle.agreement.proofs.compare_accepted.Tie as tie
 
 -- after the re-encoding: the start, with the task image, the clause words, the bytes of marks and the target; what the target then holds
 abbrev made : Type 0
-made = tie.After-reencode
+made = tie.After-reencode-written
 
-abbrev lent : made → tie.After-slice-known2
+abbrev lent : made → tie.After-slice_known-2-1
 lent d = d.before.before.before
 
-abbrev read : made → tie.After-shared-slice-known2
+abbrev read : made → tie.After-shared_slice_known-2-1
 read d = (lent d).before.before.before
 
 abbrev start : made → tie.Start
@@ -45,101 +45,100 @@ abbrev target : made → List ℕ
 target d = (start d).args.room.now
 
 abbrev held : made → List ℕ
-held d = d.reencode.last.1.1.1.0
+held d = d.reencode-written.new.target
 
 ok : (d : made) → Accepts (image d) (set d) (marks d)
 ok d = (start d).requires.0
 
 -- where its answer is looked at
-abbrev back : tie.After-slice-known4 → tie.After-slice-known3
+abbrev back : tie.After-slice_known-4-1 → tie.After-slice_known-3-1
 back c = c.before.before
 
-abbrev answered : tie.After-slice-known4 → made
+abbrev answered : tie.After-slice_known-4-1 → made
 answered c = (back c).before.before
 
 -- where it wrote an image of so many words
 abbrev wrote : Type 0
-wrote = tie.After-written2
+wrote = tie.In-Count
 
 abbrev made_by : wrote → made
-made_by c = answered c.before.before
+made_by c = answered c.before
 
 abbrev words : wrote → ℕ
-words c = c.written2.given.0.0
+words c = c.in-Count.words
 
 is_written :
     (c : wrote) → let d = made_by c in
     outcome (finding (words c)) (held d) ≡ written (target d) (encode_call (image d) (set d) (marks d) (length (target d)))
-is_written c = outcome_of _ _ _ _ (ap count_answer (sym c.written2.given.1)) (made_by c).reencode.ensures
+is_written c = outcome_of _ _ _ _ (ap count_answer (sym c.in-Count.is)) (made_by c).reencode-written.ensures
 
 fits : (c : wrote) → words c ≤ length (held (made_by c))
 fits c =
     let d = made_by c in
-    image_fits (image d) (set d) (marks d) (ok d) (target d) (held d) (start d).pre.1 (words c) (is_written c)
+    image_fits (image d) (set d) (marks d) (ok d) (target d) (held d) (start d).requires.1 (words c) (is_written c)
 
 is_image : (c : wrote) → let d = made_by c in take (words c) (held d) ≡ encoded_image (task_of (image d)) (clauses_of (set d))
 is_image c =
     let d = made_by c in
-    image_is (image d) (set d) (marks d) (ok d) (target d) (held d) (start d).pre.1 (words c) (is_written c)
+    image_is (image d) (set d) (marks d) (ok d) (target d) (held d) (start d).requires.1 (words c) (is_written c)
 
-reencode-requires : tie.Need-reencode-requires
+reencode-requires : tie.Need-reencode-written-requires
 reencode-requires c κs = search rules
 
-enum-known-written : tie.Need-enum-known-written
+enum-known-written : tie.Need-enum_known-written
 enum-known-written c = search rules
 
-enum-known-written-2 : tie.Need-enum-known-written-2
+enum-known-written-2 : tie.Need-enum_known-written-in-Count-1
 enum-known-written-2 c = search rules
 
-slice-reshare-prefix-compare-images : tie.Need-slice-reshare-prefix-compare-images
-slice-reshare-prefix-compare-images c = fits c.before
+slice-reshare-prefix-compare-images : tie.Need-slice_bounds-compare_images-end
+slice-reshare-prefix-compare-images c = fits c
 
-slice-aggregate-compare-images : tie.Need-slice-aggregate-compare-images
+slice-aggregate-compare-images : tie.Need-slice_bounds-compare_images-end-in-Count
 slice-aggregate-compare-images c =
-    let d = c.before.before in
+    let d = c in
     sym (length-take-le _ (held (made_by d)) (fits d))
 
-compare-images-requires : tie.Need-compare-images-requires
+compare-images-requires : tie.Need-compare_images-requires
 compare-images-requires c κs =
-    let w = c.before.before in
+    let w = c in
     let d = made_by w in
     record { task = (ok d).reads; fdr = subst ReadsFdr (sym (is_image w)) (encoded_fdr (image d) (set d) (marks d) (ok d)) }
 
 whether-requires : tie.Need-whether-requires
 whether-requires c κs = search rules
 
-same_length : tie.Need-same-length
+same_length : tie.Need-shape_of-marks-in-Refused
 same_length c = search rules
 
-same-length-2 : tie.Need-same-length-2
+same-length-2 : tie.Need-shape_of-room-in-Refused
 same-length-2 c = search rules
 
-returns : tie.Need-returns
+returns : tie.Need-returns-in-Refused
 returns c =
-    let d = answered c.before.before.before in
-    let f = c.before.written.given in
+    let d = answered c.before in
     absurd
-    (image_refused (image d) (set d) (marks d) (ok d) (target d) (held d) (start d).pre.1 (placed f.0.0)
-    (outcome_of _ _ _ _ (ap count_answer (sym f.1)) d.reencode.ensures))
+    (image_refused (image d) (set d) (marks d) (ok d) (target d) (held d) (start d).requires.1 (placed c.in-Refused.f)
+    (outcome_of _ _ _ _ (ap count_answer (sym c.in-Refused.is)) d.reencode-written.ensures))
 
-same-length-3 : tie.Need-same-length-3
+same-length-3 : tie.Need-shape_of-marks-in-Count
 same-length-3 c = search rules
 
-same-length-4 : tie.Need-same-length-4
+same-length-4 : tie.Need-shape_of-room-in-Count
 same-length-4 c = search rules
 
-returns-2 : tie.Need-returns-2
+returns-2 : tie.Need-returns-in-Count
 returns-2 c =
     let i = c.before in
-    let w = i.before.before.before in
+    let w = i.before in
     let d = made_by w in
     let is = (start d).args.list.now in
     c.whether.ensures
-    ∙ ap finding (i.compare-images.ensures ∙ ap (λ (x : List ℕ). images_same (image d) x (set d) is) (is_image w))
+    ∙ ap finding (i.compare_images.ensures ∙ ap (λ (x : List ℕ). images_same (image d) x (set d) is) (is_image w))
     ∙ comparison_is (image d) (set d) (marks d) (ok d) is
 
-pub compare-accepted-spec : {M : Type 1} → statement M
-compare-accepted-spec =
+pub compare_accepted_spec : {M : Type 1} → statement M
+compare_accepted_spec =
     tie.close
     (tie.spec
     reencode-requires

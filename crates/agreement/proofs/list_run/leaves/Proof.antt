@@ -6,36 +6,36 @@ use borrow.Author.Rules.{rules}
 use Rattle.agreement.proofs.list_run.leaves.Statement.{statement}
 use Rattle.agreement.proofs.list_run.leaves.Tie as tie
 
-state-requires : tie.Need-state-requires
+state-requires : tie.Need-state-other-requires
 state-requires c κs = search rules
 
-values-requires : tie.Need-values-requires
+values-requires : tie.Need-values-others-requires
 values-requires c κs = search rules
 
-array-borrow-prefix-other : tie.Need-array-borrow-prefix-other
+array-borrow-prefix-other : tie.Need-slice_bounds-other-end
 array-borrow-prefix-other c = search rules
 
-slice-aggregate-leaves-in : tie.Need-slice-aggregate-leaves-in
-slice-aggregate-leaves-in c = sym (length-take-le _ c.before.before.state.result (omega arith))
+slice-aggregate-leaves-in : tie.Need-slice_bounds-leaves_in-end
+slice-aggregate-leaves-in c = sym (length-take-le _ c.state-other.result (omega arith))
 
-array-borrow-prefix-others : tie.Need-array-borrow-prefix-others
+array-borrow-prefix-others : tie.Need-slice_bounds-others-end
 array-borrow-prefix-others c = search rules
 
-slice-aggregate-leaves-in-2 : tie.Need-slice-aggregate-leaves-in-2
-slice-aggregate-leaves-in-2 c = sym (length-take-le _ c.before.before.values.result (omega arith))
+slice-aggregate-leaves-in-2 : tie.Need-slice_bounds-leaves_in-end-2
+slice-aggregate-leaves-in-2 c = sym (length-take-le _ c.values-others.result (omega arith))
 
-leaves-in-requires : tie.Need-leaves-in-requires
+leaves-in-requires : tie.Need-leaves_in-requires
 leaves-in-requires c κs =
     record {
-      atoms = length-take-le _ c.before.before.before.state.result (omega arith);
-      values = length-take-le _ c.before.before.values.result (omega arith);
+      atoms = length-take-le _ c.state-other.result (omega arith);
+      values = length-take-le _ c.values-others.result (omega arith);
     }
 
 returns : tie.Need-returns
 returns c = search rules
 
-pub leaves-spec : {M : Type 1} → statement M
-leaves-spec =
+pub leaves_spec : {M : Type 1} → statement M
+leaves_spec =
     tie.close
     (tie.spec
     state-requires

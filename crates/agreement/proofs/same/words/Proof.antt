@@ -6,55 +6,55 @@ use borrow.Author.Rules.{rules}
 use Rattle.agreement.proofs.same.words.Statement.{statement}
 use Rattle.agreement.proofs.same.words.Tie as tie
 
-abbrev invariant-loop : tie.invariant-loop
+abbrev invariant-loop : tie.invariant-loop-i
 invariant-loop a b i₀ i = SoFar a b i
 
-abbrev decreases-loop : tie.decreases-loop
+abbrev decreases-loop : tie.decreases-loop-i
 decreases-loop a b i₀ i = length a - i
 
 -- the iteration in which two values are compared
-abbrev iteration : tie.After-shared-slice-known2 invariant-loop decreases-loop → tie.In-loop invariant-loop decreases-loop
+abbrev iteration : tie.After-shared_slice_known-in-loop-i-1 invariant-loop decreases-loop → tie.In-loop-i invariant-loop decreases-loop
 iteration c = c.before.before
 
-returns : tie.Need-returns invariant-loop decreases-loop
-returns c = list_lengths_lem _ _ c.if1.true
+returns : tie.Need-returns-then-a-b invariant-loop decreases-loop
+returns c = list_lengths_lem _ _ c.if-a-b.true
 
-loop-holds : tie.Need-loop-init invariant-loop decreases-loop
-loop-holds c = far_start _ _ c.if1.false
+loop-holds : tie.Need-loop-i-init invariant-loop decreases-loop
+loop-holds c = far_start _ _ c.if-a-b.false
 
-mul-if2 : tie.Need-overflow-mul-if2 invariant-loop decreases-loop
+mul-if2 : tie.Need-offset_bounds-a-i invariant-loop decreases-loop
 mul-if2 c = search rules
 
-shared-slice-read-if2 : tie.Need-shared-slice-read-if2 invariant-loop decreases-loop
+shared-slice-read-if2 : tie.Need-bounds-a-i invariant-loop decreases-loop
 shared-slice-read-if2 c = search rules
 
-mul-if2-2 : tie.Need-overflow-mul-if2-2 invariant-loop decreases-loop
+mul-if2-2 : tie.Need-offset_bounds-b-i invariant-loop decreases-loop
 mul-if2-2 c = search rules
 
-shared-slice-read-if2-2 : tie.Need-shared-slice-read-if2-2 invariant-loop decreases-loop
+shared-slice-read-if2-2 : tie.Need-bounds-b-i invariant-loop decreases-loop
 shared-slice-read-if2-2 c = search rules
 
-returns-2 : tie.Need-returns-2 invariant-loop decreases-loop
+returns-2 : tie.Need-returns-then-a-i invariant-loop decreases-loop
 returns-2 c =
     let t = iteration c.before in
-    far_off _ _ _ t.before.loop.inv t.loop-test.taken c.if2.true
+    far_off _ _ _ t.loop-i.invariant t.loop-i-test.true c.if-a-i.true
 
-add-i : tie.Need-overflow-add-i invariant-loop decreases-loop
+add-i : tie.Need-overflow_add-i invariant-loop decreases-loop
 add-i c = search rules
 
-loop-less : tie.Need-loop-smaller invariant-loop decreases-loop
+loop-less : tie.Need-loop-i-smaller invariant-loop decreases-loop
 loop-less c = search rules
 
-loop-again : tie.Need-loop-preserved invariant-loop decreases-loop
+loop-again : tie.Need-loop-i-preserved invariant-loop decreases-loop
 loop-again c =
     let t = iteration c.before in
-    far_on _ _ _ t.before.loop.inv t.loop-test.taken c.if2.false
+    far_on _ _ _ t.loop-i.invariant t.loop-i-test.true c.if-a-i.false
 
-returns-3 : tie.Need-returns-3 invariant-loop decreases-loop
-returns-3 c = far_end _ _ _ c.before.loop.invariant c.loop-test.false
+returns-3 : tie.Need-returns invariant-loop decreases-loop
+returns-3 c = far_end _ _ _ c.loop-i.invariant c.loop-i-test.false
 
-pub words-spec : {M : Type 1} → statement M
-words-spec =
+pub words_spec : {M : Type 1} → statement M
+words_spec =
     tie.close
     (tie.spec
     invariant-loop

@@ -7,25 +7,29 @@ use Rattle.agreement.proofs.states.all_hold.Statement.{statement}
 use Rattle.agreement.proofs.states.all_hold.Tie as tie
 
 -- the call, where it was refused
-abbrev refused : tie.After-held → tie.After-check-true
-refused c = c.before.before
+abbrev refused : tie.In-Refused → tie.After-check_true-held
+refused c = c.before
 
-check-true-requires : tie.Need-check-true-requires
+check-true-requires : tie.Need-check_true-held-requires
 check-true-requires c κs = search rules
 
-enum-known-held : tie.Need-enum-known-held
+enum-known-held : tie.Need-enum_known-held
 enum-known-held c = search rules
 
-enum_told : tie.Need-enum-told
+enum_told : tie.Need-enum_told-1
 enum_told c = search rules
 
-returns : tie.Need-returns
+returns : tie.Need-returns-in-Refused
 returns c =
-    let f = c.before.held.given in
-    not_all _ _ (placed f.0.0) (ap verdict_answer (sym f.1) ∙ (refused c.before).check-true.ensures)
+    not_all _ _ (placed c.in-Refused.f) (ap verdict_answer (sym c.in-Refused.is) ∙ (refused c).check_true-held.ensures)
 
-returns-2 : tie.Need-returns-2
-returns-2 c = holds_all _ _ (ap verdict_answer (sym c.enum_told.given.1) ∙ c.before.before.check-true.ensures)
+returns-2 : tie.Need-returns-in-Fine
+returns-2 c = holds_all _ _ (ap verdict_answer (sym c.in-Fine.is) ∙ c.check_true-held.ensures)
 
-pub all-hold-spec : {M : Type 1} → statement M
-all-hold-spec = tie.close (tie.spec check-true-requires enum-known-held enum_told returns returns-2)
+pub all_hold_spec : {M : Type 1} → statement M
+all_hold_spec = tie.close (tie.spec
+    check-true-requires
+    enum-known-held
+    enum_told
+    returns
+    returns-2)
