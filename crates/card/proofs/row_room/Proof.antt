@@ -7,5 +7,6 @@ returns : tie.Need-returns
 unfolding width most_rows
 returns c = search rules
 
-pub row-room-spec : {M : Type 1} → statement M
-row-room-spec = tie.close (tie.spec returns)
+pub row_room_spec : {M : Type 1} → statement M
+row_room_spec = tie.close (tie.spec
+    returns)

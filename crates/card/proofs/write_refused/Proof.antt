@@ -5,14 +5,17 @@ use borrow.Author.Rules.{rules}
 use Rattle.card.proofs.write_refused.Statement.{statement}
 use Rattle.card.proofs.write_refused.Tie as tie
 
-write-refusal-requires : tie.Need-write-refusal-requires
-write-refusal-requires c κs = let p = c.before.before.requires in let h = refusal_size (placed c.before.before.args.f) in omega arith
+write-refusal-requires : tie.Need-write_refusal-requires
+write-refusal-requires c κs = let p = c.requires in let h = refusal_size (placed c.args.f) in omega arith
 
-same_length : tie.Need-same-length
+same_length : tie.Need-shape_of-out
 same_length c = search rules
 
 returns : tie.Need-returns
 returns c = search rules
 
-pub write-refused-spec : {M : Type 1} → statement M
-write-refused-spec = tie.close (tie.spec write-refusal-requires same_length returns)
+pub write_refused_spec : {M : Type 1} → statement M
+write_refused_spec = tie.close (tie.spec
+    write-refusal-requires
+    same_length
+    returns)

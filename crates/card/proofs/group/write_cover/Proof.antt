@@ -13,39 +13,43 @@ unfolding cover_text
 parts s = refl
 
 -- after the line of the number of groups
-abbrev lent : tie.After-write-count → tie.After-shared-slice-known
+abbrev lent : tie.After-write_count-to → tie.After-shared_slice_known-1
 lent c = c.before.before.before
 
-abbrev start : tie.After-write-count → tie.Start
+abbrev start : tie.After-write_count-to → tie.Start
 start c = (lent c).before.before
 
-abbrev counted : tie.After-write-groups-arg → tie.After-write-count
+abbrev counted : tie.After-write_groups-arg-1 → tie.After-write_count-to
 counted c = c.before.before.before
 
-write-count-requires : tie.Need-write-count-requires
+write-count-requires : tie.Need-write_count-to-requires
 write-count-requires c κs =
     let d = c.before.before in
     let s = d.before.before in
     let a = s.args in
     first_room _ (groups_line a.count) (group_texts a.places.now a.none.now a.count) a.out.now a.at (parts s) s.requires.1
 
-write-groups-requires : tie.Need-write-groups-requires
+write-groups-requires : tie.Need-write_groups-requires
 write-groups-requires c κs =
     let d = counted c in
     let s = start d in
     let a = s.args in
     let rest = group_texts a.places.now a.none.now a.count in
-    (s.pre.0, next_room _ (groups_line a.count) rest a.out.now a.at (parts s) s.pre.1 d.write-count.ensures)
+    (s.requires.0, next_room _ (groups_line a.count) rest a.out.now a.at (parts s) s.requires.1 d.write_count-to.ensures)
 
-same_length : tie.Need-same-length
+same_length : tie.Need-shape_of-out
 same_length c = search rules
 
 returns : tie.Need-returns
 returns c =
     let w = c.before.before in
     let d = counted w.before in
-    wrote_same (parts (start d)) (wrote_both d.write-count.ensures w.write-groups.ensures)
+    wrote_same (parts (start d)) (wrote_both d.write_count-to.ensures w.write_groups.ensures)
 
-pub write-cover-spec : {M : Type 1} → statement M
-write-cover-spec =
-    tie.close (tie.spec write-count-requires write-groups-requires same_length returns)
+pub write_cover_spec : {M : Type 1} → statement M
+write_cover_spec =
+    tie.close (tie.spec
+    write-count-requires
+    write-groups-requires
+    same_length
+    returns)

@@ -13,93 +13,93 @@ use borrow.Author.Rules.{rules}
 use Rattle.card.proofs.line.write_clause.Statement.{statement}
 use Rattle.card.proofs.line.write_clause.Tie as tie
 
-abbrev invariant-loop : tie.invariant-loop
+abbrev invariant-loop : tie.invariant-loop-i
 invariant-loop out₀ at literals to₀ i₀ out to i =
     (i ≤ length literals) × Writing out₀ at (clause_line literals) out to (fields_from i (map literal_text (drop i literals)))
 
-abbrev decreases-loop : tie.decreases-loop
+abbrev decreases-loop : tie.decreases-loop-i
 decreases-loop out₀ at literals to₀ i₀ out to i = length literals - i
 
-abbrev start : tie.At-loop invariant-loop decreases-loop → tie.Start invariant-loop decreases-loop
+abbrev start : tie.At-loop-i invariant-loop decreases-loop → tie.Start invariant-loop decreases-loop
 start c = c.before.before.before
 
 -- what is left to be written at a place
-abbrev Left : tie.At-loop invariant-loop decreases-loop → List ℕ → ℕ → List ℕ → Type 0
+abbrev Left : tie.At-loop-i invariant-loop decreases-loop → List ℕ → ℕ → List ℕ → Type 0
 Left l out to left = let a = (start l).args in Writing a.out.now a.at (clause_line a.literals.now) out to left
 
-abbrev literal : tie.At-loop invariant-loop decreases-loop → ℕ
-literal l = get_or (start l).args.literals.now l.loop.i 0
+abbrev literal : tie.At-loop-i invariant-loop decreases-loop → ℕ
+literal l = get_or (start l).args.literals.now l.loop-i.i 0
 
-abbrev others : tie.At-loop invariant-loop decreases-loop → List ℕ
-others l = fields_from (l.loop.i + 1) (map literal_text (drop (l.loop.i + 1) (start l).args.literals.now))
+abbrev others : tie.At-loop-i invariant-loop decreases-loop → List ℕ
+others l = fields_from (l.loop-i.i + 1) (map literal_text (drop (l.loop-i.i + 1) (start l).args.literals.now))
 
 field :
-    (t : tie.In-loop invariant-loop decreases-loop) → let l = t.before in
-    Left l l.loop.out l.loop.to (separator l.loop.i ++ (literal_text (literal l) ++ others l))
-field t = let l = t.before in write_same (fields_next literal_text _ l.loop.i 0 (literal l) refl t.loop-test.true) l.loop.invariant.1
+    (t : tie.In-loop-i invariant-loop decreases-loop) → let l = t.before in
+    Left l l.loop-i.out l.loop-i.to (separator l.loop-i.i ++ (literal_text (literal l) ++ others l))
+field t = let l = t.before in write_same (fields_next literal_text _ l.loop-i.i 0 (literal l) refl t.loop-i-test.true) l.loop-i.invariant.1
 
 -- after what stands before the literal
-abbrev in_loop : tie.After-separate invariant-loop decreases-loop → tie.In-loop invariant-loop decreases-loop
+abbrev in_loop : tie.After-separate-to invariant-loop decreases-loop → tie.In-loop-i invariant-loop decreases-loop
 in_loop c = c.before.before.before
 
 separated :
-    (c : tie.After-separate invariant-loop decreases-loop) → let l = (in_loop c).before in
-    Left l c.separate.new.0 c.separate.result (literal_text (literal l) ++ others l)
-separated c = write_part (field (in_loop c)) c.separate.ensures
+    (c : tie.After-separate-to invariant-loop decreases-loop) → let l = (in_loop c).before in
+    Left l c.separate-to.new.out c.separate-to.result (literal_text (literal l) ++ others l)
+separated c = write_part (field (in_loop c)) c.separate-to.ensures
 
-abbrev after : tie.After-write-literal-arg invariant-loop decreases-loop → tie.After-separate invariant-loop decreases-loop
+abbrev after : tie.After-write_literal-arg-1 invariant-loop decreases-loop → tie.After-separate-to invariant-loop decreases-loop
 after c = c.before.before.before
 
 -- after the last literal
-end : (c : tie.After-loop invariant-loop decreases-loop) → let l = c.before in Left l l.loop.out l.loop.to (10 ∷ [])
-end c = let l = c.before in write_same (fields_end literal_text (start l).args.literals.now l.loop.i c.loop-test.false) l.loop.invariant.1
+end : (c : tie.After-loop-i invariant-loop decreases-loop) → let l = c.before in Left l l.loop-i.out l.loop-i.to (10 ∷ [])
+end c = let l = c.before in write_same (fields_end literal_text (start l).args.literals.now l.loop-i.i c.loop-i-test.false) l.loop-i.invariant.1
 
-loop-holds : tie.Need-loop-init invariant-loop decreases-loop
+loop-holds : tie.Need-loop-i-init invariant-loop decreases-loop
 loop-holds c = (omega arith, write_same (clause_start _) write_start)
 
-mul-l : tie.Need-overflow-mul-l invariant-loop decreases-loop
+mul-l : tie.Need-offset_bounds-literals-i invariant-loop decreases-loop
 mul-l c = search rules
 
-shared-slice-read-l : tie.Need-shared-slice-read-l invariant-loop decreases-loop
+shared-slice-read-l : tie.Need-bounds-literals-i invariant-loop decreases-loop
 shared-slice-read-l c = search rules
 
-separate-requires : tie.Need-separate-requires invariant-loop decreases-loop
+separate-requires : tie.Need-separate-to-requires invariant-loop decreases-loop
 separate-requires c κs =
     let t = c.before.before in
-    part_room (separator t.before.loop.i) _ (field t) (start t.before).pre
+    part_room (separator t.loop-i.i) _ (field t) (start t.before).requires
 
-write-literal-requires : tie.Need-write-literal-requires invariant-loop decreases-loop
+write-literal-requires : tie.Need-write_literal-to-requires invariant-loop decreases-loop
 write-literal-requires c κs =
     let d = after c in
     let l = (in_loop d).before in
-    part_room (literal_text (literal l)) _ (separated d) (start l).pre
+    part_room (literal_text (literal l)) _ (separated d) (start l).requires
 
-add-i : tie.Need-overflow-add-i invariant-loop decreases-loop
+add-i : tie.Need-overflow_add-i invariant-loop decreases-loop
 add-i c = search rules
 
-loop-less : tie.Need-loop-smaller invariant-loop decreases-loop
+loop-less : tie.Need-loop-i-smaller invariant-loop decreases-loop
 loop-less c = search rules
 
-loop-again : tie.Need-loop-preserved invariant-loop decreases-loop
+loop-again : tie.Need-loop-i-preserved invariant-loop decreases-loop
 loop-again c =
     let w = c.before.before in
-    (omega arith, write_part (separated (after w.before)) w.write-literal.ensures)
+    (omega arith, write_part (separated (after w.before)) w.write_literal-to.ensures)
 
 byte-requires : tie.Need-byte-requires invariant-loop decreases-loop
-byte-requires c κs = word_room (end c.before) (start c.before.before).pre
+byte-requires c κs = word_room (end c.before) (start c.before.before).requires
 
-same_length : tie.Need-same-length invariant-loop decreases-loop
+same_length : tie.Need-shape_of-out invariant-loop decreases-loop
 same_length c =
     let b = c.before.before in
-    b.byte.auto.1.0 ∙ b.before.before.before.loop.invariant.1.size
+    b.byte.auto.target ∙ b.loop-i.invariant.1.size
 
 returns : tie.Need-returns invariant-loop decreases-loop
 returns c =
     let b = c.before.before in
     write_last (end b.before.before) b.byte.ensures
 
-pub write-clause-spec : {M : Type 1} → statement M
-write-clause-spec =
+pub write_clause_spec : {M : Type 1} → statement M
+write_clause_spec =
     tie.close
     (tie.spec
     invariant-loop

@@ -21,32 +21,29 @@ named n = groups_word ++ (32 ∷ decimal n)
 first : (s : tie.Start) → Left s s.args.out.now s.args.at (named s.args.groups ++ (10 ∷ []))
 first s = write_same (groups_parts s.args.groups) write_start
 
-abbrev lent : tie.After-write-named → tie.After-write-named-arg
-lent c = c.before.before
+abbrev lent : tie.After-write_named-end → tie.After-write_named-arg-1
+lent c = c.before.before.before
 
-abbrev start : tie.After-write-named → tie.Start
+abbrev start : tie.After-write_named-end → tie.Start
 start c = (lent c).before.before
 
-end : (c : tie.After-write-named) → Left (start c) c.write-named.new.0 c.write-named.result (10 ∷ [])
+end : (c : tie.After-write_named-end) → Left (start c) c.write_named-end.new.out c.write_named-end.result (10 ∷ [])
 unfolding groups_word
-end c = write_part (first (start c)) c.write-named.ensures
+end c = write_part (first (start c)) c.write_named-end.ensures
 
-abbrev wrote : tie.After-byte-arg → tie.After-write-named
+abbrev wrote : tie.After-byte-arg-1 → tie.After-write_named-end
 wrote c = c.before.before.before
 
-slice-aggregate-write-named : tie.Need-slice-aggregate-write-named
-slice-aggregate-write-named c = search rules
-
-write-named-requires : tie.Need-write-named-requires
+write-named-requires : tie.Need-write_named-end-requires
 unfolding groups_word
 write-named-requires c κs =
     let s = c.before.before.before in
-    part_room (named s.args.groups) (10 ∷ []) (first s) s.requires
+    part_room (named s.args.groups) (10 ∷ []) (first s.before) s.requires
 
 byte-requires : tie.Need-byte-requires
 byte-requires c κs = word_room (end (wrote c)) (start (wrote c)).requires
 
-same_length : tie.Need-same-length
+same_length : tie.Need-shape_of-out
 same_length c = search rules
 
 returns : tie.Need-returns
@@ -54,11 +51,10 @@ returns c =
     let b = c.before.before in
     write_last (end (wrote b.before)) b.byte.ensures
 
-pub write-count-spec : {M : Type 1} → statement M
-write-count-spec =
+pub write_count_spec : {M : Type 1} → statement M
+write_count_spec =
     tie.close
     (tie.spec
-    slice-aggregate-write-named
     write-named-requires
     byte-requires
     same_length

@@ -24,52 +24,46 @@ rounds s = (32 ∷ rounds_word) ++ (32 ∷ decimal s.args.rounds)
 first : (s : tie.Start) → Left s s.args.out.now s.args.at (clauses s ++ (rounds s ++ (10 ∷ [])))
 first s = write_same (counts_parts s.args.clauses s.args.rounds) write_start
 
-abbrev lent : tie.After-write-named → tie.After-write-named-arg
-lent c = c.before.before
+abbrev lent : tie.After-write_named-next → tie.After-write_named-arg-1
+lent c = c.before.before.before
 
-abbrev start : tie.After-write-named → tie.Start
+abbrev start : tie.After-write_named-next → tie.Start
 start c = (lent c).before.before
 
-second : (c : tie.After-write-named) → Left (start c) c.write-named.new.0 c.write-named.result (rounds (start c) ++ (10 ∷ []))
+second : (c : tie.After-write_named-next) → Left (start c) c.write_named-next.new.out c.write_named-next.result (rounds (start c) ++ (10 ∷ []))
 unfolding clauses_word
-second c = write_part (first (start c)) c.write-named.ensures
+second c = write_part (first (start c)) c.write_named-next.ensures
 
-abbrev back : tie.After-write-named2 → tie.After-slice-known2
-back c = c.before.before.before
+abbrev back : tie.After-write_named-end → tie.After-slice_known-2-1
+back c = c.before.before.before.before
 
-abbrev counted : tie.After-write-named2 → tie.After-write-named
+abbrev counted : tie.After-write_named-end → tie.After-write_named-next
 counted c = (back c).before.before
 
-end : (c : tie.After-write-named2) → Left (start (counted c)) c.write-named2.new.0 c.write-named2.result (10 ∷ [])
+end : (c : tie.After-write_named-end) → Left (start (counted c)) c.write_named-end.new.out c.write_named-end.result (10 ∷ [])
 unfolding rounds_word
-end c = write_part (second (counted c)) c.write-named2.ensures
+end c = write_part (second (counted c)) c.write_named-end.ensures
 
-abbrev wrote : tie.After-byte-arg → tie.After-write-named2
+abbrev wrote : tie.After-byte-arg-1 → tie.After-write_named-end
 wrote c = c.before.before.before
 
-slice-aggregate-write-named : tie.Need-slice-aggregate-write-named
-slice-aggregate-write-named c = search rules
-
-write-named-requires : tie.Need-write-named-requires
+write-named-requires : tie.Need-write_named-next-requires
 unfolding clauses_word
 write-named-requires c κs =
     let s = c.before.before.before in
-    part_room (clauses s) (rounds s ++ (10 ∷ [])) (first s) s.requires
+    part_room (clauses s.before) (rounds s.before ++ (10 ∷ [])) (first s.before) s.requires
 
-slice-aggregate-write-named-2 : tie.Need-slice-aggregate-write-named-2
-slice-aggregate-write-named-2 c = search rules
-
-write-named-requires-2 : tie.Need-write-named-requires-2
+write-named-requires-2 : tie.Need-write_named-end-requires
 unfolding rounds_word
 write-named-requires-2 c κs =
     let d = c.before.before in
     let e = d.before.before in
-    part_room (rounds (start e)) (10 ∷ []) (second e) (start e).requires
+    part_room (rounds (start e.before)) (10 ∷ []) (second e.before) (start e.before).requires
 
 byte-requires : tie.Need-byte-requires
 byte-requires c κs = word_room (end (wrote c)) (start (counted (wrote c))).requires
 
-same_length : tie.Need-same-length
+same_length : tie.Need-shape_of-out
 same_length c = search rules
 
 returns : tie.Need-returns
@@ -77,13 +71,11 @@ returns c =
     let b = c.before.before in
     write_last (end (wrote b.before)) b.byte.ensures
 
-pub write-counts-spec : {M : Type 1} → statement M
-write-counts-spec =
+pub write_counts_spec : {M : Type 1} → statement M
+write_counts_spec =
     tie.close
     (tie.spec
-    slice-aggregate-write-named
     write-named-requires
-    slice-aggregate-write-named-2
     write-named-requires-2
     byte-requires
     same_length

@@ -19,46 +19,46 @@ both :
 both c = write_same (literal_parts (start c).args.l.code c.sign.result c.sign.ensures) write_start
 
 -- the sign is written
-abbrev signed : tie.After-byte → tie.After-sign
+abbrev signed : tie.After-byte-to → tie.After-sign
 signed c = c.before.before
 
 second :
-    (c : tie.After-byte) → let a = (start (signed c)).args in
-    Writing a.out.now a.at (literal_text a.l.code) c.byte.new.1.0 c.byte.result (decimal (atom a.l.code))
-second c = write_part (both (signed c)) c.byte.ensures
+    (c : tie.After-byte-to) → let a = (start (signed c)).args in
+    Writing a.out.now a.at (literal_text a.l.code) c.byte-to.new.target c.byte-to.result (decimal (atom a.l.code))
+second c = write_part (both (signed c)) c.byte-to.ensures
 
 -- the atom is known
-abbrev back : tie.After-atom → tie.After-slice-known2
+abbrev back : tie.After-atom → tie.After-slice_known-2-1
 back c = c.before.before
 
-abbrev wrote : tie.After-atom → tie.After-byte
+abbrev wrote : tie.After-atom → tie.After-byte-to
 wrote c = (back c).before.before
 
 sign-requires : tie.Need-sign-requires
 sign-requires c κs = search rules
 
-byte-requires : tie.Need-byte-requires
+byte-requires : tie.Need-byte-to-requires
 byte-requires c κs = word_room (both c.before) (start c.before).requires
 
 atom-requires : tie.Need-atom-requires
 atom-requires c κs = search rules
 
-write-decimal-requires : tie.Need-write-decimal-requires
+write-decimal-requires : tie.Need-write_decimal-requires
 write-decimal-requires c κs =
     let r = write_room (second (wrote c)) (start (signed (wrote c))).requires in
     rw c.atom.ensures r
 
-same_length : tie.Need-same-length
+same_length : tie.Need-shape_of-out
 same_length c = search rules
 
 returns : tie.Need-returns
 returns c =
     let d = c.before.before in
     let b = wrote d.before in
-    write_last (second b) (rw d.before.atom.ensures at d.write-decimal.ensures)
+    write_last (second b) (rw d.atom.ensures at d.write_decimal.ensures)
 
-pub write-literal-spec : {M : Type 1} → statement M
-write-literal-spec =
+pub write_literal_spec : {M : Type 1} → statement M
+write_literal_spec =
     tie.close
     (tie.spec
     sign-requires

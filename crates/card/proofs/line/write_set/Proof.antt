@@ -12,7 +12,7 @@ use Rattle.card.proofs.line.write_set.Statement.{statement}
 use Rattle.card.proofs.line.write_set.Tie as tie
 
 -- the number of rows is that of clauses
-abbrev lent : tie.After-rows → tie.After-shared-slice-known
+abbrev lent : tie.After-rows → tie.After-shared_slice_known-1
 lent c = c.before.before
 
 abbrev start : tie.After-rows → tie.Start
@@ -30,36 +30,36 @@ parts c =
     ap (λ (k : ℕ). counts_line k s.args.rounds ++ lines s) (clauses_length s.args.clauses.now ∙ sym c.rows.ensures)
 
 -- after the line of numbers
-abbrev counted : tie.After-write-clauses-arg → tie.After-write-counts
+abbrev counted : tie.After-write_clauses-arg-1 → tie.After-write_counts-to
 counted c = c.before.before.before
 
 rows-requires : tie.Need-rows-requires
 rows-requires c κs = search rules
 
-write-counts-requires : tie.Need-write-counts-requires
+write-counts-requires : tie.Need-write_counts-to-requires
 write-counts-requires c κs =
     let s = start c in
-    first_room _ (counts_line c.rows.result s.args.rounds) (lines s) s.args.out.now s.args.at (parts c) s.pre
+    first_room _ (counts_line c.rows.result s.args.rounds) (lines s) s.args.out.now s.args.at (parts c) s.requires
 
-write-clauses-requires : tie.Need-write-clauses-requires
+write-clauses-requires : tie.Need-write_clauses-requires
 write-clauses-requires c κs =
     let d = counted c in
     let r = d.before in
     let s = start r in
     let first = counts_line r.rows.result s.args.rounds in
-    next_room _ first (lines s) s.args.out.now s.args.at (parts r) s.pre d.write-counts.ensures
+    next_room _ first (lines s) s.args.out.now s.args.at (parts r) s.requires d.write_counts-to.ensures
 
-same_length : tie.Need-same-length
+same_length : tie.Need-shape_of-out
 same_length c = search rules
 
 returns : tie.Need-returns
 returns c =
     let w = c.before.before in
     let d = counted w.before in
-    wrote_same (parts d.before) (wrote_both d.write-counts.ensures w.write-clauses.ensures)
+    wrote_same (parts d.before) (wrote_both d.write_counts-to.ensures w.write_clauses.ensures)
 
-pub write-set-spec : {M : Type 1} → statement M
-write-set-spec =
+pub write_set_spec : {M : Type 1} → statement M
+write_set_spec =
     tie.close
     (tie.spec
     rows-requires
