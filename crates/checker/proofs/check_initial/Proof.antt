@@ -13,7 +13,7 @@ use Rattle.checker.proofs.check_initial.Tie as tie
 
 -- where there is room for a state: the start, the atoms, the room
 abbrev made : Type 0
-made = tie.After-state
+made = tie.After-state-state
 
 abbrev start : made → tie.Start
 start d = d.before.before.before
@@ -22,59 +22,59 @@ abbrev atoms : made → ℕ
 atoms d = (start d).args.atoms
 
 abbrev room : made → List ℕ
-room d = d.state.result
+room d = d.state-state.result
 
 fits : (d : made) → atoms d ≤ length (room d)
-fits d = omega (arith, d.state.ensures, (start d).requires.few)
+fits d = omega (arith, d.state-state.ensures, (start d).requires.few)
 
 long : (d : made) → length (take (atoms d) (room d)) ≡ atoms d
 long d = length-take-le (atoms d) (room d) (fits d)
 
 -- where the initial state is written into it
-abbrev room_of : tie.After-write-initial → made
+abbrev room_of : tie.After-write_initial → made
 room_of c = c.before.before
 
-abbrev state : tie.After-write-initial → List ℕ
-state c = c.write-initial.new.1.0
+abbrev state : tie.After-write_initial → List ℕ
+state c = c.write_initial.new.state
 
-came : (c : tie.After-write-initial) → let d = room_of c in CameBack (atoms d) (room d) (state c)
+came : (c : tie.After-write_initial) → let d = room_of c in CameBack (atoms d) (room d) (state c)
 came c =
     let d = room_of c in
-    came_back (atoms d) (room d) (state c) (fits d) c.write-initial.auto.1.0
+    came_back (atoms d) (room d) (state c) (fits d) c.write_initial.auto.state
 
-state-requires : tie.Need-state-requires
+state-requires : tie.Need-state-state-requires
 state-requires c κs = search rules
 
-array-borrow-prefix-state : tie.Need-array-borrow-prefix-state
+array-borrow-prefix-state : tie.Need-slice_bounds-state-end
 array-borrow-prefix-state c = search rules
 
-slice-aggregate-write-initial : tie.Need-slice-aggregate-write-initial
+slice-aggregate-write-initial : tie.Need-slice_bounds-write_initial-end
 slice-aggregate-write-initial c = sym (long c.before)
 
-write-initial-requires : tie.Need-write-initial-requires
+write-initial-requires : tie.Need-write_initial-requires
 write-initial-requires c κs =
     let d = c.before in
     let p = (start d).requires in
     (p.task, long d ∙ p.counted)
 
-array-share-prefix-state : tie.Need-array-share-prefix-state
+array-share-prefix-state : tie.Need-slice_bounds-state-end-2
 array-share-prefix-state c = (came c.before).room
 
-slice-aggregate-check-true : tie.Need-slice-aggregate-check-true
+slice-aggregate-check-true : tie.Need-slice_bounds-check_true-end
 slice-aggregate-check-true c =
     let w = c.before.before in
     (came w).whole
 
-check-true-requires : tie.Need-check-true-requires
+check-true-requires : tie.Need-check_true-requires
 check-true-requires c κs = search rules
 
 returns : tie.Need-returns
 returns c =
     let w = c.before.before.before in
-    c.check-true.ensures ∙ false_true _ _ _ ((came w).part ∙ w.write-initial.ensures)
+    c.check_true.ensures ∙ false_true _ _ _ ((came w).part ∙ w.write_initial.ensures)
 
-pub check-initial-spec : {M : Type 1} → statement M
-check-initial-spec =
+pub check_initial_spec : {M : Type 1} → statement M
+check_initial_spec =
     tie.close
     (tie.spec
     state-requires

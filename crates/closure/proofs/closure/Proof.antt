@@ -15,67 +15,67 @@ use Rattle.closure.proofs.closure.Statement.{statement}
 use Rattle.closure.proofs.closure.Tie as tie
 
 -- where the questions are answered: the start
-abbrev lent : tie.After-check-input → tie.After-slice-known
+abbrev lent : tie.After-check_input-input → tie.After-slice_known-1
 lent d = d.before.before
 
-abbrev start : tie.After-check-input → tie.Start
+abbrev start : tie.After-check_input-input → tie.Start
 start d = (lent d).before.before.before
 
-abbrev image : tie.After-check-input → List ℕ
+abbrev image : tie.After-check_input-input → List ℕ
 image d = (start d).args.image.now
 
-abbrev clauses : tie.After-check-input → List ℕ
+abbrev clauses : tie.After-check_input-input → List ℕ
 clauses d = (start d).args.clauses.now
 
-abbrev marks : tie.After-check-input → List ℕ
+abbrev marks : tie.After-check_input-input → List ℕ
 marks d = (start d).args.marks.now
 
-abbrev number : tie.After-check-input → ℕ
-number d = d.before.wide.result
+abbrev number : tie.After-check_input-input → ℕ
+number d = d.wide-number.result
 
-answered : (d : tie.After-check-input) (v : Verdict) → d.check-input.result ≡ v → InputAnswer (image d) (clauses d) (number d) (length (marks d)) v
-answered d v e = subst (InputAnswer (image d) (clauses d) (number d) (length (marks d))) e d.check-input.ensures
+answered : (d : tie.After-check_input-input) (v : Verdict) → d.check_input-input.result ≡ v → InputAnswer (image d) (clauses d) (number d) (length (marks d)) v
+answered d v e = subst (InputAnswer (image d) (clauses d) (number d) (length (marks d))) e d.check_input-input.ensures
 
 -- the call, by the number as it was passed
 passed :
-    (d : tie.After-check-input) (x : Outcome ℕ) → x ≡ written (marks d) (closure_call (image d) (clauses d) (number d) (marks d))
+    (d : tie.After-check_input-input) (x : Outcome ℕ) → x ≡ written (marks d) (closure_call (image d) (clauses d) (number d) (marks d))
     → x ≡ written (marks d) (closure_call (image d) (clauses d) (start d).args.operator (marks d))
-passed d x e = e ∙ ap (λ (i : ℕ). written (marks d) (closure_call (image d) (clauses d) i (marks d))) d.before.wide.ensures.0
+passed d x e = e ∙ ap (λ (i : ℕ). written (marks d) (closure_call (image d) (clauses d) i (marks d))) d.wide-number.ensures.0
 
-wide-requires : tie.Need-wide-requires
+wide-requires : tie.Need-wide-number-requires
 wide-requires c κs = search rules
 
-check-input-requires : tie.Need-check-input-requires
+check-input-requires : tie.Need-check_input-input-requires
 check-input-requires c κs = search rules
 
-enum-known-input : tie.Need-enum-known-input
+enum-known-input : tie.Need-enum_known-input
 enum-known-input c = search rules
 
-returns : tie.Need-returns
+returns : tie.Need-returns-in-Refused
 returns c =
-    let f = c.before in
-    let d = f.before.before in
-    let r = f.input.given.0.0 in
-    passed d _ (call_refused (image d) (clauses d) (number d) (marks d) (placed r) (answered d _ f.input.given.1 (marks d) refl))
+    let f = c in
+    let d = f in
+    let r = f.in-Refused.f in
+    passed d.before _ (call_refused (image d.before) (clauses d.before) (number d.before) (marks d.before) (placed r) (answered d.before _ f.in-Refused.is (marks d.before) refl))
 
-enum_told : tie.Need-enum-told
+enum_told : tie.Need-enum_told-1
 enum_told c = search rules
 
 show-requires : tie.Need-show-requires
-show-requires c κs = let t = c.before in answered t.before.before _ t.enum_told.given.1
+show-requires c κs = let t = c.before in answered t.before _ t.in_default.is
 
-same_length : tie.Need-same-length
+same_length : tie.Need-shape_of-marks
 same_length c = search rules
 
-returns-2 : tie.Need-returns-2
+returns-2 : tie.Need-returns
 returns-2 c =
     let w = c.before.before in
     let t = w.before.before in
-    let d = t.before.before in
-    passed d _ (w.show.ensures ∙ call_found (image d) (clauses d) (number d) (marks d) (answered d _ t.enum_told.given.1))
+    let d = t.before in
+    passed d _ (w.show.ensures ∙ call_found (image d) (clauses d) (number d) (marks d) (answered d _ t.in_default.is))
 
-pub closure-spec : {M : Type 1} → statement M
-closure-spec =
+pub closure_spec : {M : Type 1} → statement M
+closure_spec =
     tie.close
     (tie.spec
     wide-requires

@@ -15,61 +15,60 @@ use Rattle.coding.proofs.decode.Statement.{statement}
 use Rattle.coding.proofs.decode.Tie as tie
 
 -- where the image was read, and the start
-abbrev read : tie.After-enum-told → tie.After-read
-read c = c.before.before
+abbrev read : tie.In_default → tie.After-read-reading
+read c = c.before
 
-abbrev at_shared_slice : tie.After-read → tie.After-shared-slice-known
+abbrev at_shared_slice : tie.After-read-reading → tie.After-shared_slice_known-1
 at_shared_slice c = c.before.before.before
 
-abbrev start : tie.After-read → tie.Start
+abbrev start : tie.After-read-reading → tie.Start
 start c = (at_shared_slice c).before
 
-read_fine : (c : tie.After-enum-told) → ReadsFdr (start (read c)).args.image.now
-read_fine c = reads _ (ap verdict_answer (sym c.enum_told.given.1) ∙ (read c).read.ensures)
+read_fine : (c : tie.In_default) → ReadsFdr (start (read c)).args.image.now
+read_fine c = reads _ (ap verdict_answer (sym c.in_default.is) ∙ (read c).read-reading.ensures)
 
 -- where the target was tested: the test of the source
-abbrev source_of : tie.After-atoms → tie.After-is-state
+abbrev source_of : tie.After-atoms → tie.After-is_state
 source_of c = c.before.before
 
-read-requires : tie.Need-read-requires
+read-requires : tie.Need-read-reading-requires
 read-requires c κs = search rules
 
-enum-known-reading : tie.Need-enum-known-reading
+enum-known-reading : tie.Need-enum_known-reading
 enum-known-reading c = search rules
 
-returns : tie.Need-returns
+returns : tie.Need-returns-in-Refused
 returns c =
-    let f = c.before.reading.given in
-    codes_17 _ _ _ _ _ _ (decode_codes _ _ _) (placed f.0.0) (ap verdict_answer (sym f.1) ∙ c.before.before.before.read.ensures)
+    codes_17 _ _ _ _ _ _ (decode_codes _ _ _) (placed c.in-Refused.f) (ap verdict_answer (sym c.in-Refused.is) ∙ c.read-reading.ensures)
 
-enum_told : tie.Need-enum-told
+enum_told : tie.Need-enum_told-1
 enum_told c = search rules
 
-is-state-requires : tie.Need-is-state-requires
+is-state-requires : tie.Need-is_state-requires
 is-state-requires c κs = read_fine c
 
 refuse-requires : tie.Need-refuse-requires
 refuse-requires c κs = search rules
 
-returns-2 : tie.Need-returns-2
+returns-2 : tie.Need-returns-then-not-is_state
 returns-2 c =
     let t = c.before.before in
     outcome_of _ _ _ _ c.refuse.ensures
-    (codes_source _ _ _ _ _ _ (decode_codes _ _ _) (read_fine t.before) _ t.is_state.ensures (not-true _ c.before.if1.true))
+    (codes_source _ _ _ _ _ _ (decode_codes _ _ _) (read_fine t.before) _ t.is_state.ensures (c.if-not-is_state.true))
 
 atoms-requires : tie.Need-atoms-requires
 atoms-requires c κs = read_fine c.before.before
 
-refuse-requires-2 : tie.Need-refuse-requires-2
+refuse-requires-2 : tie.Need-refuse-requires-then-target-atoms
 refuse-requires-2 c κs = search rules
 
-returns-3 : tie.Need-returns-3
+returns-3 : tie.Need-returns-then-target-atoms
 returns-3 c =
     let v = c.before.before in
     let t = source_of v in
-    outcome_of _ _ _ _ c.refuse2.ensures
-    (codes_target _ _ _ _ _ _ (decode_codes _ _ _) (read_fine t.before) _ t.is_state.ensures (not-false _ v.before.if1.false) _
-    v.atoms.ensures.0 c.before.if2.true)
+    outcome_of _ _ _ _ c.refuse-then-target-atoms.ensures
+    (codes_target _ _ _ _ _ _ (decode_codes _ _ _) (read_fine t.before) _ t.is_state.ensures (v.if-not-is_state.false) _
+    v.atoms.ensures.0 c.if-target-atoms.true)
 
 write-requires : tie.Need-write-requires
 unfolding is_fdr_state
@@ -79,25 +78,25 @@ write-requires c κs =
     let t = source_of v in
     record {
       reads = read_fine t.before;
-      source = values_length _ _ (sym t.is_state.ensures ∙ not-false _ v.before.if1.false);
-      target = e.if2.false ∙ v.atoms.ensures.0;
+      source = values_length _ _ (sym t.is_state.ensures ∙ v.if-not-is_state.false);
+      target = e.if-target-atoms.false ∙ v.atoms.ensures.0;
     }
 
-same_length : tie.Need-same-length
+same_length : tie.Need-shape_of-target
 same_length c = search rules
 
-returns-4 : tie.Need-returns-4
+returns-4 : tie.Need-returns
 returns-4 c =
     let d = c.before.before in
     let e = d.before.before in
     let v = e.before in
     let t = source_of v in
     done _ _ _ (ap finding d.write.ensures)
-    ∙ codes_rest _ _ _ _ _ _ (decode_codes _ _ _) (read_fine t.before) _ t.is_state.ensures (not-false _ v.before.if1.false) _
-    v.atoms.ensures.0 e.if2.false
+    ∙ codes_rest _ _ _ _ _ _ (decode_codes _ _ _) (read_fine t.before) _ t.is_state.ensures (v.if-not-is_state.false) _
+    v.atoms.ensures.0 e.if-target-atoms.false
 
-pub decode-spec : {M : Type 1} → statement M
-decode-spec =
+pub decode_spec : {M : Type 1} → statement M
+decode_spec =
     tie.close
     (tie.spec
     read-requires

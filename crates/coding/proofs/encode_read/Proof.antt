@@ -11,81 +11,81 @@ use Rattle.coding.proofs.encode_read.Statement.{statement}
 use Rattle.coding.proofs.encode_read.Tie as tie
 
 -- where the values were found, and where no variable has two
-abbrev at_shared_slice : tie.After-values → tie.After-shared-slice-known
+abbrev at_shared_slice : tie.After-values-1 → tie.After-shared_slice_known-1
 at_shared_slice c = c.before.before.before
 
-abbrev start : tie.After-values → tie.Start
+abbrev start : tie.After-values-1 → tie.Start
 start c = (at_shared_slice c).before
 
-abbrev single : tie.After-are-codable → tie.Else1
+abbrev single : tie.After-are_codable → tie.Else-not-find
 single c = c.before.before
 
-abbrev found_of : tie.Else1 → tie.After-find
+abbrev found_of : tie.Else-not-find → tie.After-find
 found_of c = c.before.before
 
-one : (e : tie.Else1) → (found_of e).find.result ≡ true
-one e = not-false _ e.if1.false
+one : (e : tie.Else-not-find) → (found_of e).find.result ≡ true
+one e = e.if-not-find.false
 
 -- where the target was written
-abbrev codable_of : tie.Else2 → tie.After-are-codable
+abbrev codable_of : tie.Else-not-are_codable → tie.After-are_codable
 codable_of c = c.before
 
-abbrev tested : tie.After-write → tie.Else2
+abbrev tested : tie.After-write → tie.Else-not-are_codable
 tested c = c.before.before.before
 
-slice-aggregate-find : tie.Need-slice-aggregate-find
+slice-aggregate-find : tie.Need-slice_bounds-find-end
 slice-aggregate-find c = search rules
 
 find-requires : tie.Need-find-requires
 unfolding none_found
 find-requires c κs =
     let s = start c in
-    record { reads = s.pre.reads; source = s.pre.source; empty = refl }
+    record { reads = s.requires.reads; source = s.requires.source; empty = refl }
 
 refuse-requires : tie.Need-refuse-requires
 refuse-requires c κs = search rules
 
-returns : tie.Need-returns
+returns : tie.Need-returns-then-not-find
 returns c =
     let f = c.before.before.before in
-    outcome_of _ _ _ _ c.refuse.ensures (from_23 _ _ _ _ (sym (f.find.ensures.two (not-true _ c.before.if1.true))) refl)
+    outcome_of _ _ _ _ c.refuse.ensures (from_23 _ _ _ _ (sym (f.find.ensures.two (c.if-not-find.true))) refl)
 
-slice-aggregate-are-codable : tie.Need-slice-aggregate-are-codable
+slice-aggregate-are-codable : tie.Need-slice_bounds-are_codable-end
 slice-aggregate-are-codable c = search rules
 
-are-codable-requires : tie.Need-are-codable-requires
+are-codable-requires : tie.Need-are_codable-requires
 are-codable-requires c κs = search rules
 
-refuse-requires-2 : tie.Need-refuse-requires-2
+refuse-requires-2 : tie.Need-refuse-requires-then-not-are_codable
 refuse-requires-2 c κs = search rules
 
-returns-2 : tie.Need-returns-2
+returns-2 : tie.Need-returns-then-not-are_codable
 returns-2 c =
     let t = c.before.before in
     let e = single t in
-    outcome_of _ _ _ _ c.refuse2.ensures
-    (from_23 _ _ _ _ (t.are-codable.ensures ∙ codable_noted (found_of e).find.ensures (one e)) (not-true _ c.before.if2.true))
+    outcome_of _ _ _ _ c.refuse-then-not-are_codable.ensures
+    (from_23 _ _ _ _ (t.are_codable.ensures ∙ codable_noted (found_of e).find.ensures (one e)) (c.if-not-are_codable.true))
 
-slice-aggregate-write : tie.Need-slice-aggregate-write
+slice-aggregate-write : tie.Need-slice_bounds-write-end
 slice-aggregate-write c = search rules
 
 write-requires : tie.Need-write-requires
 write-requires c κs = search rules
 
-same_length : tie.Need-same-length
+same_length : tie.Need-shape_of-target
 same_length c = search rules
 
-returns-3 : tie.Need-returns-3
+returns-3 : tie.Need-returns
 returns-3 c =
     let w = c.before.before in
     let z = tested w in
     let t = codable_of z in
     let e = single t in
     let f = (found_of e).find.ensures in
-    from_done _ _ _ _ (t.are-codable.ensures ∙ codable_noted f (one e)) (not-false _ z.if2.left) _ (w.write.ensures ∙ values_noted f (one e))
+    from_done _ _ _ _ (t.are_codable.ensures ∙ codable_noted f (one e)) (z.if-not-are_codable.false) _ (w.write.ensures ∙ values_noted f (one e))
 
-pub encode-read-spec : {M : Type 1} → statement M
-encode-read-spec =
+pub encode_read_spec : {M : Type 1} → statement M
+encode_read_spec =
     tie.close
     (tie.spec
     slice-aggregate-find

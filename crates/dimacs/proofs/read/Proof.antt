@@ -9,58 +9,58 @@ use Rattle.dimacs.proofs.read.Statement.{statement}
 use Rattle.dimacs.proofs.read.Tie as tie
 
 -- where the image was read: the start
-abbrev lent : tie.After-read → tie.After-shared-slice-known2
+abbrev lent : tie.After-read-read → tie.After-shared_slice_known-2-1
 lent d = d.before.before
 
-abbrev start : tie.After-read → tie.Start
+abbrev start : tie.After-read-read → tie.Start
 start d = (lent d).before.before
 
 -- where it reads as a task
-abbrev was_read : tie.After-enum-told → tie.After-read
-was_read c = c.before.before
+abbrev was_read : tie.In_default → tie.After-read-read
+was_read c = c.before
 
-is_read : (c : tie.After-enum-told) → Reads (start (was_read c)).args.image.now
+is_read : (c : tie.In_default) → Reads (start (was_read c)).args.image.now
 is_read c =
     let d = was_read c in
-    reads (start d).args.image.now (ap verdict_answer (sym c.enum_told.given.1) ∙ d.read.ensures)
+    reads (start d).args.image.now (ap verdict_answer (sym c.in_default.is) ∙ d.read-read.ensures)
 
 -- after the text
-abbrev counted : tie.After-read-form → tie.After-atoms
+abbrev counted : tie.After-read_form → tie.After-atoms
 counted c = c.before.before
 
-read-requires : tie.Need-read-requires
+read-requires : tie.Need-read-read-requires
 read-requires c κs = search rules
 
-enum-known-read : tie.Need-enum-known-read
+enum-known-read : tie.Need-enum_known-read
 enum-known-read c = search rules
 
-returns : tie.Need-returns
+returns : tie.Need-returns-in-Refused
 returns c =
-    let r = c.before in
-    let d = r.before.before in
+    let r = c in
+    let d = r.before in
     let s = (start d).args in
-    read_task_lem s.image.now s.text.now s.clauses.now (placed r.read2.given.0.0)
-    (ap verdict_answer (sym r.read2.given.1) ∙ d.read.ensures)
+    read_task_lem s.image.now s.text.now s.clauses.now (placed r.in-Refused.f)
+    (ap verdict_answer (sym r.in-Refused.is) ∙ d.read-read.ensures)
 
-enum_told : tie.Need-enum-told
+enum_told : tie.Need-enum_told-1
 enum_told c = search rules
 
 atoms-requires : tie.Need-atoms-requires
 atoms-requires c κs = is_read c
 
-read-form-requires : tie.Need-read-form-requires
+read-form-requires : tie.Need-read_form-requires
 read-form-requires c κs = search rules
 
-same_length : tie.Need-same-length
+same_length : tie.Need-shape_of-clauses
 same_length c = search rules
 
-returns-2 : tie.Need-returns-2
+returns-2 : tie.Need-returns
 returns-2 c =
     let f = c.before.before in
     let n = counted f in
     let t = n.before in
     let s = (start (was_read t)).args in
-    f.read-form.ensures ∙ read_rest s.image.now s.text.now s.clauses.now (is_read t) n.atoms.result n.atoms.ensures.0
+    f.read_form.ensures ∙ read_rest s.image.now s.text.now s.clauses.now (is_read t) n.atoms.result n.atoms.ensures.0
 
 pub read_spec : {M : Type 1} → statement M
 read_spec =

@@ -11,50 +11,50 @@ use Rattle.dimacs.proofs.write.Statement.{statement}
 use Rattle.dimacs.proofs.write.Tie as tie
 
 -- where image and clauses were read, and the start
-abbrev lent : tie.After-read → tie.After-shared-slice-known2
+abbrev lent : tie.After-read-read → tie.After-shared_slice_known-2-1
 lent d = d.before.before
 
-abbrev start : tie.After-read → tie.Start
+abbrev start : tie.After-read-read → tie.Start
 start d = (lent d).before.before
 
-both : (d : tie.After-read) (v : Verdict) → d.read.result ≡ v → BothAnswer (start d).args.image.now (start d).args.clauses.now v
-both d v e = subst (λ (z : Verdict). BothAnswer (start d).args.image.now (start d).args.clauses.now z) e d.read.ensures
+both : (d : tie.After-read-read) (v : Verdict) → d.read-read.result ≡ v → BothAnswer (start d).args.image.now (start d).args.clauses.now v
+both d v e = subst (λ (z : Verdict). BothAnswer (start d).args.image.now (start d).args.clauses.now z) e d.read-read.ensures
 
-abbrev was_read : tie.After-enum-told → tie.After-read
-was_read c = c.before.before
+abbrev was_read : tie.In_default → tie.After-read-read
+was_read c = c.before
 
-is_read : (c : tie.After-enum-told) → let d = was_read c in BothRead (start d).args.image.now (start d).args.clauses.now
-is_read c = both (was_read c) _ c.enum_told.given.1
+is_read : (c : tie.In_default) → let d = was_read c in BothRead (start d).args.image.now (start d).args.clauses.now
+is_read c = both (was_read c) _ c.in_default.is
 
-read-requires : tie.Need-read-requires
+read-requires : tie.Need-read-read-requires
 read-requires c κs = search rules
 
-enum-known-read : tie.Need-enum-known-read
+enum-known-read : tie.Need-enum_known-read
 enum-known-read c = search rules
 
-returns : tie.Need-returns
+returns : tie.Need-returns-in-Refused
 returns c =
-    let r = c.before in
-    let d = r.before.before in
+    let r = c in
+    let d = r.before in
     let s = (start d).args in
-    write_both s.image.now s.clauses.now s.text.now (placed r.read2.given.0.0) (both d _ r.read2.given.1)
+    write_both s.image.now s.clauses.now s.text.now (placed r.in-Refused.f) (both d _ r.in-Refused.is)
 
-enum_told : tie.Need-enum-told
+enum_told : tie.Need-enum_told-1
 enum_told c = search rules
 
 atoms-requires : tie.Need-atoms-requires
 atoms-requires c κs = (is_read c).task
 
-write-read-requires : tie.Need-write-read-requires
+write-read-requires : tie.Need-write_read-requires
 write-read-requires c κs =
     let n = c.before in
     let t = n.before in
     subst (λ (k : ℕ). ClausesRead k (start (was_read t)).args.clauses.now) (sym n.atoms.ensures.0) (is_read t).clauses
 
-same_length : tie.Need-same-length
+same_length : tie.Need-shape_of-text
 same_length c = search rules
 
-returns-2 : tie.Need-returns-2
+returns-2 : tie.Need-returns
 returns-2 c =
     let w = c.before.before in
     let n = w.before.before in

@@ -10,46 +10,45 @@ use Rattle.dimacs_form.proofs.count_at.Statement.{statement}
 use Rattle.dimacs_form.proofs.count_at.Tie as tie
 
 -- the text, where the word was read
-abbrev start : tie.After-number-at → tie.Start
+abbrev start : tie.After-number_at-word → tie.Start
 start c = c.before.before.before
 
 -- where it is a number
-abbrev number : tie.After-known-told → tie.After-number-at
-number c = c.before.before.before
+abbrev number : tie.In-Is → tie.After-number_at-word
+number c = c.before
 
-returns : tie.Need-returns
-returns c = none_counts c.before.before.args.text.now c.before.before.args.at c.if1.true
+returns : tie.Need-returns-then-text-at
+returns c = none_counts c.args.text.now c.args.at c.if-text-at.true
 
-number-at-requires : tie.Need-number-at-requires
+number-at-requires : tie.Need-number_at-word-requires
 number-at-requires c κs = search rules
 
-enum_told : tie.Need-enum-told
+enum_told : tie.Need-enum_told-1
 enum_told c = search rules
 
-enum-known-word : tie.Need-enum-known-word
+enum-known-word : tie.Need-enum_known-word
 enum-known-word c = search rules
 
 plain-requires : tie.Need-plain-requires
 plain-requires c κs = search rules
 
-returns-2 : tie.Need-returns-2
+returns-2 : tie.Need-returns-in-Other
 returns-2 c =
-    let w = c.before.before in
+    let w = c.before in
     let s = (start w).args in
     other_counts s.text.now s.at
-    (subst (λ (r : Word). Scanned s.text.now s.at r) c.enum_told.given.1 w.number_at.ensures)
+    (subst (λ (r : Word). Scanned s.text.now s.at r) c.in-Other.is w.number_at-word.ensures)
 
-returns-3 : tie.Need-returns-3
+returns-3 : tie.Need-returns-in-Is
 returns-3 c =
     let k = c.before in
     let w = number k in
     let s = (start w).args in
-    let is = k.before.word.given in
     subst (λ (r : Count). Counts s.text.now s.at r) (sym c.plain.ensures)
-    (number_counts s.text.now s.at is.0.0 (subst (λ (r : Word). Scanned s.text.now s.at r) is.1 w.number_at.ensures))
+    (number_counts s.text.now s.at k.in-Is.n (subst (λ (r : Word). Scanned s.text.now s.at r) k.in-Is.is w.number_at-word.ensures))
 
-pub count-at-spec : {M : Type 1} → statement M
-count-at-spec =
+pub count_at_spec : {M : Type 1} → statement M
+count_at_spec =
     tie.close
     (tie.spec
     returns

@@ -16,14 +16,14 @@ use Rattle.fdr.proofs.set_initial.Statement.{statement}
 use Rattle.fdr.proofs.set_initial.Tie as tie
 
 -- where the image was read, and the start
-abbrev read : tie.After-enum-told → tie.After-read
-read c = c.before.before
+abbrev read : tie.In_default → tie.After-read-reading
+read c = c.before
 
-abbrev start : tie.After-read → tie.Start
+abbrev start : tie.After-read-reading → tie.Start
 start c = c.before.before.before
 
-read_fine : (c : tie.After-enum-told) → ReadsFdr (start (read c)).args.image.now
-read_fine c = reads _ (ap verdict_answer (sym c.enum_told.given.1) ∙ (read c).read.ensures)
+read_fine : (c : tie.In_default) → ReadsFdr (start (read c)).args.image.now
+read_fine c = reads _ (ap verdict_answer (sym c.in_default.is) ∙ (read c).read-reading.ensures)
 
 -- where the initial values were found
 abbrev counted_of : tie.After-initial → tie.After-variables
@@ -32,22 +32,21 @@ counted_of c = c.before.before
 fits : (c : tie.After-initial) → length c.initial.result.now ≡ length (start (read (counted_of c).before)).args.state.now
 fits c =
     let n = counted_of c in
-    initial_fits _ (read_fine n.before) (start (read n.before)).args.state.now _ _ n.variables.ensures.0 c.before.if1.false
+    initial_fits _ (read_fine n.before) (start (read n.before)).args.state.now _ _ n.variables.ensures.0 c.if-state-variables.false
     c.initial.ensures
 
-read-requires : tie.Need-read-requires
+read-requires : tie.Need-read-reading-requires
 read-requires c κs = search rules
 
-enum-known-reading : tie.Need-enum-known-reading
+enum-known-reading : tie.Need-enum_known-reading
 enum-known-reading c = search rules
 
-returns : tie.Need-returns
+returns : tie.Need-returns-in-Refused
 unfolding start_fdr
 returns c =
-    let f = c.before.reading.given in
-    start_refused fdr_reader _ _ (placed f.0.0) (ap verdict_answer (sym f.1) ∙ c.before.before.before.read.ensures)
+    start_refused fdr_reader _ _ (placed c.in-Refused.f) (ap verdict_answer (sym c.in-Refused.is) ∙ c.read-reading.ensures)
 
-enum_told : tie.Need-enum-told
+enum_told : tie.Need-enum_told-1
 enum_told c = search rules
 
 variables-requires : tie.Need-variables-requires
@@ -56,12 +55,12 @@ variables-requires c κs = read_fine c
 refuse-requires : tie.Need-refuse-requires
 refuse-requires c κs = search rules
 
-returns-2 : tie.Need-returns-2
+returns-2 : tie.Need-returns-then-state-variables
 unfolding start_fdr
 returns-2 c =
     let n = c.before.before in
     outcome_of _ _ _ _ c.refuse.ensures
-    (start_long fdr_reader _ _ _ (read_fine n.before).found _ n.variables.ensures.0 c.before.if1.true)
+    (start_long fdr_reader _ _ _ (read_fine n.before).found _ n.variables.ensures.0 c.if-state-variables.true)
 
 initial-requires : tie.Need-initial-requires
 initial-requires c κs = read_fine c.before.before
@@ -71,20 +70,20 @@ words-requires c κs =
     let z = fits c.before in
     omega arith
 
-same_length : tie.Need-same-length
+same_length : tie.Need-shape_of-state
 same_length c = search rules
 
-returns-3 : tie.Need-returns-3
+returns-3 : tie.Need-returns
 unfolding start_fdr
 returns-3 c =
     let d = c.before.before in
     let i = d.before.before in
     let n = counted_of i in
-    start_done fdr_reader _ _ _ (read_fine n.before).found _ n.variables.ensures.0 i.before.if1.false _
+    start_done fdr_reader _ _ _ (read_fine n.before).found _ n.variables.ensures.0 i.if-state-variables.false _
     (wrote_all (fits i) d.words.ensures ∙ i.initial.ensures)
 
-pub set-initial-spec : {M : Type 1} → statement M
-set-initial-spec =
+pub set_initial_spec : {M : Type 1} → statement M
+set_initial_spec =
     tie.close
     (tie.spec
     read-requires

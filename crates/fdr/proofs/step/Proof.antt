@@ -12,48 +12,47 @@ use Rattle.fdr.proofs.step.Statement.{statement}
 use Rattle.fdr.proofs.step.Tie as tie
 
 -- where the image and the state were read, and the start
-abbrev read : tie.After-enum-told → tie.After-read-state
-read c = c.before.before
+abbrev read : tie.In_default → tie.After-read_state-reading
+read c = c.before
 
-abbrev at_shared_slice : tie.After-read-state → tie.After-shared-slice-known
-at_shared_slice c = c.before.before.before
+abbrev at_shared_slice : tie.After-read_state-reading → tie.After-shared_slice_known-1
+at_shared_slice c = c.before.before
 
-abbrev start : tie.After-read-state → tie.Start
+abbrev start : tie.After-read_state-reading → tie.Start
 start c = (at_shared_slice c).before
 
-fine : (c : tie.After-enum-told) → let s = (start (read c)).args in finding tt ≡ state_answer fdr_reader s.image.now s.state.now
-fine c = ap verdict_answer (sym c.enum_told.given.1) ∙ (read c).read-state.ensures
+fine : (c : tie.In_default) → let s = (start (read c)).args in finding tt ≡ state_answer fdr_reader s.image.now s.state.now
+fine c = ap verdict_answer (sym c.in_default.is) ∙ (read c).read_state-reading.ensures
 
-read-state-requires : tie.Need-read-state-requires
+read-state-requires : tie.Need-read_state-reading-requires
 read-state-requires c κs = search rules
 
-enum-known-reading : tie.Need-enum-known-reading
+enum-known-reading : tie.Need-enum_known-reading
 enum-known-reading c = search rules
 
-same_length : tie.Need-same-length
+same_length : tie.Need-shape_of-state-in-Refused
 same_length c = search rules
 
-returns : tie.Need-returns
+returns : tie.Need-returns-in-Refused
 unfolding step_fdr
 returns c =
-    let f = c.before.reading.given in
-    step_refused fdr_reader _ _ (placed f.0.0) (ap verdict_answer (sym f.1) ∙ c.before.before.before.read-state.ensures) _
+    step_refused fdr_reader _ _ (placed c.in-Refused.f) (ap verdict_answer (sym c.in-Refused.is) ∙ c.read_state-reading.ensures) _
 
-enum_told : tie.Need-enum-told
+enum_told : tie.Need-enum_told-1
 enum_told c = search rules
 
-step-read-requires : tie.Need-step-read-requires
+step-read-requires : tie.Need-step_read-requires
 step-read-requires c κs = standing _ _ (fine c.before)
 
-same-length-2 : tie.Need-same-length-2
+same-length-2 : tie.Need-shape_of-state
 same-length-2 c = search rules
 
-returns-2 : tie.Need-returns-2
+returns-2 : tie.Need-returns
 unfolding step_fdr
 returns-2 c =
     let d = c.before.before in
     let y = fine d.before.before in
-    d.step-read.ensures ∙ step_rest fdr_reader _ _ y _ (standing _ _ y).reads.found _
+    d.step_read.ensures ∙ step_rest fdr_reader _ _ y _ (standing _ _ y).reads.found _
 
 pub step_spec : {M : Type 1} → statement M
 step_spec =

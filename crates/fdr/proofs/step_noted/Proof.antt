@@ -15,26 +15,26 @@ use Rattle.fdr.proofs.step_noted.Statement.{statement}
 use Rattle.fdr.proofs.step_noted.Tie as tie
 
 -- where the operator's number was read, and the start
-abbrev at_shared_slice : tie.After-wide → tie.After-shared-slice-known
+abbrev at_shared_slice : tie.After-wide-i → tie.After-shared_slice_known-1
 at_shared_slice c = c.before.before.before
 
-abbrev start : tie.After-wide → tie.Start
+abbrev start : tie.After-wide-i → tie.Start
 start c = (at_shared_slice c).before
 
-there : (c : tie.Else1) → let s = (start c.before.before).args in s.operator < length (fdr_of s.image.now).operators
-there c = omega (arith, c.before.operators.ensures.0, c.before.before.wide.ensures.0, c.if1.false)
+there : (c : tie.Else-operators-i) → let s = (start c.before.before).args in s.operator < length (fdr_of s.image.now).operators
+there c = omega (arith, c.operators.ensures.0, c.wide-i.ensures.0, c.if-operators-i.false)
 
 -- where the step by the block was made
-abbrev at_state : tie.After-slice-known4 → tie.After-state
+abbrev at_state : tie.After-slice_known-4-1 → tie.After-state-1
 at_state c = c.before.before.before
 
-abbrev made : tie.After-slice-known4 → tie.After-step-block
+abbrev made : tie.After-slice_known-4-1 → tie.After-step_block
 made c = (at_state c).before
 
-abbrev given : tie.After-step-block → tie.After-operator-block
+abbrev given : tie.After-step_block → tie.After-operator_block
 given c = c.before.before.before
 
-wide-requires : tie.Need-wide-requires
+wide-requires : tie.Need-wide-i-requires
 wide-requires c κs = search rules
 
 operators-requires : tie.Need-operators-requires
@@ -43,30 +43,30 @@ operators-requires c κs = search rules
 refuse-requires : tie.Need-refuse-requires
 refuse-requires c κs = search rules
 
-returns : tie.Need-returns
+returns : tie.Need-returns-then-operators-i
 returns c =
     let n = c.before.before in (
       outcome_of _ _ _ _ c.refuse.ensures
-          (step_19 _ _ _ (omega (arith, n.operators.ensures.0, n.before.wide.ensures.0, c.before.if1.true))),
+          (step_19 _ _ _ (omega (arith, n.operators.ensures.0, n.wide-i.ensures.0, c.if-operators-i.true))),
       refl,
     )
 
-operator-block-requires : tie.Need-operator-block-requires
+operator-block-requires : tie.Need-operator_block-requires
 operator-block-requires c κs = search rules
 
-step-block-requires : tie.Need-step-block-requires
+step-block-requires : tie.Need-step_block-requires
 step-block-requires c κs =
     let g = c.before.before in
     let s = start g.before.before.before in
-    applying _ _ _ _ _ s.pre.0 s.pre.1 g.operator-block.ensures
+    applying _ _ _ _ _ s.requires.0 s.requires.1 g.operator_block.ensures
 
-same_length : tie.Need-same-length
+same_length : tie.Need-shape_of-state
 same_length c = search rules
 
-same-length-2 : tie.Need-same-length-2
+same-length-2 : tie.Need-shape_of-changes
 same-length-2 c = search rules
 
-returns-2 : tie.Need-returns-2
+returns-2 : tie.Need-returns
 returns-2 c =
     let d = made c in
     let g = given d in
@@ -74,15 +74,15 @@ returns-2 c =
     let s = (start n).args in
     let t = fdr_of s.image.now in
     let x = s.state.now in (
-      d.step_Block.ensures.0
+      d.step_block.ensures.0
           ∙ ap (λ (o : FdrOperator). becomes x (stepped t x o))
-          (g.operator-block.ensures.operator ∙ ap (λ (k : ℕ). get_or t.operators k no_fdr_operator) n.wide.ensures.0)
+          (g.operator_block.ensures.operator ∙ ap (λ (k : ℕ). get_or t.operators k no_fdr_operator) n.wide-i.ensures.0)
           ∙ step_there t x s.operator (there g.before),
-      d.step_Block.ensures.1,
+      d.step_block.ensures.1,
     )
 
-pub step-noted-spec : {M : Type 1} → statement M
-step-noted-spec =
+pub step_noted_spec : {M : Type 1} → statement M
+step_noted_spec =
     tie.close
     (tie.spec
     wide-requires

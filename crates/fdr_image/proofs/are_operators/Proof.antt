@@ -64,7 +64,7 @@ returns c =
     ∙ operators_off (domains_in (at_start_from_then1 c).args.domains.now) (at_start_from_then1 c).args.image.now _
     (at_loop_of_in_loop (in_loop_of_then1 c)).loop-i.i ((at_start_from_then1 c).args.operators - (at_loop_of_in_loop (in_loop_of_then1 c)).loop-i.i)
     ((at_start_from_then1 c).args.operators - ((at_loop_of_in_loop (in_loop_of_then1 c)).loop-i.i + 1)) (omega arith) c.part.ensures _
-    c.before.is_Block.ensures (c.if-not-is_block.true))
+    c.before.is_block.ensures (c.if-not-is_block.true))
 
 add-i : tie.Need-overflow_add-i-in-loop-i invariant-loop decreases-loop
 add-i c = search rules
@@ -79,7 +79,7 @@ loop-again c = (
       ∙ operators_on (domains_in (at_start_from_else1 c).args.domains.now) (at_start_from_else1 c).args.image.now _
       (at_loop_of_in_loop (in_loop_of_else1 c)).loop-i.i ((at_start_from_else1 c).args.operators - (at_loop_of_in_loop (in_loop_of_else1 c)).loop-i.i)
       ((at_start_from_else1 c).args.operators - ((at_loop_of_in_loop (in_loop_of_else1 c)).loop-i.i + 1)) (omega arith) c.part.ensures
-      _ c.before.is_Block.ensures (c.if-not-is_block.false),
+      _ c.before.is_block.ensures (c.if-not-is_block.false),
 )
 
 returns-2 : tie.Need-returns invariant-loop decreases-loop

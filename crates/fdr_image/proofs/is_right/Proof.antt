@@ -59,12 +59,12 @@ else2_from_are_parts c = else2 (after_wide_of_else3 (else3 c))
 
 returns-3 : tie.Need-returns-then-not-is_directory
 returns-3 c =
-    image_directory _ (sym (after_are_counts_from_then3 c).are_counts.ensures ∙ not-false _ (else2 (after_wide_of_then3 c)).if-not-are_counts.false) _
+    image_directory _ (sym (after_are_counts_from_then3 c).are_counts.ensures ∙ (else2 (after_wide_of_then3 c)).if-not-are_counts.false) _
     c.wide.ensures.0 _ c.is_directory.ensures (c.if-not-is_directory.true)
 
 are-parts-requires : tie.Need-are_parts-requires
 are-parts-requires c κs =
-    image_laid _ (sym (after_are_counts_from_else3 c).are_counts.ensures ∙ not-false _ (else2 (after_wide_of_else3 c)).if-not-are_counts.false) _
+    image_laid _ (sym (after_are_counts_from_else3 c).are_counts.ensures ∙ (else2 (after_wide_of_else3 c)).if-not-are_counts.false) _
     c.wide.ensures.0 _ c.is_directory.ensures (c.if-not-is_directory.false)
 
 returns-4 : tie.Need-returns

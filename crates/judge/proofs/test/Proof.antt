@@ -8,7 +8,7 @@ use Rattle.judge.proofs.test.Tie as tie
 
 -- where the block is read, and the start
 abbrev found : Type 0
-found = tie.After-operator-block
+found = tie.After-operator_block-block
 
 abbrev start : found → tie.Start
 start d = let p = d.before.before.before in p.before.before.before
@@ -21,27 +21,27 @@ block_of c = let p = c.before.before.before in p.before
 abbrev judged : tie.After-has → tie.After-judge
 judged c = let p = c.before.before.before in p.before.before
 
-atoms-requires : tie.Need-atoms-requires
+atoms-requires : tie.Need-atoms-atoms-requires
 atoms-requires c κs = search rules
 
-operator-block-requires : tie.Need-operator-block-requires
+operator-block-requires : tie.Need-operator_block-block-requires
 operator-block-requires c κs = search rules
 
-one-requires : tie.Need-one-requires
+one-requires : tie.Need-one-fails-requires
 one-requires c κs = search rules
 
-slice-aggregate-judge : tie.Need-slice-aggregate-judge
+slice-aggregate-judge : tie.Need-slice_bounds-judge-end
 slice-aggregate-judge c = search rules
 
 judge-requires : tie.Need-judge-requires
 judge-requires c κs =
     let d = c.before.before.before in
     let s = start d in
-    let atoms = d.before.atoms in
-    asks_bulk _ _ _ s.args.operator s.args.marks.now s.pre atoms.result atoms.ensures.0 atoms.ensures.1 _ _
-    d.operator-block.ensures c.before.before.one.ensures
+    let atoms = d.atoms-atoms in
+    asks_bulk _ _ _ s.args.operator s.args.marks.now s.requires atoms.result atoms.ensures.0 atoms.ensures.1 _ _
+    d.operator_block-block.ensures c.one-fails.ensures
 
-slice-aggregate-has : tie.Need-slice-aggregate-has
+slice-aggregate-has : tie.Need-slice_bounds-has-end
 slice-aggregate-has c = search rules
 
 has-requires : tie.Need-has-requires
@@ -50,7 +50,7 @@ has-requires c κs = search rules
 whether-requires : tie.Need-whether-requires
 whether-requires c κs = search rules
 
-same_length : tie.Need-same-length
+same_length : tie.Need-shape_of-marks
 same_length c = search rules
 
 returns : tie.Need-returns
@@ -59,13 +59,13 @@ returns c =
     let j = judged h in
     let d = block_of j in
     let s = start d in
-    let atoms = d.before.atoms in
+    let atoms = d.atoms-atoms in
     c.whether.ensures
-    ∙ asks_answer _ _ _ s.args.operator s.args.marks.now s.pre atoms.result atoms.ensures.0 _ _ h.has.result
-    d.operator-block.ensures.operator j.judge.ensures h.has.ensures
+    ∙ asks_answer _ _ _ s.args.operator s.args.marks.now s.requires atoms.result atoms.ensures.0 _ _ h.has.result
+    d.operator_block-block.ensures.operator j.judge.ensures h.has.ensures
 
-pub test-spec : {M : Type 1} → statement M
-test-spec =
+pub test_spec : {M : Type 1} → statement M
+test_spec =
     tie.close
     (tie.spec
     atoms-requires

@@ -66,7 +66,7 @@ not_met v k e = none (subst (λ (x : Pass). OneOf (0 ∷ 1 ∷ []) (tag_of the_t
 added : (m : tie.In_default) → let d = going_on m in Added (stops d) (set_first d) (literals d) (set_after d)
 added m =
     let d = going_on m in
-    seeded_added (stops d) (set_first d) (literals d) (set_after d) d.seed-seeded.result (not_met d.seed-seeded.result m.in_default.keys2)
+    seeded_added (stops d) (set_first d) (literals d) (set_after d) d.seed-seeded.result (not_met d.seed-seeded.result m.in_default.in_default-own.keys2)
     (start d).requires.0.marks.sound d.seed-seeded.ensures.1
 
 seed-requires : tie.Need-seed-seeded-requires

@@ -19,6 +19,7 @@ use Rattle.propagation.proofs.View.{view_has, rest_self, rest_on}
 use Rattle.propagation.proofs.Seeds.{Seeding, grown_if, seed_start, seed_clash, seed_adds, seed_end}
 use borrow.Author.Rules.{rules}
 use Rattle.propagation.proofs.seed.Statement.{statement}
+use Rattle.propagation.proofs.seed.Lts.{then-add, else-add}
 use Rattle.propagation.proofs.seed.Tie as tie
 
 abbrev invariant-loop : tie.invariant-loop-i
@@ -167,7 +168,10 @@ unfolding grown_if
 loop-again c =
     let a = c.before.before.before in
     let On : Pass → Type 0 = Next a a.add.new.marks in
-    ⊎_elim (λ x. subst On (sym x.1) (next a true x.0.true)) (λ x. subst On (sym x.1) (next a false x.0.left)) c.if-add.branch
+    elim c.if-add.branch [
+      | then-add x ↦ subst On (sym x.pass-is) (next a true x.if-add.true)
+      | else-add x ↦ subst On (sym x.pass-is) (next a false x.if-add.false)
+    ]
 
 same-length-2 : tie.Need-shape_of-marks invariant-loop decreases-loop
 same-length-2 c = c.loop-i.invariant.0.same_length

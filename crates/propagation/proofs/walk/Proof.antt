@@ -38,6 +38,7 @@ use Rattle.propagation.proofs.Closed.{room_on}
 use borrow.Author.Tests.{eqb-true}
 use borrow.Author.Rules.{rules}
 use Rattle.propagation.proofs.walk.Statement.{statement}
+use Rattle.propagation.proofs.walk.Lts.{in-Same, in-First}
 use Rattle.propagation.proofs.walk.Tie as tie
 
 -- between two rows: the marks at the start and now, the answer so far, the literal known to be open, and the next row's place
@@ -309,7 +310,7 @@ module _ (f : followed) where
   ls = forced_of (take width (drop (position w) (words w))) (opened a)
 
   abbrev k : ℕ
-  k = a.before.loop.k
+  k = a.loop-k.k
 
   forced : (l : ℕ) → member l ls ≡ true → forces (set_now w) l (clause_at (words w) (position w)) ≡ true
   forced = scan_forced (words w) (set_now w) (position w) k (opened a) (scanned a) (all_words a)
@@ -318,23 +319,23 @@ module _ (f : followed) where
   all = scan_all (words w) (set_now w) (position w) k (opened a) (scanned a) (all_words a)
 
   abbrev after : List ℕ
-  after = f.force.last.1.1.0
+  after = f.force-forced.new.marks
 
-  on_same : f.force.result ≡ Same → On w after (so_far w) (opened a)
+  on_same : f.force-forced.result ≡ Same → On w after (so_far w) (opened a)
   on_same e =
       let p = follows f Same e in
       on w after (so_far w) (opened a) (rest_after f)
       (force_same (stops w) (words w) (set_first w) (set_now w) (position w) (inside w) (so_far w) (state w) ls _ forced all p)
       (subst (λ (s : List ℕ). Open s (opened a)) (sym p.0) (row_open a))
 
-  on_more : f.force.result ≡ Grown → On w after Grown (opened a)
+  on_more : f.force-forced.result ≡ Grown → On w after Grown (opened a)
   on_more e =
       let p = follows f Grown e in
       on w after Grown (opened a) (rest_after f)
       (force_more (stops w) (words w) (set_first w) (set_now w) (position w) (inside w) (so_far w) (state w) ls _ forced all p)
       (still_open (stops w) (set_now w) _ _ (opened a) (row_open a) p.0)
 
-  left : f.force.result ≡ Contradictory → Passed (stops w) (words w) (set_first w) (set_of (atoms w) after) Contradictory
+  left : f.force-forced.result ≡ Contradictory → Passed (stops w) (words w) (set_first w) (set_of (atoms w) after) Contradictory
   left e =
       force_clash (stops w) (words w) (set_first w) (set_now w) (position w) (inside w) (so_far w) (state w) ls
       (set_of (atoms w) after) forced all (follows f Contradictory e)
@@ -368,12 +369,12 @@ second-is-open-requires c κs =
     let w = c in
     (omega (arith, inside w), λ ne. complement_inside w (second w) (second_of_row w ne))
 
-walk-less : tie.Need-walk-smaller invariant-loop decreases-loop invariant-walk decreases-walk
-walk-less c = less_left (row_asked c.before.before.before.before.before.before.before.before.before)
+walk-less : tie.Need-walk-smaller-then-second_is_open invariant-loop decreases-loop invariant-walk decreases-walk
+walk-less c = less_left (row_asked c.before)
 
-walk-again : tie.Need-walk-preserved invariant-loop decreases-loop invariant-walk decreases-walk
+walk-again : tie.Need-walk-preserved-then-second_is_open invariant-loop decreases-loop invariant-walk decreases-walk
 walk-again c =
-    let w = row_asked c.before.before.before.before.before.before.before.before.before in
+    let w = row_asked c.before in
     let u = (at_head w).walk.known in
     let both = sym c.second_is_open.ensures ∙ c.if-second_is_open.true in
     let first = eqb-true (get_or (words w) (position w) 0) u (and_left _ (open_word (marks_now w) (second w)) both) in
@@ -411,16 +412,16 @@ enum-told-2 c = c.in-First-1.keys2
 enum-told-3 : tie.Need-enum_told-in-Second invariant-loop decreases-loop invariant-walk decreases-walk
 enum-told-3 c = c.in-Second-1.keys3
 
-walk-less-2 : tie.Need-walk-smaller-2 invariant-loop decreases-loop invariant-walk decreases-walk
+walk-less-2 : tie.Need-walk-smaller-in-Second invariant-loop decreases-loop invariant-walk decreases-walk
 walk-less-2 c = less_left (row_of (at (looked_by c)))
 
-walk-again-2 : tie.Need-walk-preserved-2 invariant-loop decreases-loop invariant-walk decreases-walk
+walk-again-2 : tie.Need-walk-preserved-in-Second invariant-loop decreases-loop invariant-walk decreases-walk
 walk-again-2 c =
     let o = looked_by c in
     let i = at o in
     let w = row_of i in
     let l = i.loop-k in
-    let two = scan_second (words w) (set_now w) (position w) l.k l.first l.invariant.1 (in_width i) (added o scan.Second c.enum-told3.given.1) in
+    let two = scan_second (words w) (set_now w) (position w) l.k l.first l.invariant.1 (in_width i) (added o scan.Second c.in-Second.is) in
     on w (marks_now w) (so_far w) l.first (rest_now w)
     (pass_row (stops w) (words w) (set_first w) (set_now w) (position w) (inside w) (so_far w) (state w) two)
     (scan_open (words w) (set_now w) (position w) l.k l.first l.invariant.1)
@@ -442,15 +443,15 @@ loop-again c =
     let l = i.loop-k in
     let Scans : ℕ → Type 0 = λ x. Scanning (words w) (set_now w) (position w) (l.k + 1) x in (
       omega (arith, in_width i),
-      ⊎_elim
-          (λ a.
-          let same = added o scan.Same a.1.given.1 in
-          subst Scans (sym a.2) (scan_same (words w) (set_now w) (position w) l.k l.first l.invariant.1 (in_width i) same))
-          (λ a.
-          let first = added o scan.First a.1.given.1 in
-          let below = view_inside (atoms w) (marks_now w) (word i) (row_below w (word i) (word_of_row i first.0)) in
-          subst Scans (sym a.2) (scan_first (words w) (set_now w) (position w) l.k l.first l.invariant.1 (in_width i) below first))
-          c.match-scan.branch,
+      elim c.match-scan.branch [
+        | in-Same a ↦
+            let same = added o scan.Same a.in-Same.is in
+            subst Scans (sym a.first-is) (scan_same (words w) (set_now w) (position w) l.k l.first l.invariant.1 (in_width i) same)
+        | in-First a ↦
+            let first = added o scan.First a.in-First.is in
+            let below = view_inside (atoms w) (marks_now w) (word i) (row_below w (word i) (word_of_row i first.0)) in
+            subst Scans (sym a.first-is) (scan_first (words w) (set_now w) (position w) l.k l.first l.invariant.1 (in_width i) below first)
+      ],
     )
 
 row-requires : tie.Need-row-requires invariant-loop decreases-loop invariant-walk decreases-walk
@@ -471,21 +472,21 @@ force-requires c κs =
 enum-told-4 : tie.Need-enum_told-in-Same-forced invariant-loop decreases-loop invariant-walk decreases-walk
 enum-told-4 c = c.in-Same-forced-1.keys1
 
-walk-less-3 : tie.Need-walk-smaller-3 invariant-loop decreases-loop invariant-walk decreases-walk
-walk-less-3 c = less_left (row (scan_of (force_of c.before.before)))
+walk-less-3 : tie.Need-walk-smaller-in-Same-forced invariant-loop decreases-loop invariant-walk decreases-walk
+walk-less-3 c = less_left (row (scan_of (force_of c.before)))
 
-walk-again-3 : tie.Need-walk-preserved-3 invariant-loop decreases-loop invariant-walk decreases-walk
-walk-again-3 c = on_same (force_of c.before.before) c.enum-told4.given.1
+walk-again-3 : tie.Need-walk-preserved-in-Same-forced invariant-loop decreases-loop invariant-walk decreases-walk
+walk-again-3 c = on_same (force_of c.before) c.in-Same-forced.is
 
 enum-told-5 : tie.Need-enum_told-in-Grown invariant-loop decreases-loop invariant-walk decreases-walk
 enum-told-5 c = c.in-Grown-1.keys2
 
-walk-less-4 : tie.Need-walk-smaller-4 invariant-loop decreases-loop invariant-walk decreases-walk
-walk-less-4 c = less_left (row (scan_of (force_of c.before.before)))
+walk-less-4 : tie.Need-walk-smaller invariant-loop decreases-loop invariant-walk decreases-walk
+walk-less-4 c = less_left (row (scan_of (force_of c.before)))
 
-walk-again-4 : tie.Need-walk-preserved-4 invariant-loop decreases-loop invariant-walk decreases-walk
+walk-again-4 : tie.Need-walk-preserved invariant-loop decreases-loop invariant-walk decreases-walk
 unfolding fill
-walk-again-4 c = on_more (force_of c.before.before) c.enum-told5.given.1
+walk-again-4 c = on_more (force_of c.before) c.in-Grown.is
 
 enum-told-6 : tie.Need-enum_told-in-Contradictory invariant-loop decreases-loop invariant-walk decreases-walk
 enum-told-6 c = c.in-Contradictory-1.keys3
@@ -503,24 +504,6 @@ same-length-2 c = (rest_after (force_of c.before)).same_length
 returns-2 : tie.Need-returns-in-Contradictory invariant-loop decreases-loop invariant-walk decreases-walk
 returns-2 c = let f = force_of c.before in (rest_after f, left f c.in-Contradictory.is)
 
-the_walk_smaller_then_second_is_open : tie.Need-walk-smaller-then-second_is_open invariant-loop decreases-loop invariant-walk decreases-walk
-the_walk_smaller_then_second_is_open c = search rules
-
-the_walk_preserved_then_second_is_open : tie.Need-walk-preserved-then-second_is_open invariant-loop decreases-loop invariant-walk decreases-walk
-the_walk_preserved_then_second_is_open c = search rules
-
-the_walk_smaller_in_Second : tie.Need-walk-smaller-in-Second invariant-loop decreases-loop invariant-walk decreases-walk
-the_walk_smaller_in_Second c = search rules
-
-the_walk_preserved_in_Second : tie.Need-walk-preserved-in-Second invariant-loop decreases-loop invariant-walk decreases-walk
-the_walk_preserved_in_Second c = search rules
-
-the_walk_smaller_in_Same_forced : tie.Need-walk-smaller-in-Same-forced invariant-loop decreases-loop invariant-walk decreases-walk
-the_walk_smaller_in_Same_forced c = search rules
-
-the_walk_preserved_in_Same_forced : tie.Need-walk-preserved-in-Same-forced invariant-loop decreases-loop invariant-walk decreases-walk
-the_walk_preserved_in_Same_forced c = search rules
-
 pub walk_spec : {M : Type 1} → statement M
 walk_spec =
     tie.close
@@ -533,8 +516,8 @@ walk_spec =
     walk-holds
     next-requires
     second-is-open-requires
-    the_walk_smaller_then_second_is_open
-    the_walk_preserved_then_second_is_open
+    walk-less
+    walk-again
     loop-holds
     add-word
     mul-word
@@ -543,19 +526,19 @@ walk_spec =
     enum_told
     enum-told-2
     enum-told-3
-    the_walk_smaller_in_Second
-    the_walk_preserved_in_Second
+    walk-less-2
+    walk-again-2
     add-k
     loop-less
     loop-again
     row-requires
     force-requires
     enum-told-4
-    the_walk_smaller_in_Same_forced
-    the_walk_preserved_in_Same_forced
+    walk-less-3
+    walk-again-3
     enum-told-5
-    walk-less
-    walk-again
+    walk-less-4
+    walk-again-4
     enum-told-6
     same_length
     returns

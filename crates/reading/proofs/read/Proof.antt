@@ -9,45 +9,45 @@ use Rattle.reading.proofs.read.Statement.{statement}
 use Rattle.reading.proofs.read.Tie as tie
 
 -- where the image was read, and the start
-abbrev start : tie.After-read → tie.Start
+abbrev start : tie.After-read-task → tie.Start
 start c = c.before.before.before
 
-abbrev was_read : tie.After-enum-told → tie.After-read
-was_read c = c.before.before
+abbrev was_read : tie.In_default → tie.After-read-task
+was_read c = c.before
 
-is_read : (c : tie.After-enum-told) → Reads (start (was_read c)).args.image.now
+is_read : (c : tie.In_default) → Reads (start (was_read c)).args.image.now
 is_read c =
     let d = was_read c in
-    reads (start d).args.image.now (ap verdict_answer (sym c.enum_told.given.1) ∙ d.read.ensures)
+    reads (start d).args.image.now (ap verdict_answer (sym c.in_default.is) ∙ d.read-task.ensures)
 
-read-requires : tie.Need-read-requires
+read-requires : tie.Need-read-task-requires
 read-requires c κs = search rules
 
-enum-known-task : tie.Need-enum-known-task
+enum-known-task : tie.Need-enum_known-task
 enum-known-task c = search rules
 
-returns : tie.Need-returns
+returns : tie.Need-returns-in-Refused
 returns c =
-    let r = c.before in
-    let d = r.before.before in
-    let s = (start d).args in
-    both_task s.image.now s.clauses.now (placed r.task.given.0.0) (ap verdict_answer (sym r.task.given.1) ∙ d.read.ensures)
+    let r = c in
+    let d = r in
+    let s = (start d.before).args in
+    both_task s.image.now s.clauses.now (placed r.in-Refused.f) (ap verdict_answer (sym r.in-Refused.is) ∙ d.read-task.ensures)
 
-enum_told : tie.Need-enum-told
+enum_told : tie.Need-enum_told-1
 enum_told c = search rules
 
 atoms-requires : tie.Need-atoms-requires
 atoms-requires c κs = is_read c
 
-check-rows-requires : tie.Need-check-rows-requires
+check-rows-requires : tie.Need-check_rows-requires
 check-rows-requires c κs = search rules
 
-returns-2 : tie.Need-returns-2
+returns-2 : tie.Need-returns
 returns-2 c =
     let n = c.before in
     let t = n.before in
     let s = (start (was_read t)).args in
-    both_clauses s.image.now s.clauses.now (is_read t) n.atoms.result n.atoms.ensures.0 c.check-rows.result c.check-rows.ensures
+    both_clauses s.image.now s.clauses.now (is_read t) n.atoms.result n.atoms.ensures.0 c.check_rows.result c.check_rows.ensures
 
 pub read_spec : {M : Type 1} → statement M
 read_spec =

@@ -39,74 +39,80 @@ room : (s : tie.Start) → 0 + length (whole s) ≤ length s.args.target.now
 room s = let p = s.requires.2 in omega arith
 
 -- the number of operators is known
-abbrev lent : tie.After-operators → tie.After-shared-slice-known4
+abbrev lent : tie.After-operators-operators → tie.After-shared_slice_known-4-1
 lent c = c.before.before.before
 
-abbrev shared : tie.After-operators → tie.After-shared-slice-known
+abbrev shared : tie.After-operators-operators → tie.After-shared_slice_known-1
 shared c = (lent c).before.before.before
 
-abbrev start : tie.After-operators → tie.Start
+abbrev start : tie.After-operators-operators → tie.Start
 start c = (shared c).before
 
 -- the directory is that of the image
-directory_is : (c : tie.After-operators) → let s = start c in header s ≡ directory_of s.args.count c.operators.result s.args.lengths.now
-directory_is c = sym (ap₂ (directory_of (start c).args.count) c.operators.ensures.0 (start c).requires.1.lengths)
+directory_is : (c : tie.After-operators-operators) → let s = start c in header s ≡ directory_of s.args.count c.operators-operators.result s.args.lengths.now
+directory_is c = sym (ap₂ (directory_of (start c).args.count) c.operators-operators.ensures.0 (start c).requires.1.lengths)
 
 -- after the directory
-abbrev counted : tie.After-directory → tie.After-operators
+abbrev counted : tie.After-directory-variables → tie.After-operators-operators
 counted c = c.before.before
 
-abbrev begun : tie.After-directory → tie.Start
+abbrev begun : tie.After-directory-variables → tie.Start
 begun c = start (counted c)
 
-second : (c : tie.After-directory) → Left (begun c) c.directory.new.1.1.1.0 c.directory.result (groups (begun c) ++ task (begun c))
-second c = write_part (first (begun c)) (wrote_same (directory_is (counted c)) c.directory.ensures)
+second : (c : tie.After-directory-variables) → Left (begun c) c.directory-variables.new.target c.directory-variables.result (groups (begun c) ++ task (begun c))
+second c = write_part (first (begun c)) (wrote_same (directory_is (counted c)) c.directory-variables.ensures)
 
 -- after the cover
-abbrev back : tie.After-write → tie.After-slice-known2
+abbrev back : tie.After-write-values → tie.After-slice_known-2-1
 back c = c.before.before
 
-abbrev headed : tie.After-write → tie.After-directory
+abbrev headed : tie.After-write-values → tie.After-directory-variables
 headed c = (back c).before.before
 
-third : (c : tie.After-write) → Left (begun (headed c)) c.write.new.1.1.1.1.0 c.write.result (task (begun (headed c)))
-third c = write_part (second (headed c)) c.write.ensures
+third : (c : tie.After-write-values) → Left (begun (headed c)) c.write-values.new.target c.write-values.result (task (begun (headed c)))
+third c = write_part (second (headed c)) c.write-values.ensures
 
-abbrev covered : tie.After-write-parts-arg → tie.After-write
+abbrev covered : tie.After-write_parts-arg-1 → tie.After-write-values
 covered c = c.before.before.before
 
-operators-requires : tie.Need-operators-requires
+operators-requires : tie.Need-operators-operators-requires
 operators-requires c κs = search rules
 
-directory-requires : tie.Need-directory-requires
+directory-requires : tie.Need-directory-variables-requires
 directory-requires c κs =
     let d = c.before in
     let s = start d in
-    let m = s.pre.1 in
+    let m = s.requires.1 in
     let fits = part_room (header s) _ (first s) (room s) in
     let size = ap length (directory_is d) in
-    directory_given _ s.pre.0 _ m.laid.valued.few _ _ _ d.operators.ensures.0 m.lengths (omega arith)
+    directory_given _ s.requires.0 _ m.laid.valued.few _ _ _ d.operators-operators.ensures.0 m.lengths (omega arith)
 
-write-requires : tie.Need-write-requires
+write-requires : tie.Need-write-values-requires
 write-requires c κs =
     let d = c.before.before.before in
     let s = begun d in
-    (s.pre.1.laid.domained, part_room (groups s) _ (second d) (room s))
+    (s.requires.1.laid.domained, part_room (groups s) _ (second d) (room s))
 
-write-parts-requires : tie.Need-write-parts-requires
+write-parts-requires : tie.Need-write_parts-requires
 write-parts-requires c κs =
     let d = covered c in
     let s = begun (headed d) in
-    (s.pre.0, s.pre.1.laid.valued, write_room (third d) (room s))
+    (s.requires.0, s.requires.1.laid.valued, write_room (third d) (room s))
 
-same_length : tie.Need-same-length
+same_length : tie.Need-shape_of-target
 same_length c = search rules
 
 returns : tie.Need-returns
 returns c =
     let w = c.before.before in
-    write_last (third (covered w.before)) w.write-parts.ensures
+    write_last (third (covered w.before)) w.write_parts.ensures
 
-pub write-image-spec : {M : Type 1} → statement M
-write-image-spec =
-    tie.close (tie.spec operators-requires directory-requires write-requires write-parts-requires same_length returns)
+pub write_image_spec : {M : Type 1} → statement M
+write_image_spec =
+    tie.close (tie.spec
+    operators-requires
+    directory-requires
+    write-requires
+    write-parts-requires
+    same_length
+    returns)

@@ -33,78 +33,78 @@ unfolding task_by
 first s = write_start
 
 -- the true atoms are read
-abbrev lent : tie.After-initial → tie.After-shared-slice-known2
+abbrev lent : tie.After-initial → tie.After-shared_slice_known-2-1
 lent c = c.before.before.before
 
 abbrev start : tie.After-initial → tie.Start
 start c = (lent c).before.before
 
 -- after the values
-abbrev trues : tie.After-values → tie.After-initial
+abbrev trues : tie.After-values-goal → tie.After-initial
 trues c = c.before.before
 
-abbrev begun : tie.After-values → tie.Start
+abbrev begun : tie.After-values-goal → tie.Start
 begun c = start (trues c)
 
 wrote_values :
-    (c : tie.After-values) → let s = begun c in
-    Wrote s.args.target.now s.args.at (values s) c.values.new.1.1.1.1.0 c.values.result
-wrote_values c = rw (trues c).initial.ensures at c.values.ensures
+    (c : tie.After-values-goal) → let s = begun c in
+    Wrote s.args.target.now s.args.at (values s) c.values-goal.new.target c.values-goal.result
+wrote_values c = rw (trues c).initial.ensures at c.values-goal.ensures
 
-second : (c : tie.After-values) → Left (begun c) c.values.new.1.1.1.1.0 c.values.result (goals (begun c) ++ operators (begun c))
+second : (c : tie.After-values-goal) → Left (begun c) c.values-goal.new.target c.values-goal.result (goals (begun c) ++ operators (begun c))
 second c = write_part (first (begun c)) (wrote_values c)
 
 -- after the goal
-abbrev valued : tie.After-goal → tie.After-values
+abbrev valued : tie.After-goal → tie.After-values-goal
 valued c = c.before.before.before
 
-abbrev goal : tie.After-literals → tie.After-goal
+abbrev goal : tie.After-literals-operators → tie.After-goal
 goal c = c.before.before
 
-abbrev task : tie.After-literals → tie.Start
+abbrev task : tie.After-literals-operators → tie.Start
 task c = begun (valued (goal c))
 
-third : (c : tie.After-literals) → Left (task c) c.literals.new.1.1.0 c.literals.result (operators (task c))
-third c = write_part (second (valued (goal c))) (rw (goal c).goal.ensures at c.literals.ensures)
+third : (c : tie.After-literals-operators) → Left (task c) c.literals-operators.new.target c.literals-operators.result (operators (task c))
+third c = write_part (second (valued (goal c))) (rw (goal c).goal.ensures at c.literals-operators.ensures)
 
-abbrev literals : tie.After-operators-arg → tie.After-literals
+abbrev literals : tie.After-operators-arg-1 → tie.After-literals-operators
 literals c = c.before.before.before
 
 initial-requires : tie.Need-initial-requires
 initial-requires c κs = search rules
 
-values-requires : tie.Need-values-requires
+values-requires : tie.Need-values-goal-requires
 values-requires c κs =
     let d = c.before in
     let s = start d in
     let a = s.args in
-    let v = s.pre.1 in
+    let v = s.requires.1 in
     let e = atoms_of_lem a.image.now a.places.now a.sizes.now a.count v in
     let n = values_length a.image.now a.places.now a.sizes.now a.count v in
-    let room = part_room (values s) _ (first s) s.pre.2 in
-    (record { below = rw (d.initial.ensures, ← e) (initial_below _ s.pre.0); variable = λ x h. v.variable x (omega arith) }, v.sizes, omega arith)
+    let room = part_room (values s) _ (first s) s.requires.2 in
+    (record { below = rw (d.initial.ensures, ← e) (initial_below _ s.requires.0); variable = λ x h. v.variable x (omega arith) }, v.sizes, omega arith)
 
 goal-requires : tie.Need-goal-requires
 goal-requires c κs = search rules
 
-literals-requires : tie.Need-literals-requires
+literals-requires : tie.Need-literals-operators-requires
 literals-requires c κs =
     let d = c.before in
     let s = begun (valued d) in
     let a = s.args in
-    let e = atoms_of_lem a.image.now a.places.now a.sizes.now a.count s.pre.1 in
-    let room = part_room (goals s) _ (second (valued d)) s.pre.2 in
-    (record { low = s.pre.1.low; room = rw d.goal.ensures room }, rw (d.goal.ensures, ← e) (goal_below _ s.pre.0))
+    let e = atoms_of_lem a.image.now a.places.now a.sizes.now a.count s.requires.1 in
+    let room = part_room (goals s) _ (second (valued d)) s.requires.2 in
+    (record { low = s.requires.1.low; room = rw d.goal.ensures room }, rw (d.goal.ensures, ← e) (goal_below _ s.requires.0))
 
 operators-requires : tie.Need-operators-requires
 operators-requires c κs =
     let d = literals c in
     let s = task d in
     let a = s.args in
-    let e = atoms_of_lem a.image.now a.places.now a.sizes.now a.count s.pre.1 in
-    (s.pre.0, e, record { low = s.pre.1.low; room = write_room (third d) s.pre.2 })
+    let e = atoms_of_lem a.image.now a.places.now a.sizes.now a.count s.requires.1 in
+    (s.requires.0, e, record { low = s.requires.1.low; room = write_room (third d) s.requires.2 })
 
-same_length : tie.Need-same-length
+same_length : tie.Need-shape_of-target
 same_length c = search rules
 
 returns : tie.Need-returns
@@ -112,8 +112,8 @@ returns c =
     let o = c.before.before in
     write_last (third (literals o.before)) o.operators.ensures
 
-pub write-parts-spec : {M : Type 1} → statement M
-write-parts-spec =
+pub write_parts_spec : {M : Type 1} → statement M
+write_parts_spec =
     tie.close
     (tie.spec
     initial-requires

@@ -8,17 +8,20 @@ use Rattle.synthesis.proofs.are_buffers.Tie as tie
 bytes-requires : tie.Need-bytes-requires
 bytes-requires c κs = search rules
 
-returns : tie.Need-returns
+returns : tie.Need-returns-then-marks-bytes
 returns c =
     let b = c.before in
-    let a = b.before.args in
-    buffers_marks a.atoms a.words a.work a.marks (omega (arith, c.if1.true, b.bytes.ensures))
+    let a = b.args in
+    buffers_marks a.atoms a.words a.work a.marks (omega (arith, c.if-marks-bytes.true, b.bytes.ensures))
 
-returns-2 : tie.Need-returns-2
+returns-2 : tie.Need-returns
 returns-2 c =
     let b = c.before in
-    let a = b.before.args in
-    buffers_work a.atoms a.words a.work a.marks (omega (arith, c.if1.false, b.bytes.ensures))
+    let a = b.args in
+    buffers_work a.atoms a.words a.work a.marks (omega (arith, c.if-marks-bytes.false, b.bytes.ensures))
 
-pub are-buffers-spec : {M : Type 1} → statement M
-are-buffers-spec = tie.close (tie.spec bytes-requires returns returns-2)
+pub are_buffers_spec : {M : Type 1} → statement M
+are_buffers_spec = tie.close (tie.spec
+    bytes-requires
+    returns
+    returns-2)

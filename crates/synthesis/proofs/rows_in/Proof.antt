@@ -5,13 +5,15 @@ use borrow.Author.Rules.{rules}
 use Rattle.synthesis.proofs.rows_in.Statement.{statement}
 use Rattle.synthesis.proofs.rows_in.Tie as tie
 
-returns : tie.Need-returns
+returns : tie.Need-returns-then-rows-lt-MOST_ROWS
 unfolding width most_rows
-returns c = rows_few c.before.args.words c.if1.true
+returns c = rows_few c.args.words c.if-rows-lt-MOST_ROWS.true
 
-returns-2 : tie.Need-returns-2
+returns-2 : tie.Need-returns-else-rows-lt-MOST_ROWS
 unfolding width most_rows
-returns-2 c = rows_most c.before.args.words c.if1.false
+returns-2 c = rows_most c.args.words c.if-rows-lt-MOST_ROWS.false
 
-pub rows-in-spec : {M : Type 1} → statement M
-rows-in-spec = tie.close (tie.spec returns returns-2)
+pub rows_in_spec : {M : Type 1} → statement M
+rows_in_spec = tie.close (tie.spec
+    returns
+    returns-2)

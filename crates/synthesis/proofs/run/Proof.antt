@@ -29,18 +29,18 @@ pub record Invariant (image : List ℕ) (atoms n limit rows clauses₀ work₀ m
   pub marks_kept : marks ≡ marks₀
   pub set : Standing image atoms n limit rows clauses count made (outcome_of image n limit rows)
 
-abbrev invariant-loop : tie.invariant-loop
+abbrev invariant-loop : tie.invariant-loop-end
 invariant-loop image atoms n limit rows clauses₀ work₀ marks₀ count₀ made₀ clauses work marks count made =
     Invariant image atoms n limit rows (length clauses₀) (length work₀) (length marks₀) clauses (length work) (length marks) count made
 
-abbrev decreases-loop : tie.decreases-loop
+abbrev decreases-loop : tie.decreases-loop-end
 decreases-loop image atoms n limit rows clauses₀ work₀ marks₀ count₀ made₀ clauses work marks count made = limit - made
 
 -- at the loop's head: the start, the image, the clause buffer, the numbers of rows and of rounds
 abbrev head : Type 0
-head = tie.At-loop invariant-loop decreases-loop
+head = tie.At-loop-end invariant-loop decreases-loop
 
-abbrev known : head → tie.After-slice-known invariant-loop decreases-loop
+abbrev known : head → tie.After-slice_known-1 invariant-loop decreases-loop
 known h = h.before.before.before
 
 abbrev start : head → tie.Start invariant-loop decreases-loop
@@ -50,31 +50,31 @@ abbrev image : head → List ℕ
 image h = (start h).args.image.now
 
 abbrev buffer : head → List ℕ
-buffer h = h.loop.clauses
+buffer h = h.loop-end.clauses
 
 abbrev count : head → ℕ
-count h = h.loop.count
+count h = h.loop-end.count
 
 abbrev made : head → ℕ
-made h = h.loop.made
+made h = h.loop-end.made
 
 standing :
     (h : head) → let a = (start h).args in
     Standing (image h) a.atoms a.n a.limit a.rows (buffer h) (count h) (made h) (outcome_of (image h) a.n a.limit a.rows)
-standing h = h.loop.inv.set
+standing h = h.loop-end.invariant.set
 
 -- after a round: the head, the work buffer, what the round came to
 abbrev after_round : Type 0
-after_round = tie.After-round invariant-loop decreases-loop
+after_round = tie.After-round-step invariant-loop decreases-loop
 
-abbrev lent : after_round → tie.After-round-arg invariant-loop decreases-loop
-lent d = d.before.before.before
+abbrev lent : after_round → tie.After-round-arg-1 invariant-loop decreases-loop
+lent d = d.before.before
 
 abbrev head_of : after_round → head
 head_of d = (lent d).before
 
 abbrev work : after_round → List ℕ
-work d = d.round.last.1.1.1.1.1.1.1.1.0
+work d = d.round-step.new.work
 
 abbrev Comes : after_round → Step → Type 0
 Comes d r =
@@ -82,41 +82,40 @@ Comes d r =
     let a = (start h).args in
     Stepped (task_of (image h)) a.n a.rows (eqb (made h) a.limit) (clauses_of (take (width * count h) (buffer h))) (work d) r
 
-comes : (d : after_round) (r : Step) → d.round.result ≡ r → Comes d r
-comes d r e = subst (λ (z : Step). Comes d z) e d.round.ensures
+comes : (d : after_round) (r : Step) → d.round-step.result ≡ r → Comes d r
+comes d r e = subst (λ (z : Step). Comes d z) e d.round-step.ensures
 
 -- where its step is looked at
-abbrev back_marks : tie.After-slice-known5 invariant-loop decreases-loop → tie.After-slice-known4 invariant-loop decreases-loop
+abbrev back_marks : tie.After-slice_known-in-loop-end-2-1 invariant-loop decreases-loop → tie.After-slice_known-in-loop-end-1 invariant-loop decreases-loop
 back_marks c = c.before.before
 
-abbrev round_of : tie.After-slice-known5 invariant-loop decreases-loop → after_round
+abbrev round_of : tie.After-slice_known-in-loop-end-2-1 invariant-loop decreases-loop → after_round
 round_of c = (back_marks c).before.before
 
 -- where the rounds end
-abbrev last_round : tie.After-step invariant-loop decreases-loop → after_round
-last_round c = round_of c.before.before
+abbrev last_round : tie.In-Ended invariant-loop decreases-loop → after_round
+last_round c = round_of c.before
 
 -- where the clause buffer is given back after the last round
-abbrev ended_at : tie.After-slice-known6 invariant-loop decreases-loop → tie.After-step invariant-loop decreases-loop
+abbrev ended_at : tie.After-slice_known-in-Ended-1 invariant-loop decreases-loop → tie.In-Ended invariant-loop decreases-loop
 ended_at c =
-    let f = c.before.before in
-    f.before.before.before
+    let p = c.before.before.before in p.before
 
-abbrev ended_by : tie.After-slice-known6 invariant-loop decreases-loop → after_round
+abbrev ended_by : tie.After-slice_known-in-Ended-1 invariant-loop decreases-loop → after_round
 ended_by c = last_round (ended_at c)
 
 -- where there is a next set
 abbrev next : Type 0
-next = tie.After-step2 invariant-loop decreases-loop
+next = tie.In-Next invariant-loop decreases-loop
 
 abbrev before_next : next → after_round
-before_next c = round_of c.before.before
+before_next c = round_of c.before
 
 abbrev next_count : next → ℕ
-next_count c = c.step2.given.0.0
+next_count c = c.in-Next.next
 
 advanced : (c : next) → Comes (before_next c) (Next (next_count c))
-advanced c = comes (before_next c) (Next (next_count c)) c.step2.given.1
+advanced c = comes (before_next c) (Next (next_count c)) c.in-Next.is
 
 more : (c : next) → let h = head_of (before_next c) in made h < (start h).args.limit
 more c =
@@ -125,15 +124,14 @@ more c =
     standing_below (image h) a.atoms a.n a.limit a.rows (buffer h) (count h) (made h) _ (standing h) (advanced c).more
 
 -- where it is copied
-abbrev copied : tie.After-slice-known7 invariant-loop decreases-loop → tie.After-take-rows invariant-loop decreases-loop
+abbrev copied : tie.After-slice_known-in-Next-1 invariant-loop decreases-loop → tie.After-take_rows invariant-loop decreases-loop
 copied c = c.before.before
 
-abbrev next_at : tie.After-slice-known7 invariant-loop decreases-loop → next
+abbrev next_at : tie.After-slice_known-in-Next-1 invariant-loop decreases-loop → next
 next_at c =
-    let t = (copied c).before.before in
-    t.before.before
+    (copied c).before.before
 
-loop-holds : tie.Need-loop-init invariant-loop decreases-loop
+loop-holds : tie.Need-loop-end-init invariant-loop decreases-loop
 loop-holds c =
     let k = c.before.before.before in
     let s = k.before in
@@ -144,11 +142,11 @@ loop-holds c =
       set = standing_start _ _ _ _ _ _ _ _ s.requires;
     }
 
-round-requires : tie.Need-round-requires invariant-loop decreases-loop
+round-requires : tie.Need-round-step-requires invariant-loop decreases-loop
 round-requires c κs =
-    let h = c.before.before.before in
+    let h = c.before.before in
     let p = (start h).requires in
-    let i = h.loop.invariant in (
+    let i = h.loop-end.invariant in (
       standing_words _ _ _ _ _ _ _ _ _ i.set,
       record {
         round = i.set.round;
@@ -157,46 +155,46 @@ round-requires c κs =
       },
     )
 
-enum-known-step : tie.Need-enum-known-step invariant-loop decreases-loop
-enum-known-step c = c.match.keys1
+enum-known-step : tie.Need-enum_known-step invariant-loop decreases-loop
+enum-known-step c = c.in-Ended-1.keys1
 
 finish-requires : tie.Need-finish-requires invariant-loop decreases-loop
 finish-requires c κs =
-    let h = head_of (last_round c.before.before) in
+    let h = head_of (last_round c.before) in
     standing_words _ _ _ _ _ _ _ _ _ (standing h)
 
-same_length : tie.Need-same-length invariant-loop decreases-loop
+same_length : tie.Need-shape_of-clauses-in-Ended invariant-loop decreases-loop
 same_length c =
     let d = ended_by c in
-    c.before.before.finish.auto.0 ∙ (head_of d).loop.inv.clauses_kept
+    c.finish.auto.clauses ∙ (head_of d).loop-end.invariant.clauses_kept
 
-same-length-2 : tie.Need-same-length-2 invariant-loop decreases-loop
+same-length-2 : tie.Need-shape_of-work-in-Ended invariant-loop decreases-loop
 same-length-2 c =
     let d = ended_by c in
-    d.round.kept.1.1.1.1.1.1.1.1.0 ∙ (head_of d).loop.inv.work_kept
+    d.round-step.auto.work ∙ (head_of d).loop-end.invariant.work_kept
 
-same-length-3 : tie.Need-same-length-3 invariant-loop decreases-loop
+same-length-3 : tie.Need-shape_of-marks-in-Ended invariant-loop decreases-loop
 same-length-3 c =
     let d = ended_by c in
-    d.round.kept.1.1.1.1.1.1.1.0 ∙ (head_of d).loop.inv.marks_kept
+    d.round-step.auto.marks ∙ (head_of d).loop-end.invariant.marks_kept
 
-returns : tie.Need-returns invariant-loop decreases-loop
+returns : tie.Need-returns-in-Ended invariant-loop decreases-loop
 returns c =
     let e = ended_at c in
     let d = ended_by c in
     let h = head_of d in
     let a = (start h).args in
-    let how = e.step.given.0.0 in
-    c.before.before.finish.ensures
+    let how = e.in-Ended.end in
+    c.finish.ensures
     ∙ standing_end (image h) a.atoms a.n a.limit a.rows (buffer h) (count h) (made h) _ (standing h) a.clauses.now
-    h.loop.inv.clauses_kept (work d) how (comes d (Ended how) e.step.given.1)
+    h.loop-end.invariant.clauses_kept (work d) how (comes d (Ended how) e.in-Ended.is)
 
-enum-known-step-2 : tie.Need-enum-known-step-2 invariant-loop decreases-loop
-enum-known-step-2 c = c.match.keys2
+enum-known-step-2 : tie.Need-enum_known-step-in-Next-1 invariant-loop decreases-loop
+enum-known-step-2 c = c.in-Next-1.keys2
 
-take-rows-requires : tie.Need-take-rows-requires invariant-loop decreases-loop
+take-rows-requires : tie.Need-take_rows-requires invariant-loop decreases-loop
 take-rows-requires c κs =
-    let e = c.before.before.before in
+    let e = c.before in
     let d = before_next e in
     let h = head_of d in
     let a = (start h).args in (
@@ -204,27 +202,27 @@ take-rows-requires c κs =
       next_room (image h) a.atoms a.n a.limit a.rows (buffer h) (count h) (made h) _ (standing h) (next_count e) (work d) (buffer h) (advanced e),
     )
 
-add-made : tie.Need-overflow-add-made invariant-loop decreases-loop
+add-made : tie.Need-overflow_add-made invariant-loop decreases-loop
 add-made c = omega (arith, more (next_at c))
 
-loop-less : tie.Need-loop-smaller invariant-loop decreases-loop
+loop-less : tie.Need-loop-end-smaller invariant-loop decreases-loop
 loop-less c = omega (arith, more (next_at c))
 
-loop-again : tie.Need-loop-preserved invariant-loop decreases-loop
+loop-again : tie.Need-loop-end-preserved invariant-loop decreases-loop
 loop-again c =
     let e = next_at c in
     let d = before_next e in
     let h = head_of d in
     let a = (start h).args in
-    let i = h.loop.inv in
-    let t = (copied c).take-rows in
+    let i = h.loop-end.invariant in
+    let t = (copied c).take_rows in
     record {
-      clauses_kept = t.kept.1.1.0 ∙ i.clauses_kept;
-      work_kept = d.round.kept.1.1.1.1.1.1.1.1.0 ∙ i.work_kept;
-      marks_kept = d.round.kept.1.1.1.1.1.1.1.0 ∙ i.marks_kept;
+      clauses_kept = t.auto.clauses ∙ i.clauses_kept;
+      work_kept = d.round-step.auto.work ∙ i.work_kept;
+      marks_kept = d.round-step.auto.marks ∙ i.marks_kept;
       set =
           standing_next (image h) a.atoms a.n a.limit a.rows (buffer h) (count h) (made h) _ (standing h) (next_count e) (work d)
-          t.last.1.1.0 (advanced e) t.ensures t.kept.1.1.0;
+          t.new.clauses (advanced e) t.ensures t.auto.clauses;
     }
 
 pub run_spec : {M : Type 1} → statement M

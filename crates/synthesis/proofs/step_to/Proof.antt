@@ -5,17 +5,21 @@ use borrow.Author.Rules.{rules}
 use Rattle.synthesis.proofs.step_to.Statement.{statement}
 use Rattle.synthesis.proofs.step_to.Tie as tie
 
-enum_told : tie.Need-enum-told
+enum_told : tie.Need-enum_told-1
 enum_told c = search rules
 
-enum-known-built : tie.Need-enum-known-built
+enum-known-built : tie.Need-enum_known-built
 enum-known-built c = search rules
 
-returns : tie.Need-returns
-returns c = ap step_of (sym c.enum_told.given.1)
+returns : tie.Need-returns-in-Full
+returns c = ap step_of (sym c.in-Full.is)
 
-returns-2 : tie.Need-returns-2
-returns-2 c = ap step_of (sym c.before.built.given.1)
+returns-2 : tie.Need-returns-in-Rows
+returns-2 c = ap step_of (sym c.in-Rows.is)
 
-pub step-to-spec : {M : Type 1} → statement M
-step-to-spec = tie.close (tie.spec enum_told enum-known-built returns returns-2)
+pub step_to_spec : {M : Type 1} → statement M
+step_to_spec = tie.close (tie.spec
+    enum_told
+    enum-known-built
+    returns
+    returns-2)

@@ -12,37 +12,42 @@ use Rattle.synthesis.proofs.take_rows.Statement.{statement}
 use Rattle.synthesis.proofs.take_rows.Tie as tie
 
 -- where the rows are shared: the start, and as many words as they have
-abbrev start : tie.After-words-arg → tie.Start
+abbrev start : tie.After-words-arg-1 → tie.Start
 start d = d.before.before.before
 
-size : (d : tie.After-words-arg) → let a = (start d).args in length (take (width * a.count) a.work.now) ≡ width * a.count
+size : (d : tie.After-words-arg-1) → let a = (start d).args in length (take (width * a.count) a.work.now) ≡ width * a.count
 size d =
     let a = (start d).args in
     length-take-le (width * a.count) a.work.now (start d).requires.0
 
-mul-end : tie.Need-overflow-mul-end
+mul-end : tie.Need-overflow_mul-end
 unfolding width
 mul-end c = search rules
 
-slice-aggregate-words : tie.Need-slice-aggregate-words
+slice-aggregate-words : tie.Need-slice_bounds-words-end
 unfolding width
-slice-aggregate-words c = sym (size c)
+slice-aggregate-words c = sym (length-take-le (width * c.args.count) c.args.work.now c.requires.0)
 
 words-requires : tie.Need-words-requires
 unfolding width
-words-requires c κs = omega (arith, size c.before, (start c.before).requires.1)
+words-requires c κs = omega (arith, size c, (start c).requires.1)
 
-same_length : tie.Need-same-length
+same_length : tie.Need-shape_of-clauses
 same_length c = search rules
 
 returns : tie.Need-returns
 unfolding width
 returns c =
     let t = c.before.before in
-    let d = t.before.before in
+    let d = t.before in
     let a = (start d).args in
     wrote_front (omega (arith, size d, (start d).requires.1)) t.words.ensures
     ∙ ap (λ (k : ℕ). take (width * a.count) a.work.now ++ drop k a.clauses.now) (size d)
 
-pub take-rows-spec : {M : Type 1} → statement M
-take-rows-spec = tie.close (tie.spec mul-end slice-aggregate-words words-requires same_length returns)
+pub take_rows_spec : {M : Type 1} → statement M
+take_rows_spec = tie.close (tie.spec
+    mul-end
+    slice-aggregate-words
+    words-requires
+    same_length
+    returns)

@@ -10,44 +10,44 @@ use borrow.Author.Rules.{rules}
 use Rattle.clause_set.proofs.words.move_up.Statement.{statement}
 use Rattle.clause_set.proofs.words.move_up.Tie as tie
 
-abbrev invariant-loop : tie.invariant-loop
+abbrev invariant-loop : tie.invariant-loop-i
 invariant-loop words₀ from end i₀ words i = (from ≤ i) × (i ≤ end) × (length words ≡ length words₀) × (words ≡ moved words₀ width end i)
 
-abbrev decreases-loop : tie.decreases-loop
+abbrev decreases-loop : tie.decreases-loop-i
 decreases-loop words₀ from end i₀ words i = i - from
 
-loop-holds : tie.Need-loop-init invariant-loop decreases-loop
+loop-holds : tie.Need-loop-i-init invariant-loop decreases-loop
 loop-holds c = (search rules, search rules, search rules, move_start c.args.words.now width c.args.end c.requires.1)
 
-sub-i : tie.Need-overflow-sub-i invariant-loop decreases-loop
+sub-i : tie.Need-overflow_sub-i invariant-loop decreases-loop
 sub-i c = search rules
 
-mul_words : tie.Need-overflow-mul-words invariant-loop decreases-loop
+mul_words : tie.Need-offset_bounds-words-i invariant-loop decreases-loop
 mul_words c = search rules
 
-slice-read-words : tie.Need-slice-read-words invariant-loop decreases-loop
+slice-read-words : tie.Need-bounds-words-i invariant-loop decreases-loop
 slice-read-words c = search rules
 
-add_words : tie.Need-overflow-add-words invariant-loop decreases-loop
+add_words : tie.Need-overflow_add-words invariant-loop decreases-loop
 unfolding width
 add_words c = search rules
 
-mul-words-2 : tie.Need-overflow-mul-words-2 invariant-loop decreases-loop
+mul-words-2 : tie.Need-offset_bounds-words-i-in-loop-i invariant-loop decreases-loop
 unfolding width
 mul-words-2 c = search rules
 
-slice-write-words : tie.Need-slice-write-words invariant-loop decreases-loop
+slice-write-words : tie.Need-bounds-words-i-in-loop-i invariant-loop decreases-loop
 unfolding width
 slice-write-words c = search rules
 
-loop-less : tie.Need-loop-smaller invariant-loop decreases-loop
+loop-less : tie.Need-loop-i-smaller invariant-loop decreases-loop
 loop-less c = search rules
 
-loop-again : tie.Need-loop-preserved invariant-loop decreases-loop
+loop-again : tie.Need-loop-i-preserved invariant-loop decreases-loop
 unfolding width
 loop-again c =
-    let l = c.before.before.loop in
-    let a = c.before.before.before.args in
+    let l = c.loop-i in
+    let a = c.args in
     let i = l.i - 1 in
     let e : l.i ≡ suc i = omega arith in
     let h : l.words ≡ moved a.words.now width a.end (suc i) = l.invariant.3 ∙ ap (moved a.words.now width a.end) e in (
@@ -55,17 +55,17 @@ loop-again c =
       search rules,
       simp length-set l.invariant.2,
       rw h
-          (rw (move_read a.words.now width a.end c.before.before.before.requires.1 i (omega arith))
-          (move_on a.words.now width a.end c.before.before.before.requires.1 i (omega arith))),
+          (rw (move_read a.words.now width a.end c.requires.1 i (omega arith))
+          (move_on a.words.now width a.end c.requires.1 i (omega arith))),
     )
 
-same_length : tie.Need-same-length invariant-loop decreases-loop
+same_length : tie.Need-shape_of-words invariant-loop decreases-loop
 same_length c = search rules
 
 returns : tie.Need-returns invariant-loop decreases-loop
 returns c =
-    let l = c.before.loop in
-    let a = c.before.before.args in
+    let l = c.loop-i in
+    let a = c.args in
     let e : l.i ≡ a.from = omega arith in
     l.invariant.3 ∙ ap (moved a.words.now width a.end) e
 

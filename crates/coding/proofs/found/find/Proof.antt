@@ -11,39 +11,39 @@ use borrow.Author.Rules.{rules}
 use Rattle.coding.proofs.found.find.Statement.{statement}
 use Rattle.coding.proofs.found.find.Tie as tie
 
-abbrev invariant-loop : tie.invariant-loop
+abbrev invariant-loop : tie.invariant-loop-a
 invariant-loop image state values₀ a₀ values a = (a ≤ length state) × (length values ≡ length values₀) × Walked (fdr_of image) state a values
 
-abbrev decreases-loop : tie.decreases-loop
+abbrev decreases-loop : tie.decreases-loop-a
 decreases-loop image state values₀ a₀ values a = length state - a
 
 -- where an atom was noted: its value, its variable, the loop, and the start
-abbrev noted_of : tie.After-slice-known2 invariant-loop decreases-loop → tie.After-note invariant-loop decreases-loop
+abbrev noted_of : tie.After-slice_known-in-loop-a-1 invariant-loop decreases-loop → tie.After-note invariant-loop decreases-loop
 noted_of c = c.before.before
 
-abbrev value_of : tie.After-note invariant-loop decreases-loop → tie.After-atom-value invariant-loop decreases-loop
+abbrev value_of : tie.After-note invariant-loop decreases-loop → tie.After-atom_value-value invariant-loop decreases-loop
 value_of c = c.before.before.before
 
-abbrev at_shared_slice : tie.At-loop invariant-loop decreases-loop → tie.After-shared-slice-known invariant-loop decreases-loop
+abbrev at_shared_slice : tie.At-loop-a invariant-loop decreases-loop → tie.After-shared_slice_known-1 invariant-loop decreases-loop
 at_shared_slice c = c.before.before.before
 
-abbrev start : tie.At-loop invariant-loop decreases-loop → tie.Start invariant-loop decreases-loop
+abbrev start : tie.At-loop-a invariant-loop decreases-loop → tie.Start invariant-loop decreases-loop
 start c = (at_shared_slice c).before
 
-loop-holds : tie.Need-loop-init invariant-loop decreases-loop
-loop-holds c = (omega arith, refl, walked_none _ _ _ c.before.before.before.requires.empty)
+loop-holds : tie.Need-loop-a-init invariant-loop decreases-loop
+loop-holds c = (omega arith, refl, walked_none _ _ _ c.requires.empty)
 
-atom-variable-requires : tie.Need-atom-variable-requires invariant-loop decreases-loop
+atom-variable-requires : tie.Need-atom_variable-variable-requires invariant-loop decreases-loop
 atom-variable-requires c κs =
     let s = start c.before in
-    (s.pre.reads, omega (arith, s.pre.source))
+    (s.requires.reads, omega (arith, s.requires.source))
 
-atom-value-requires : tie.Need-atom-value-requires invariant-loop decreases-loop
+atom-value-requires : tie.Need-atom_value-value-requires invariant-loop decreases-loop
 atom-value-requires c κs =
     let s = start c.before.before in
-    (s.pre.reads, omega (arith, s.pre.source))
+    (s.requires.reads, omega (arith, s.requires.source))
 
-shared-slice-read-note : tie.Need-shared-slice-read-note invariant-loop decreases-loop
+shared-slice-read-note : tie.Need-bounds-state-a invariant-loop decreases-loop
 shared-slice-read-note c = search rules
 
 note-requires : tie.Need-note-requires invariant-loop decreases-loop
@@ -52,31 +52,31 @@ note-requires c κs =
     let v = x.before in
     let l = v.before.before in
     let few = variables_are _ (start l).requires.reads in
-    (omega (arith, few.0, few.1, v.atom-variable.ensures.1, l.loop.invariant.2.size), x.atom-value.ensures.1)
+    (omega (arith, few.0, few.1, v.atom_variable-variable.ensures.1, l.loop-a.invariant.2.size), x.atom_value-value.ensures.1)
 
-same_length : tie.Need-same-length invariant-loop decreases-loop
+same_length : tie.Need-shape_of-values-then-not-note invariant-loop decreases-loop
 same_length c =
     let k = noted_of c.before in
     let l = (value_of k).before.before.before in
-    k.note.ensures.size ∙ l.loop.inv.1
+    k.note.ensures.size ∙ l.loop-a.invariant.1
 
-returns : tie.Need-returns invariant-loop decreases-loop
+returns : tie.Need-returns-then-not-note invariant-loop decreases-loop
 returns c =
     let k = noted_of c.before in
     let x = value_of k in
     let v = x.before in
     let i = v.before in
     let l = i.before in
-    found_two _ _ l.loop.a _ l.loop.inv.2 i.loop-test.taken (start l).pre.source _ _ _
-    v.atom-variable.ensures.0 x.atom-value.ensures.0 refl v.atom-variable.ensures.1 _ _ k.note.ensures (not-true _ c.if1.true)
+    found_two _ _ l.loop-a.a _ l.loop-a.invariant.2 i.loop-a-test.true (start l).requires.source _ _ _
+    v.atom_variable-variable.ensures.0 x.atom_value-value.ensures.0 refl v.atom_variable-variable.ensures.1 _ _ k.note.ensures (c.if-not-note.true)
 
-add_a : tie.Need-overflow-add-a invariant-loop decreases-loop
+add_a : tie.Need-overflow_add-a invariant-loop decreases-loop
 add_a c = search rules
 
-loop-less : tie.Need-loop-smaller invariant-loop decreases-loop
+loop-less : tie.Need-loop-a-smaller invariant-loop decreases-loop
 loop-less c = search rules
 
-loop-again : tie.Need-loop-preserved invariant-loop decreases-loop
+loop-again : tie.Need-loop-a-preserved invariant-loop decreases-loop
 loop-again c =
     let k = noted_of c.before in
     let x = value_of k in
@@ -84,16 +84,16 @@ loop-again c =
     let i = v.before in
     let l = i.before in (
       omega arith,
-      k.note.ensures.size ∙ l.loop.inv.1,
-      walked_on _ _ l.loop.a _ l.loop.inv.2 i.loop-test.taken (start l).pre.source _ _ _
-          v.atom-variable.ensures.0 x.atom-value.ensures.0 refl _ _ k.note.ensures (not-false _ c.if1.false),
+      k.note.ensures.size ∙ l.loop-a.invariant.1,
+      walked_on _ _ l.loop-a.a _ l.loop-a.invariant.2 i.loop-a-test.true (start l).requires.source _ _ _
+          v.atom_variable-variable.ensures.0 x.atom_value-value.ensures.0 refl _ _ k.note.ensures (c.if-not-note.false),
     )
 
-same-length-2 : tie.Need-same-length-2 invariant-loop decreases-loop
-same-length-2 c = c.before.loop.invariant.1
+same-length-2 : tie.Need-shape_of-values invariant-loop decreases-loop
+same-length-2 c = c.loop-a.invariant.1
 
-returns-2 : tie.Need-returns-2 invariant-loop decreases-loop
-returns-2 c = found_all _ _ _ _ c.before.loop.invariant.2 c.loop-test.false
+returns-2 : tie.Need-returns invariant-loop decreases-loop
+returns-2 c = found_all _ _ _ _ c.loop-a.invariant.2 c.loop-a-test.false
 
 pub find_spec : {M : Type 1} → statement M
 find_spec =

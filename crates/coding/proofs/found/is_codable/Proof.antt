@@ -3,14 +3,17 @@ use borrow.Author.Rules.{rules}
 use Rattle.coding.proofs.found.is_codable.Statement.{statement}
 use Rattle.coding.proofs.found.is_codable.Tie as tie
 
-returns : tie.Need-returns
-returns c = codable_yes _ _ _ c.if1.true
+returns : tie.Need-returns-then-noted-ne0
+returns c = codable_yes _ _ _ c.if-noted-ne0.true
 
-none-flag-requires : tie.Need-none-flag-requires
+none-flag-requires : tie.Need-none_flag-requires
 none-flag-requires c κs = search rules
 
-returns-2 : tie.Need-returns-2
-returns-2 c = codable_none _ _ _ _ c.before.if1.false c.none-flag.ensures
+returns-2 : tie.Need-returns
+returns-2 c = codable_none _ _ _ _ c.if-noted-ne0.false c.none_flag.ensures
 
-pub is-codable-spec : {M : Type 1} → statement M
-is-codable-spec = tie.close (tie.spec returns none-flag-requires returns-2)
+pub is_codable_spec : {M : Type 1} → statement M
+is_codable_spec = tie.close (tie.spec
+    returns
+    none-flag-requires
+    returns-2)

@@ -8,11 +8,14 @@ use Rattle.dimacs.proofs.line.variable.Tie as tie
 atom-requires : tie.Need-atom-requires
 atom-requires c κs = search rules
 
-add-result : tie.Need-overflow-add-result
-add-result c = omega (arith, atom_low c.before.args.l.code, c.atom.ensures)
+add-result : tie.Need-overflow_add-result
+add-result c = omega (arith, atom_low c.args.l.code, c.atom.ensures)
 
 returns : tie.Need-returns
 returns c = search rules
 
-pub variable-spec : {M : Type 1} → statement M
-variable-spec = tie.close (tie.spec atom-requires add-result returns)
+pub variable_spec : {M : Type 1} → statement M
+variable_spec = tie.close (tie.spec
+    atom-requires
+    add-result
+    returns)

@@ -24,36 +24,33 @@ rows s = 32 ∷ decimal s.args.count
 first : (s : tie.Start) → Left s s.args.out.now s.args.at (atoms s ++ (rows s ++ (10 ∷ [])))
 first s = write_same (head_parts s.args.atoms s.args.count) write_start
 
-abbrev lent : tie.After-write-named → tie.After-write-named-arg
-lent c = c.before.before
+abbrev lent : tie.After-write_named-next → tie.After-write_named-arg-1
+lent c = c.before.before.before
 
-abbrev start : tie.After-write-named → tie.Start
+abbrev start : tie.After-write_named-next → tie.Start
 start c = (lent c).before.before
 
-second : (c : tie.After-write-named) → Left (start c) c.write-named.new.0 c.write-named.result (rows (start c) ++ (10 ∷ []))
+second : (c : tie.After-write_named-next) → Left (start c) c.write_named-next.new.out c.write_named-next.result (rows (start c) ++ (10 ∷ []))
 unfolding head_bytes
-second c = write_part (first (start c)) c.write-named.ensures
+second c = write_part (first (start c)) c.write_named-next.ensures
 
-abbrev back : tie.After-write-number → tie.After-slice-known2
+abbrev back : tie.After-write_number-end → tie.After-slice_known-2-1
 back c = c.before.before
 
-abbrev named : tie.After-write-number → tie.After-write-named
+abbrev named : tie.After-write_number-end → tie.After-write_named-next
 named c = (back c).before.before
 
-end : (c : tie.After-write-number) → Left (start (named c)) c.write-number.new.0 c.write-number.result (10 ∷ [])
-end c = write_part (second (named c)) c.write-number.ensures
+end : (c : tie.After-write_number-end) → Left (start (named c)) c.write_number-end.new.out c.write_number-end.result (10 ∷ [])
+end c = write_part (second (named c)) c.write_number-end.ensures
 
-abbrev wrote : tie.After-byte-arg → tie.After-write-number
+abbrev wrote : tie.After-byte-arg-1 → tie.After-write_number-end
 wrote c = c.before.before.before
 
-slice-aggregate-write-named : tie.Need-slice-aggregate-write-named
-slice-aggregate-write-named c = search rules
-
-write-named-requires : tie.Need-write-named-requires
+write-named-requires : tie.Need-write_named-next-requires
 unfolding head_bytes
-write-named-requires c κs = let s = c.before.before.before in part_room (atoms s) (rows s ++ (10 ∷ [])) (first s) s.requires
+write-named-requires c κs = let s = c.before.before.before in part_room (atoms s.before) (rows s.before ++ (10 ∷ [])) (first s.before) s.requires
 
-write-number-requires : tie.Need-write-number-requires
+write-number-requires : tie.Need-write_number-end-requires
 write-number-requires c κs =
     let d = c.before.before.before in
     part_room (rows (start d)) (10 ∷ []) (second d) (start d).requires
@@ -61,17 +58,16 @@ write-number-requires c κs =
 byte-requires : tie.Need-byte-requires
 byte-requires c κs = word_room (end (wrote c)) (start (named (wrote c))).requires
 
-same_length : tie.Need-same-length
+same_length : tie.Need-shape_of-out
 same_length c = search rules
 
 returns : tie.Need-returns
 returns c = let b = c.before.before in write_last (end (wrote b.before)) b.byte.ensures
 
-pub write-head-spec : {M : Type 1} → statement M
-write-head-spec =
+pub write_head_spec : {M : Type 1} → statement M
+write_head_spec =
     tie.close
     (tie.spec
-    slice-aggregate-write-named
     write-named-requires
     write-number-requires
     byte-requires

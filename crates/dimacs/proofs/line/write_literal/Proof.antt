@@ -18,17 +18,17 @@ abbrev variable : tie.Start → List ℕ
 variable s = decimal (atom (code s) + 1)
 
 -- after the minus
-abbrev start : tie.After-write-minus → tie.Start
+abbrev start : tie.After-write_minus-to → tie.Start
 start c = c.before.before.before
 
 -- where the variable is known
-abbrev lent : tie.After-variable → tie.After-slice-known2
+abbrev lent : tie.After-variable → tie.After-slice_known-2-1
 lent c = c.before.before
 
-abbrev signed : tie.After-variable → tie.After-write-minus
+abbrev signed : tie.After-variable → tie.After-write_minus-to
 signed c = (lent c).before.before
 
-write-minus-requires : tie.Need-write-minus-requires
+write-minus-requires : tie.Need-write_minus-to-requires
 write-minus-requires c κs =
     let s = c.before.before in
     first_room (literal_word (code s)) (minus_of (code s)) (variable s) s.args.out.now s.args.at (literal_parts (code s)) s.requires
@@ -36,15 +36,15 @@ write-minus-requires c κs =
 variable-requires : tie.Need-variable-requires
 variable-requires c κs = search rules
 
-write-decimal-requires : tie.Need-write-decimal-requires
+write-decimal-requires : tie.Need-write_decimal-requires
 write-decimal-requires c κs =
     let m = signed c in
     let s = start m in
     rw c.variable.ensures
-    (next_room (literal_word (code s)) (minus_of (code s)) (variable s) s.args.out.now s.args.at (literal_parts (code s)) s.pre
-    m.write-minus.ensures)
+    (next_room (literal_word (code s)) (minus_of (code s)) (variable s) s.args.out.now s.args.at (literal_parts (code s)) s.requires
+    m.write_minus-to.ensures)
 
-same_length : tie.Need-same-length
+same_length : tie.Need-shape_of-out
 same_length c = search rules
 
 returns : tie.Need-returns
@@ -52,7 +52,12 @@ returns c =
     let d = c.before.before in
     let v = d.before in
     let m = signed v in
-    wrote_same (literal_parts (code (start m))) (wrote_both m.write-minus.ensures (rw v.variable.ensures at d.write-decimal.ensures))
+    wrote_same (literal_parts (code (start m))) (wrote_both m.write_minus-to.ensures (rw v.variable.ensures at d.write_decimal.ensures))
 
-pub write-literal-spec : {M : Type 1} → statement M
-write-literal-spec = tie.close (tie.spec write-minus-requires variable-requires write-decimal-requires same_length returns)
+pub write_literal_spec : {M : Type 1} → statement M
+write_literal_spec = tie.close (tie.spec
+    write-minus-requires
+    variable-requires
+    write-decimal-requires
+    same_length
+    returns)

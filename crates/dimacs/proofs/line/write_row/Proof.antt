@@ -13,95 +13,92 @@ use borrow.Author.Rules.{rules}
 use Rattle.dimacs.proofs.line.write_row.Statement.{statement}
 use Rattle.dimacs.proofs.line.write_row.Tie as tie
 
-abbrev invariant-loop : tie.invariant-loop
-invariant-loop out₀ at literals to₀ i₀ t7 out to i = (i ≤ length literals) × Writing out₀ at (row_line literals) out to (literals_from i literals)
+abbrev invariant-loop : tie.invariant-loop-i
+invariant-loop out₀ at literals to₀ i₀ out to i = (i ≤ length literals) × Writing out₀ at (row_line literals) out to (literals_from i literals)
 
-abbrev decreases-loop : tie.decreases-loop
-decreases-loop out₀ at literals to₀ i₀ t7 out to i = length literals - i
+abbrev decreases-loop : tie.decreases-loop-i
+decreases-loop out₀ at literals to₀ i₀ out to i = length literals - i
 
-abbrev start : tie.At-loop invariant-loop decreases-loop → tie.Start invariant-loop decreases-loop
+abbrev start : tie.At-loop-i invariant-loop decreases-loop → tie.Start invariant-loop decreases-loop
 start c = c.before.before.before
 
 -- what is left to be written at a place
-abbrev Left : tie.At-loop invariant-loop decreases-loop → List ℕ → ℕ → List ℕ → Type 0
+abbrev Left : tie.At-loop-i invariant-loop decreases-loop → List ℕ → ℕ → List ℕ → Type 0
 Left l out to left = let a = (start l).args in Writing a.out.now a.at (row_line a.literals.now) out to left
 
-abbrev literal : tie.At-loop invariant-loop decreases-loop → ℕ
-literal l = get_or (start l).args.literals.now l.loop.i 0
+abbrev literal : tie.At-loop-i invariant-loop decreases-loop → ℕ
+literal l = get_or (start l).args.literals.now l.loop-i.i 0
 
-abbrev others : tie.At-loop invariant-loop decreases-loop → List ℕ
-others l = literals_from (l.loop.i + 1) (start l).args.literals.now
+abbrev others : tie.At-loop-i invariant-loop decreases-loop → List ℕ
+others l = literals_from (l.loop-i.i + 1) (start l).args.literals.now
 
 field :
-    (t : tie.In-loop invariant-loop decreases-loop) → let l = t.before in
-    Left l l.loop.out l.loop.to (literal_word (literal l) ++ (32 ∷ others l))
-field t = let l = t.before in write_same (row_next (start l).args.literals.now l.loop.i t.loop-test.true) l.loop.invariant.1
+    (t : tie.In-loop-i invariant-loop decreases-loop) → let l = t.before in
+    Left l l.loop-i.out l.loop-i.to (literal_word (literal l) ++ (32 ∷ others l))
+field t = let l = t.before in write_same (row_next (start l).args.literals.now l.loop-i.i t.loop-i-test.true) l.loop-i.invariant.1
 
 -- after the literal
-abbrev in_loop : tie.After-write-literal invariant-loop decreases-loop → tie.In-loop invariant-loop decreases-loop
+abbrev in_loop : tie.After-write_literal-to invariant-loop decreases-loop → tie.In-loop-i invariant-loop decreases-loop
 in_loop c = c.before.before.before
 
 space :
-    (c : tie.After-write-literal invariant-loop decreases-loop) → let l = (in_loop c).before in
-    Left l c.write-literal.new.0 c.write-literal.result (32 ∷ others l)
-space c = write_part (field (in_loop c)) c.write-literal.ensures
+    (c : tie.After-write_literal-to invariant-loop decreases-loop) → let l = (in_loop c).before in
+    Left l c.write_literal-to.new.out c.write_literal-to.result (32 ∷ others l)
+space c = write_part (field (in_loop c)) c.write_literal-to.ensures
 
-abbrev after : tie.After-byte-arg invariant-loop decreases-loop → tie.After-write-literal invariant-loop decreases-loop
+abbrev after : tie.After-byte-arg-1 invariant-loop decreases-loop → tie.After-write_literal-to invariant-loop decreases-loop
 after c = c.before.before.before
 
 -- after the last literal
-end : (c : tie.After-loop invariant-loop decreases-loop) → let l = c.before in Left l l.loop.out l.loop.to (48 ∷ 10 ∷ [])
-end c = let l = c.before in write_same (row_end (start l).args.literals.now l.loop.i c.loop-test.false) l.loop.invariant.1
+end : (c : tie.After-loop-i invariant-loop decreases-loop) → let l = c.before in Left l l.loop-i.out l.loop-i.to (48 ∷ 10 ∷ [])
+end c = let l = c.before in write_same (row_end (start l).args.literals.now l.loop-i.i c.loop-i-test.false) l.loop-i.invariant.1
 
-abbrev done : tie.After-bytes-arg2 invariant-loop decreases-loop → tie.After-loop invariant-loop decreases-loop
+abbrev done : tie.After-bytes-arg-2-1 invariant-loop decreases-loop → tie.After-loop-i invariant-loop decreases-loop
 done c = c.before.before
 
-loop-holds : tie.Need-loop-init invariant-loop decreases-loop
+loop-holds : tie.Need-loop-i-init invariant-loop decreases-loop
 loop-holds c = (omega arith, write_same (row_start _) write_start)
 
-mul-l : tie.Need-overflow-mul-l invariant-loop decreases-loop
+mul-l : tie.Need-offset_bounds-literals-i invariant-loop decreases-loop
 mul-l c = search rules
 
-shared-slice-read-l : tie.Need-shared-slice-read-l invariant-loop decreases-loop
+shared-slice-read-l : tie.Need-bounds-literals-i invariant-loop decreases-loop
 shared-slice-read-l c = search rules
 
-write-literal-requires : tie.Need-write-literal-requires invariant-loop decreases-loop
+write-literal-requires : tie.Need-write_literal-to-requires invariant-loop decreases-loop
 write-literal-requires c κs =
     let t = c.before.before in
-    part_room (literal_word (literal t.before)) _ (field t) (start t.before).pre
+    part_room (literal_word (literal t.before)) _ (field t) (start t.before).requires
 
-byte-requires : tie.Need-byte-requires invariant-loop decreases-loop
-byte-requires c κs = word_room (space (after c)) (start (in_loop (after c)).before).pre
+byte-requires : tie.Need-byte-to-requires invariant-loop decreases-loop
+byte-requires c κs = word_room (space (after c)) (start (in_loop (after c)).before).requires
 
-add-i : tie.Need-overflow-add-i invariant-loop decreases-loop
+add-i : tie.Need-overflow_add-i invariant-loop decreases-loop
 add-i c = search rules
 
-loop-less : tie.Need-loop-smaller invariant-loop decreases-loop
+loop-less : tie.Need-loop-i-smaller invariant-loop decreases-loop
 loop-less c = search rules
 
-loop-again : tie.Need-loop-preserved invariant-loop decreases-loop
+loop-again : tie.Need-loop-i-preserved invariant-loop decreases-loop
 loop-again c =
     let b = c.before.before in
-    (omega arith, write_part (space (after b.before)) b.byte.ensures)
-
-slice-aggregate-bytes : tie.Need-slice-aggregate-bytes invariant-loop decreases-loop
-slice-aggregate-bytes c = search rules
+    (omega arith, write_part (space (after b.before)) b.byte-to.ensures)
 
 bytes-requires : tie.Need-bytes-requires invariant-loop decreases-loop
-bytes-requires c κs = write_room (end (done c)) (start (done c).before).pre
+bytes-requires c κs = write_room (end (done c.before)) (start (done c.before).before).requires
 
-same_length : tie.Need-same-length invariant-loop decreases-loop
+same_length : tie.Need-shape_of-out invariant-loop decreases-loop
 same_length c =
     let b = c.before.before in
-    b.bytes.auto.1.0 ∙ (done b.before).before.loop.inv.1.size
+    b.bytes.auto.target ∙ (done b.before.before).loop-i.invariant.1.size
 
 returns : tie.Need-returns invariant-loop decreases-loop
 returns c =
     let b = c.before.before in
-    write_last (end (done b.before)) b.bytes.ensures
+    write_last (end (done b.before.before)) b.bytes.ensures
 
-pub write-row-spec : {M : Type 1} → statement M
-write-row-spec =
+pub write_row_spec : {M : Type 1} → statement M
+write_row_spec =
     tie.close
     (tie.spec
     invariant-loop
@@ -114,7 +111,6 @@ write-row-spec =
     add-i
     loop-less
     loop-again
-    slice-aggregate-bytes
     bytes-requires
     same_length
     returns)

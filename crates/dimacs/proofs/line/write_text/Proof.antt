@@ -16,7 +16,7 @@ use Rattle.dimacs.proofs.line.write_text.Statement.{statement}
 use Rattle.dimacs.proofs.line.write_text.Tie as tie
 
 -- the number of rows is that of clauses
-abbrev lent : tie.After-rows → tie.After-shared-slice-known
+abbrev lent : tie.After-rows → tie.After-shared_slice_known-1
 lent c = c.before.before
 
 abbrev start : tie.After-rows → tie.Start
@@ -38,30 +38,35 @@ parts : (c : tie.After-rows) → let s = start c in dimacs_text s.args.atoms (cl
 parts c = let s = start c in text_parts s.args.atoms c.rows.result (clauses s) (c.rows.ensures ∙ sym (clauses_length s.args.clauses.now))
 
 -- after the header
-abbrev headed : tie.After-write-rows-arg → tie.After-write-head
+abbrev headed : tie.After-write_rows-arg-1 → tie.After-write_head-to
 headed c = c.before.before.before
 
 rows-requires : tie.Need-rows-requires
 rows-requires c κs = search rules
 
-write-head-requires : tie.Need-write-head-requires
+write-head-requires : tie.Need-write_head-to-requires
 write-head-requires c κs = let s = start c in first_room _ (head c) (lines s) s.args.out.now 0 (parts c) (room s)
 
-write-rows-requires : tie.Need-write-rows-requires
+write-rows-requires : tie.Need-write_rows-requires
 write-rows-requires c κs =
     let h = headed c in
     let r = h.before in
     let s = start r in
-    next_room _ (head r) (lines s) s.args.out.now 0 (parts r) (room s) h.write-head.ensures
+    next_room _ (head r) (lines s) s.args.out.now 0 (parts r) (room s) h.write_head-to.ensures
 
-same_length : tie.Need-same-length
+same_length : tie.Need-shape_of-out
 same_length c = search rules
 
 returns : tie.Need-returns
 returns c =
     let w = c.before.before in
     let h = headed w.before in
-    wrote_same (parts h.before) (wrote_both h.write-head.ensures w.write-rows.ensures)
+    wrote_same (parts h.before) (wrote_both h.write_head-to.ensures w.write_rows.ensures)
 
-pub write-text-spec : {M : Type 1} → statement M
-write-text-spec = tie.close (tie.spec rows-requires write-head-requires write-rows-requires same_length returns)
+pub write_text_spec : {M : Type 1} → statement M
+write_text_spec = tie.close (tie.spec
+    rows-requires
+    write-head-requires
+    write-rows-requires
+    same_length
+    returns)

@@ -9,63 +9,63 @@ use Rattle.dimacs.proofs.rows.read_form.Statement.{statement}
 use Rattle.dimacs.proofs.rows.read_form.Tie as tie
 
 -- where the form was asked, and the start
-abbrev start : tie.After-check-form → tie.Start
+abbrev start : tie.After-check_form-form → tie.Start
 start c = c.before.before.before
 
 -- where the text is of the form
-abbrev asked : tie.After-known-told → tie.After-check-form
-asked c = c.before.before.before
+abbrev asked : tie.In-At → tie.After-check_form-form
+asked c = c.before
 
 form_at :
-    (c : tie.After-known-told) → let s = (start (asked c)).args in
-    FormAt s.atoms s.text.now c.before.form.given.0.0
+    (c : tie.In-At) → let s = (start (asked c)).args in
+    FormAt s.atoms s.text.now c.in-At.from
 form_at c =
     let d = asked c in
     let s = (start d).args in
-    subst (λ (z : Form). Formed s.atoms s.text.now z) c.before.form.given.1 d.check-form.ensures
+    subst (λ (z : Form). Formed s.atoms s.text.now z) c.in-At.is d.check_form-form.ensures
 
-abbrev read : tie.After-read-from → tie.After-known-told
+abbrev read : tie.After-read_from → tie.In-At
 read c = c.before.before
 
-check-form-requires : tie.Need-check-form-requires
+check-form-requires : tie.Need-check_form-form-requires
 check-form-requires c κs = search rules
 
-enum_told : tie.Need-enum-told
+enum_told : tie.Need-enum_told-1
 enum_told c = search rules
 
-refuse-count-requires : tie.Need-refuse-count-requires
+refuse-count-requires : tie.Need-refuse_count-requires
 refuse-count-requires c κs = search rules
 
-enum-known-form : tie.Need-enum-known-form
+enum-known-form : tie.Need-enum_known-form
 enum-known-form c = search rules
 
-read-from-requires : tie.Need-read-from-requires
+read-from-requires : tie.Need-read_from-requires
 read-from-requires c κs =
     let k = c.before in
     let d = asked k in
     let s = start d in
-    form_clauses s.args.atoms s.args.text.now s.args.clauses.now _ (form_at k) s.pre
+    form_clauses s.args.atoms s.args.text.now s.args.clauses.now _ (form_at k) s.requires
 
-returns : tie.Need-returns
+returns : tie.Need-returns-in-Other
 returns c =
     let t = c.before in
-    let d = t.before.before in
+    let d = t.before in
     let s = (start d).args in
-    let no = subst (λ (z : Form). Formed s.atoms s.text.now z) t.enum_told.given.1 d.check-form.ensures in
-    outcome_of _ _ _ _ c.refuse-count.ensures (form_not s.atoms s.text.now s.clauses.now no)
+    let no = subst (λ (z : Form). Formed s.atoms s.text.now z) t.in-Other.is d.check_form-form.ensures in
+    outcome_of _ _ _ _ c.refuse_count.ensures (form_not s.atoms s.text.now s.clauses.now no)
 
-same_length : tie.Need-same-length
+same_length : tie.Need-shape_of-clauses
 same_length c = search rules
 
-returns-2 : tie.Need-returns-2
+returns-2 : tie.Need-returns-in-At
 returns-2 c =
     let f = c.before.before in
     let k = read f in
     let s = (start (asked k)).args in
-    f.read-from.ensures ∙ form_rows s.atoms s.text.now s.clauses.now _ (form_at k)
+    f.read_from.ensures ∙ form_rows s.atoms s.text.now s.clauses.now _ (form_at k)
 
-pub read-form-spec : {M : Type 1} → statement M
-read-form-spec =
+pub read_form_spec : {M : Type 1} → statement M
+read_form_spec =
     tie.close
     (tie.spec
     check-form-requires

@@ -5,20 +5,25 @@ use borrow.Author.Rules.{rules}
 use Rattle.dimacs.proofs.size.head_length.Statement.{statement}
 use Rattle.dimacs.proofs.size.head_length.Tie as tie
 
-decimal-length-requires : tie.Need-decimal-length-requires
+decimal-length-requires : tie.Need-decimal_length-requires
 decimal-length-requires c κs = search rules
 
-add-result : tie.Need-overflow-add-result
-add-result c = omega (arith, digits_few _ _ c.decimal-length.ensures)
+add-result : tie.Need-overflow_add-result
+add-result c = omega (arith, digits_few _ _ c.decimal_length.ensures)
 
-decimal-length-requires-2 : tie.Need-decimal-length-requires-2
+decimal-length-requires-2 : tie.Need-decimal_length-requires-2
 decimal-length-requires-2 c κs = search rules
 
-add-result-2 : tie.Need-overflow-add-result-2
-add-result-2 c = omega (arith, digits_few _ _ c.before.decimal-length.ensures, digits_few _ _ c.decimal-length2.ensures)
+add-result-2 : tie.Need-overflow_add-result-2
+add-result-2 c = omega (arith, digits_few _ _ c.decimal_length.ensures, digits_few _ _ c.decimal_length-2.ensures)
 
 returns : tie.Need-returns
-returns c = head_bytes_lem _ _ _ _ c.before.decimal-length.ensures c.decimal-length2.ensures
+returns c = head_bytes_lem _ _ _ _ c.decimal_length.ensures c.decimal_length-2.ensures
 
-pub head-length-spec : {M : Type 1} → statement M
-head-length-spec = tie.close (tie.spec decimal-length-requires add-result decimal-length-requires-2 add-result-2 returns)
+pub head_length_spec : {M : Type 1} → statement M
+head_length_spec = tie.close (tie.spec
+    decimal-length-requires
+    add-result
+    decimal-length-requires-2
+    add-result-2
+    returns)

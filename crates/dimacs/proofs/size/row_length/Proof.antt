@@ -13,70 +13,70 @@ use borrow.Author.Rules.{rules}
 use Rattle.dimacs.proofs.size.row_length.Statement.{statement}
 use Rattle.dimacs.proofs.size.row_length.Tie as tie
 
-abbrev invariant-loop : tie.invariant-loop
+abbrev invariant-loop : tie.invariant-loop-i
 invariant-loop literals sum₀ i₀ sum i = (i ≤ length literals) × (length (row_line literals) ≡ sum + length (each literal_field (drop i literals)))
 
-abbrev decreases-loop : tie.decreases-loop
+abbrev decreases-loop : tie.decreases-loop-i
 decreases-loop literals sum₀ i₀ sum i = length literals - i
 
-abbrev start : tie.At-loop invariant-loop decreases-loop → tie.Start invariant-loop decreases-loop
+abbrev start : tie.At-loop-i invariant-loop decreases-loop → tie.Start invariant-loop decreases-loop
 start l = l.before.before
 
-abbrev literals : tie.At-loop invariant-loop decreases-loop → List ℕ
+abbrev literals : tie.At-loop-i invariant-loop decreases-loop → List ℕ
 literals l = (start l).args.literals.now
 
 -- after the bytes of literal i
-abbrev in_loop : tie.After-literal-length invariant-loop decreases-loop → tie.In-loop invariant-loop decreases-loop
+abbrev in_loop : tie.After-literal_length invariant-loop decreases-loop → tie.In-loop-i invariant-loop decreases-loop
 in_loop c = c.before.before
 
-abbrev at : tie.After-literal-length invariant-loop decreases-loop → tie.At-loop invariant-loop decreases-loop
+abbrev at : tie.After-literal_length invariant-loop decreases-loop → tie.At-loop-i invariant-loop decreases-loop
 at c = (in_loop c).before
 
 next :
-    (c : tie.After-literal-length invariant-loop decreases-loop) → let l = at c in
-    length (row_line (literals l)) ≡ l.loop.sum + (c.literal-length.result + 1) + length (each literal_field (drop (l.loop.i + 1) (literals l)))
+    (c : tie.After-literal_length invariant-loop decreases-loop) → let l = at c in
+    length (row_line (literals l)) ≡ l.loop-i.sum + (c.literal_length.result + 1) + length (each literal_field (drop (l.loop-i.i + 1) (literals l)))
 next c =
     let l = at c in
-    let x = get_or (literals l) l.loop.i 0 in
-    sum_next literal_field (literals l) l.loop.i _ l.loop.sum l.loop.inv.1 0 x refl (in_loop c).loop-test.true _
-    (field_bytes x c.literal-length.result c.literal-length.ensures)
+    let x = get_or (literals l) l.loop-i.i 0 in
+    sum_next literal_field (literals l) l.loop-i.i _ l.loop-i.sum l.loop-i.invariant.1 0 x refl (in_loop c).loop-i-test.true _
+    (field_bytes x c.literal_length.result c.literal_length.ensures)
 
-low : (c : tie.After-literal-length invariant-loop decreases-loop) → length (row_line (literals (at c))) < 1000
+low : (c : tie.After-literal_length invariant-loop decreases-loop) → length (row_line (literals (at c))) < 1000
 unfolding width
-low c = omega (arith, row_size (literals (at c)) (start (at c)).pre)
+low c = omega (arith, row_size (literals (at c)) (start (at c)).requires)
 
-loop-holds : tie.Need-loop-init invariant-loop decreases-loop
-loop-holds c = (omega arith, row_bytes c.before.args.literals.now)
+loop-holds : tie.Need-loop-i-init invariant-loop decreases-loop
+loop-holds c = (omega arith, row_bytes c.args.literals.now)
 
-mul-l : tie.Need-overflow-mul-l invariant-loop decreases-loop
+mul-l : tie.Need-offset_bounds-literals-i invariant-loop decreases-loop
 mul-l c = search rules
 
-shared-slice-read-l : tie.Need-shared-slice-read-l invariant-loop decreases-loop
+shared-slice-read-l : tie.Need-bounds-literals-i invariant-loop decreases-loop
 shared-slice-read-l c = search rules
 
-literal-length-requires : tie.Need-literal-length-requires invariant-loop decreases-loop
+literal-length-requires : tie.Need-literal_length-requires invariant-loop decreases-loop
 literal-length-requires c κs = search rules
 
-add-sum : tie.Need-overflow-add-sum invariant-loop decreases-loop
+add-sum : tie.Need-overflow_add-sum invariant-loop decreases-loop
 add-sum c = omega (arith, next c, low c)
 
-add-sum-2 : tie.Need-overflow-add-sum-2 invariant-loop decreases-loop
+add-sum-2 : tie.Need-overflow_add-sum-in-loop-i invariant-loop decreases-loop
 add-sum-2 c = omega (arith, next c, low c)
 
-add-i : tie.Need-overflow-add-i invariant-loop decreases-loop
+add-i : tie.Need-overflow_add-i invariant-loop decreases-loop
 add-i c = search rules
 
-loop-less : tie.Need-loop-smaller invariant-loop decreases-loop
+loop-less : tie.Need-loop-i-smaller invariant-loop decreases-loop
 loop-less c = search rules
 
-loop-again : tie.Need-loop-preserved invariant-loop decreases-loop
+loop-again : tie.Need-loop-i-preserved invariant-loop decreases-loop
 loop-again c = (omega arith, next c)
 
 returns : tie.Need-returns invariant-loop decreases-loop
-returns c = let l = c.before in sum_end literal_field (literals l) l.loop.i _ l.loop.sum l.loop.invariant.1 c.loop-test.false
+returns c = let l = c.before in sum_end literal_field (literals l) l.loop-i.i _ l.loop-i.sum l.loop-i.invariant.1 c.loop-i-test.false
 
-pub row-length-spec : {M : Type 1} → statement M
-row-length-spec =
+pub row_length_spec : {M : Type 1} → statement M
+row_length_spec =
     tie.close
     (tie.spec
     invariant-loop

@@ -7,34 +7,39 @@ use Rattle.dimacs.proofs.size.text_length.Statement.{statement}
 use Rattle.dimacs.proofs.size.text_length.Tie as tie
 
 -- where both are known
-abbrev headed : tie.After-rows-length → tie.After-head-length
+abbrev headed : tie.After-rows_length → tie.After-head_length
 headed c = c.before
 
-abbrev counted : tie.After-rows-length → tie.After-rows
+abbrev counted : tie.After-rows_length → tie.After-rows
 counted c = c.before.before
 
-abbrev start : tie.After-rows-length → tie.Start
+abbrev start : tie.After-rows_length → tie.Start
 start c = (counted c).before.before
 
 rows-requires : tie.Need-rows-requires
 rows-requires c κs = search rules
 
-head-length-requires : tie.Need-head-length-requires
+head-length-requires : tie.Need-head_length-requires
 head-length-requires c κs = search rules
 
-rows-length-requires : tie.Need-rows-length-requires
+rows-length-requires : tie.Need-rows_length-requires
 rows-length-requires c κs = search rules
 
-add-result : tie.Need-overflow-add-result
+add-result : tie.Need-overflow_add-result
 unfolding width most_rows
 add-result c =
     let s = start c in
     let h = head_size s.args.atoms (counted c).rows.result in
-    let r = rows_size_lem s.args.clauses.now s.pre in
-    omega (arith, (headed c).head-length.ensures, c.rows-length.ensures)
+    let r = rows_size_lem s.args.clauses.now s.requires in
+    omega (arith, (headed c).head_length.ensures, c.rows_length.ensures)
 
 returns : tie.Need-returns
-returns c = text_bytes _ _ _ _ (start c).args.clauses.now (counted c).rows.ensures (headed c).head-length.ensures c.rows-length.ensures
+returns c = text_bytes _ _ _ _ (start c).args.clauses.now (counted c).rows.ensures (headed c).head_length.ensures c.rows_length.ensures
 
-pub text-length-spec : {M : Type 1} → statement M
-text-length-spec = tie.close (tie.spec rows-requires head-length-requires rows-length-requires add-result returns)
+pub text_length_spec : {M : Type 1} → statement M
+text_length_spec = tie.close (tie.spec
+    rows-requires
+    head-length-requires
+    rows-length-requires
+    add-result
+    returns)

@@ -3,11 +3,13 @@ use borrow.Author.Rules.{rules}
 use Rattle.dimacs_form.proofs.header.goes_on.Statement.{statement}
 use Rattle.dimacs_form.proofs.header.goes_on.Tie as tie
 
-returns : tie.Need-returns
-returns c = rw c.if1.true
+returns : tie.Need-returns-then-inside
+returns c = rw c.if-inside.true
 
-returns-2 : tie.Need-returns-2
+returns-2 : tie.Need-returns
 returns-2 c = search rules
 
-pub goes-on-spec : {M : Type 1} → statement M
-goes-on-spec = tie.close (tie.spec returns returns-2)
+pub goes_on_spec : {M : Type 1} → statement M
+goes_on_spec = tie.close (tie.spec
+    returns
+    returns-2)

@@ -3,11 +3,13 @@ use borrow.Author.Rules.{rules}
 use Rattle.dimacs_form.proofs.header.stops.Statement.{statement}
 use Rattle.dimacs_form.proofs.header.stops.Tie as tie
 
-returns : tie.Need-returns
+returns : tie.Need-returns-then-inside
 returns c = search rules
 
-returns-2 : tie.Need-returns-2
-returns-2 c = rw c.if1.false
+returns-2 : tie.Need-returns
+returns-2 c = rw c.if-inside.false
 
-pub stops-spec : {M : Type 1} → statement M
-stops-spec = tie.close (tie.spec returns returns-2)
+pub stops_spec : {M : Type 1} → statement M
+stops_spec = tie.close (tie.spec
+    returns
+    returns-2)

@@ -5,13 +5,15 @@ use Rattle.definitions.specs.Dimacs.{is_digit}
 use Rattle.dimacs_form.proofs.number.is_digit.Statement.{statement}
 use Rattle.dimacs_form.proofs.number.is_digit.Tie as tie
 
-returns : tie.Need-returns
+returns : tie.Need-returns-then-b-lt48
 unfolding is_digit
-returns c = rw (lt-leb 48 c.before.args.b (omega arith))
+returns c = rw (lt-leb 48 c.args.b (omega arith))
 
-returns-2 : tie.Need-returns-2
+returns-2 : tie.Need-returns
 unfolding is_digit
-returns-2 c = rw (le-leb 48 c.before.args.b (omega arith))
+returns-2 c = rw (le-leb 48 c.args.b (omega arith))
 
-pub is-digit-spec : {M : Type 1} → statement M
-is-digit-spec = tie.close (tie.spec returns returns-2)
+pub is_digit_spec : {M : Type 1} → statement M
+is_digit_spec = tie.close (tie.spec
+    returns
+    returns-2)

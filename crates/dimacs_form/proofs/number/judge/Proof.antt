@@ -9,69 +9,69 @@ use Rattle.dimacs_form.proofs.number.judge.Statement.{statement}
 use Rattle.dimacs_form.proofs.number.judge.Tie as tie
 
 -- the word, where its first byte is looked at
-abbrev looked : tie.After-shared-slice-known2 → tie.Start
+abbrev looked : tie.After-shared_slice_known-2-1 → tie.Start
 looked c = c.before.before
 
 -- where the digits behind a minus were read
-abbrev minus : tie.After-read-digits → tie.Then1
+abbrev minus : tie.After-read_digits → tie.Then-word-eq45
 minus c = c.before.before
 
 -- where the word is asked to be 0
-abbrev plain : tie.After-is-zero → tie.Else1
+abbrev plain : tie.After-is_zero → tie.Else-word-eq45
 plain c = c.before
 
-shared-slice-read-if1 : tie.Need-shared-slice-read-if1
+shared-slice-read-if1 : tie.Need-bounds-word-0
 shared-slice-read-if1 c = search rules
 
-sub-read-digits : tie.Need-overflow-sub-read-digits
+sub-read-digits : tie.Need-slice_bounds-read_digits-count
 sub-read-digits c = search rules
 
-part-read-digits-start : tie.Need-slice-bounds-read-digits-start
+part-read-digits-start : tie.Need-slice_bounds-read_digits-start
 part-read-digits-start c = search rules
 
-part-read-digits-end : tie.Need-slice-bounds-read-digits-end
+part-read-digits-end : tie.Need-slice_bounds-read_digits-end
 part-read-digits-end c = search rules
 
-read-digits-requires : tie.Need-read-digits-requires
+read-digits-requires : tie.Need-read_digits-requires
 read-digits-requires c κs = search rules
 
 signed-requires : tie.Need-signed-requires
 signed-requires c κs = search rules
 
-returns : tie.Need-returns
+returns : tie.Need-returns-then-word-eq45
 returns c =
     let d = c.before in
     let m = minus d in
     let s = (looked m.before).args in
     subst (λ (r : Word). Judged s.word.now s.next r) (sym c.signed.ensures)
-    (minus_judged s.word.now s.next d.read-digits.result (omega arith) m.if1.taken d.read-digits.ensures)
+    (minus_judged s.word.now s.next d.read_digits.result (omega arith) m.if-word-eq45.true d.read_digits.ensures)
 
-is-zero-requires : tie.Need-is-zero-requires
+is-zero-requires : tie.Need-is_zero-requires
 is-zero-requires c κs = search rules
 
-returns-2 : tie.Need-returns-2
+returns-2 : tie.Need-returns-then-is_zero
 returns-2 c =
     let s = (looked (plain c.before).before).args in
-    zero_judged s.word.now s.next (sym c.before.is_zero.ensures ∙ c.if2.true)
+    zero_judged s.word.now s.next (sym c.is_zero.ensures ∙ c.if-is_zero.true)
 
-read-digits-requires-2 : tie.Need-read-digits-requires-2
+read-digits-requires-2 : tie.Need-read_digits-requires-2
 read-digits-requires-2 c κs = search rules
 
 signed-requires-2 : tie.Need-signed-requires-2
 signed-requires-2 c κs = search rules
 
-returns-3 : tie.Need-returns-3
+returns-3 : tie.Need-returns
 returns-3 c =
     let d = c.before in
     let z = d.before in
     let p = plain z.before in
     let s = (looked p.before).args in
-    subst (λ (r : Word). Judged s.word.now s.next r) (sym c.signed2.ensures)
-    (plain_judged s.word.now s.next d.read-digits2.result (omega arith) p.if1.left
-    (sym z.before.is_zero.ensures ∙ z.if2.false) d.read-digits2.ensures)
+    subst (λ (r : Word). Judged s.word.now s.next r) (sym c.signed-2.ensures)
+    (plain_judged s.word.now s.next d.read_digits-2.result (omega arith) p.if-word-eq45.false
+    (sym z.is_zero.ensures ∙ z.if-is_zero.false) d.read_digits-2.ensures)
 
-pub judge-spec : {M : Type 1} → statement M
-judge-spec =
+pub judge_spec : {M : Type 1} → statement M
+judge_spec =
     tie.close
     (tie.spec
     shared-slice-read-if1

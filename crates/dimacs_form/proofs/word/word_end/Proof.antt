@@ -10,63 +10,63 @@ use borrow.Author.Rules.{rules}
 use Rattle.dimacs_form.proofs.word.word_end.Statement.{statement}
 use Rattle.dimacs_form.proofs.word.word_end.Tie as tie
 
-abbrev invariant-loop : tie.invariant-loop
+abbrev invariant-loop : tie.invariant-loop-i
 invariant-loop text at i₀ i = (at < i) × (i ≤ length text) × Word (between at i text)
 
-abbrev decreases-loop : tie.decreases-loop
+abbrev decreases-loop : tie.decreases-loop-i
 decreases-loop text at i₀ i = length text - i
 
 -- the head of the loop, where a byte was judged, and the text
-abbrev judged : tie.After-is-blank invariant-loop decreases-loop → tie.At-loop invariant-loop decreases-loop
+abbrev judged : tie.After-is_blank invariant-loop decreases-loop → tie.At-loop-i invariant-loop decreases-loop
 judged c = c.before.before.before
 
-abbrev start : tie.At-loop invariant-loop decreases-loop → tie.Start invariant-loop decreases-loop
+abbrev start : tie.At-loop-i invariant-loop decreases-loop → tie.Start invariant-loop decreases-loop
 start c = c.before.before
 
-add-i : tie.Need-overflow-add-i invariant-loop decreases-loop
+add-i : tie.Need-overflow_add-i invariant-loop decreases-loop
 add-i c = omega arith
 
-loop-holds : tie.Need-loop-init invariant-loop decreases-loop
+loop-holds : tie.Need-loop-i-init invariant-loop decreases-loop
 loop-holds c =
-    let s = c.before.args in
-    let p = c.before.requires in
+    let s = c.args in
+    let p = c.requires in
     (omega arith, omega arith, begins_at s.text.now s.at p.1 (p.0.word p.1))
 
-shared-slice-read-is-blank : tie.Need-shared-slice-read-is-blank invariant-loop decreases-loop
+shared-slice-read-is-blank : tie.Need-bounds-text-i invariant-loop decreases-loop
 shared-slice-read-is-blank c = omega arith
 
-is-blank-requires : tie.Need-is-blank-requires invariant-loop decreases-loop
+is-blank-requires : tie.Need-is_blank-requires invariant-loop decreases-loop
 is-blank-requires c κs = search rules
 
-returns : tie.Need-returns invariant-loop decreases-loop
+returns : tie.Need-returns-then-is_blank invariant-loop decreases-loop
 returns c =
     let h = judged c.before in
-    let l = h.loop in
+    let l = h.loop-i in
     let s = (start h).args in
-    let is = sym c.before.is-blank.ensures ∙ c.if1.true in
+    let is = sym c.is_blank.ensures ∙ c.if-is_blank.true in
     record {
       later = omega arith;
       inside = omega arith;
-      word = ends_at s.text.now s.at l.i (omega arith) (omega arith) l.inv.2 is;
+      word = ends_at s.text.now s.at l.i (omega arith) (omega arith) l.invariant.2 is;
     }
 
-add-i-2 : tie.Need-overflow-add-i-2 invariant-loop decreases-loop
+add-i-2 : tie.Need-overflow_add-i-in-loop-i invariant-loop decreases-loop
 add-i-2 c = omega arith
 
-loop-less : tie.Need-loop-smaller invariant-loop decreases-loop
+loop-less : tie.Need-loop-i-smaller invariant-loop decreases-loop
 loop-less c = omega arith
 
-loop-again : tie.Need-loop-preserved invariant-loop decreases-loop
+loop-again : tie.Need-loop-i-preserved invariant-loop decreases-loop
 loop-again c =
     let h = judged c.before in
-    let l = h.loop in
+    let l = h.loop-i in
     let s = (start h).args in
-    let isnt = sym c.before.is-blank.ensures ∙ c.if1.false in
-    (omega arith, omega arith, goes_on_at s.text.now s.at l.i (omega arith) (omega arith) isnt l.inv.2)
+    let isnt = sym c.is_blank.ensures ∙ c.if-is_blank.false in
+    (omega arith, omega arith, goes_on_at s.text.now s.at l.i (omega arith) (omega arith) isnt l.invariant.2)
 
-returns-2 : tie.Need-returns-2 invariant-loop decreases-loop
+returns-2 : tie.Need-returns invariant-loop decreases-loop
 returns-2 c =
-    let l = c.before.loop in
+    let l = c.loop-i in
     let s = (start c.before).args in
     record {
       later = omega arith;
@@ -74,8 +74,8 @@ returns-2 c =
       word = last_at s.text.now s.at l.i (omega arith) (omega arith) l.invariant.2;
     }
 
-pub word-end-spec : {M : Type 1} → statement M
-word-end-spec =
+pub word_end_spec : {M : Type 1} → statement M
+word_end_spec =
     tie.close
     (tie.spec
     invariant-loop

@@ -14,35 +14,35 @@ use Rattle.dimacs_rows.proofs.rows.store_sorted.Statement.{statement}
 use Rattle.dimacs_rows.proofs.rows.store_sorted.Tie as tie
 
 -- the start, where the buffers are lent
-abbrev lent : tie.After-sort → tie.After-slice-known2
+abbrev lent : tie.After-sort-kept → tie.After-slice_known-2-1
 lent c = c.before.before.before
 
-abbrev start : tie.After-slice-known2 → tie.Start
+abbrev start : tie.After-slice_known-2-1 → tie.Start
 start c = c.before.before.before
 
 -- where the number of rows is asked
-abbrev back : tie.After-slice-known4 → tie.After-rows
+abbrev back : tie.After-slice_known-4-1 → tie.After-rows-1
 back c = c.before.before.before
 
-abbrev sorted : tie.After-slice-known4 → tie.After-sort
+abbrev sorted : tie.After-slice_known-4-1 → tie.After-sort-kept
 sorted c = (back c).before
 
 -- where the row is written
-abbrev few : tie.After-append → tie.Else1
+abbrev few : tie.After-append → tie.Else-kept-gt-MOST_ROWS
 few c = c.before.before
 
-whole : (c : tie.After-slice-known2) → let s = start c in take (width * most_stored) s.args.rows.now ≡ s.args.rows.now
+whole : (c : tie.After-slice_known-2-1) → let s = start c in take (width * most_stored) s.args.rows.now ≡ s.args.rows.now
 whole c =
     let s = start c in
-    let e = s.pre.1.rows in
+    let e = s.requires.1.rows in
     take_all (width * most_stored) s.args.rows.now (omega arith)
 
-sorted_of : (c : tie.After-sort) → let s = start (lent c) in Sorted (take (width * most_stored) s.args.rows.now) c.sort.new.0 c.sort.result
+sorted_of : (c : tie.After-sort-kept) → let s = start (lent c) in Sorted (take (width * most_stored) s.args.rows.now) c.sort-kept.new.rows c.sort-kept.result
 sorted_of c =
     let l = lent c in
-    subst (λ (z : List ℕ). Sorted z c.sort.new.0 c.sort.result) (sym (whole l)) c.sort.ensures
+    subst (λ (z : List ℕ). Sorted z c.sort-kept.new.rows c.sort-kept.result) (sym (whole l)) c.sort-kept.ensures
 
-sort-requires : tie.Need-sort-requires
+sort-requires : tie.Need-sort-kept-requires
 sort-requires c κs =
     let l = c.before.before in
     let p = (start l).requires in
@@ -50,18 +50,18 @@ sort-requires c κs =
     let b = p.1.work in
     (subst Sortable (whole l) p.2.right, omega arith)
 
-same_length : tie.Need-same-length
+same_length : tie.Need-shape_of-rows-then-kept-gt-MOST_ROWS
 same_length c = search rules
 
-same-length-2 : tie.Need-same-length-2
+same-length-2 : tie.Need-shape_of-work-then-kept-gt-MOST_ROWS
 same-length-2 c = search rules
 
-returns : tie.Need-returns
+returns : tie.Need-returns-then-kept-gt-MOST_ROWS
 unfolding most_rows
 returns c =
     let d = sorted c.before in
     let s = (start (lent d)).args in
-    stored_full s.row.now s.rows.now d.sort.last.0 d.sort.result most_stored (sorted_of d) _ c.if1.true
+    stored_full s.row.now s.rows.now d.sort-kept.new.rows d.sort-kept.result most_stored (sorted_of d) _ c.if-kept-gt-MOST_ROWS.true
 
 append-requires : tie.Need-append-requires
 unfolding most_stored most_rows
@@ -69,26 +69,26 @@ append-requires c κs =
     let e = c.before in
     let d = sorted e.before in
     let p = (start (lent d)).requires in
-    let s = d.sort.ensures in
+    let s = d.sort-kept.ensures in
     let size = s.size in
     let long = p.1.rows in
-    (p.0, sorted_rows _ _ _ s long, omega (arith, e.if1.false), omega arith)
+    (p.0, sorted_rows _ _ _ s long, omega (arith, e.if-kept-gt-MOST_ROWS.false), omega arith)
 
-same-length-3 : tie.Need-same-length-3
+same-length-3 : tie.Need-shape_of-rows
 same-length-3 c = search rules
 
-same-length-4 : tie.Need-same-length-4
+same-length-4 : tie.Need-shape_of-work
 same-length-4 c = search rules
 
-returns-2 : tie.Need-returns-2
+returns-2 : tie.Need-returns
 returns-2 c =
     let a = c.before.before in
     let d = sorted (few a).before in
     let s = (start (lent d)).args in
-    stored_sorted s.row.now s.rows.now d.sort.last.0 d.sort.result most_stored (sorted_of d) _ _ a.append.ensures
+    stored_sorted s.row.now s.rows.now d.sort-kept.new.rows d.sort-kept.result most_stored (sorted_of d) _ _ a.append.ensures
 
-pub store-sorted-spec : {M : Type 1} → statement M
-store-sorted-spec =
+pub store_sorted_spec : {M : Type 1} → statement M
+store_sorted_spec =
     tie.close
     (tie.spec
     sort-requires

@@ -8,29 +8,34 @@ use Rattle.fdr.proofs.change.note_row.Statement.{statement}
 use Rattle.fdr.proofs.change.note_row.Tie as tie
 
 -- where the row fires, and where that was tested
-abbrev fires : tie.After-note-kind → tie.Else1
+abbrev fires : tie.After-note_kind → tie.Else-not-all_true
 fires c = c.before.before
 
-abbrev tested : tie.Else1 → tie.After-all-true
+abbrev tested : tie.Else-not-all_true → tie.After-all_true
 tested c = c.before
 
-all-true-requires : tie.Need-all-true-requires
+all-true-requires : tie.Need-all_true-requires
 all-true-requires c κs = search rules
 
-returns : tie.Need-returns
-returns c = (row_idle _ _ _ (sym c.before.all_true.ensures ∙ not-true _ c.if1.true), at_same _ _)
+returns : tie.Need-returns-then-not-all_true
+returns c = (row_idle _ _ _ (sym c.all_true.ensures ∙ c.if-not-all_true.true), at_same _ _)
 
-note-kind-requires : tie.Need-note-kind-requires
+note-kind-requires : tie.Need-note_kind-requires
 note-kind-requires c κs = search rules
 
-same_length : tie.Need-same-length
+same_length : tie.Need-shape_of-changes
 same_length c = search rules
 
-returns-2 : tie.Need-returns-2
+returns-2 : tie.Need-returns
 returns-2 c =
     let n = c.before.before in
     let f = fires n in
-    (n.note-kind.ensures.0 ∙ row_fires _ _ _ (sym (tested f).all_true.ensures ∙ not-false _ f.if1.left), n.note-kind.ensures.1)
+    (n.note_kind.ensures.0 ∙ row_fires _ _ _ (sym (tested f).all_true.ensures ∙ f.if-not-all_true.false), n.note_kind.ensures.1)
 
-pub note-row-spec : {M : Type 1} → statement M
-note-row-spec = tie.close (tie.spec all-true-requires returns note-kind-requires same_length returns-2)
+pub note_row_spec : {M : Type 1} → statement M
+note_row_spec = tie.close (tie.spec
+    all-true-requires
+    returns
+    note-kind-requires
+    same_length
+    returns-2)

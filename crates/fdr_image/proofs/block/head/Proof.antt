@@ -19,27 +19,14 @@ add-end c = search rules
 mul_wide : tie.Need-offset_bounds-block-end
 mul_wide c = search rules
 
--- the places of the function
-abbrev at_start : tie.After-wide → tie.Start
-at_start c = c.before.before.before
-
-abbrev after_wide : tie.After-shared_slice_known-3-1 → tie.After-wide
-after_wide c = c.before
-
-abbrev after_shared_slice_known3 : tie.After-wide-2 → tie.After-shared_slice_known-3-1
-after_shared_slice_known3 c = c.before
-
-abbrev at_start_from_wide2 : tie.After-wide-2 → tie.Start
-at_start_from_wide2 c = at_start (after_wide (after_shared_slice_known3 c))
-
 shared-slice-read-wide-2 : tie.Need-bounds-block-end
-shared-slice-read-wide-2 c = omega (arith, block_room _ (at_start (after_wide c)).requires, c.wide.ensures.0)
+shared-slice-read-wide-2 c = omega (arith, block_room _ c.requires, c.wide.ensures.0)
 
 wide-requires-2 : tie.Need-wide-requires-2
 wide-requires-2 c κs = search rules
 
 returns : tie.Need-returns
-returns c = block_read _ (at_start_from_wide2 c).requires _ _ c.wide.ensures.0 c.wide-2.ensures.0
+returns c = block_read _ c.requires _ _ c.wide.ensures.0 c.wide-2.ensures.0
 
 pub head_spec : {M : Type 1} → statement M
 head_spec =

@@ -10,7 +10,7 @@ returns-2 : tie.Need-returns-in-1
 returns-2 c = search rules
 
 returns-3 : tie.Need-returns-in_default
-returns-3 c = kind_other _ c.in_default.rest.0.1 c.in_default.rest.1
+returns-3 c = kind_other _ c.in_default.in_default-own.rest.0.1 c.in_default.in_default-own.rest.1
 
 pub kind_of_spec : {M : Type 1} → statement M
 kind_of_spec = tie.close (tie.spec

@@ -14,7 +14,7 @@ use Rattle.judge.proofs.bulk.flag_violated.Tie as tie
 
 -- where the part of the local array is lent
 abbrev lent : Type 0
-lent = tie.After-flags
+lent = tie.After-flags-1
 
 abbrev start : lent → tie.Start
 start b = let p = b.before.before.before in let q = p.before.before.before in q.before
@@ -23,46 +23,46 @@ abbrev size : lent → ℕ
 size b = 2 * (start b).args.atoms
 
 abbrev local : lent → List ℕ
-local b = b.before.literal-flags.result
+local b = b.literal_flags-flags.result
 
 fits : (b : lent) → size b ≤ length (local b)
-fits b = omega (arith, b.before.literal-flags.ensures, (start b).requires.0.few)
+fits b = omega (arith, b.literal_flags-flags.ensures, (start b).requires.0.few)
 
 -- where it came back with the flags
 abbrev flagged : Type 0
-flagged = tie.After-flag-guaranteed
+flagged = tie.After-flag_guaranteed
 
-back : (d : flagged) → CameBack (size d.before) (local d.before) d.flag-guaranteed.new.1.1.1.1.0
-back d = came_back (size d.before) (local d.before) d.flag-guaranteed.new.1.1.1.1.0 (fits d.before) d.flag-guaranteed.auto.1.1.1.1.0
+back : (d : flagged) → CameBack (size d.before) (local d.before) d.flag_guaranteed.new.flags
+back d = came_back (size d.before) (local d.before) d.flag_guaranteed.new.flags (fits d.before) d.flag_guaranteed.auto.flags
 
-literal-flags-requires : tie.Need-literal-flags-requires
+literal-flags-requires : tie.Need-literal_flags-flags-requires
 literal-flags-requires c κs = search rules
 
-mul-size : tie.Need-overflow-mul-size
+mul-size : tie.Need-overflow_mul-size
 mul-size c = search rules
 
-array-borrow-prefix-flags : tie.Need-array-borrow-prefix-flags
+array-borrow-prefix-flags : tie.Need-slice_bounds-flags-end
 array-borrow-prefix-flags c = search rules
 
-slice-aggregate-flag-guaranteed : tie.Need-slice-aggregate-flag-guaranteed
+slice-aggregate-flag-guaranteed : tie.Need-slice_bounds-flag_guaranteed-end
 slice-aggregate-flag-guaranteed c = sym (length-take-le _ (local c) (fits c))
 
-flag-guaranteed-requires : tie.Need-flag-guaranteed-requires
+flag-guaranteed-requires : tie.Need-flag_guaranteed-requires
 flag-guaranteed-requires c κs = let p = (start c).requires in (p.0, p.1, length-take-le (size c) (local c) (fits c))
 
-array-share-prefix-flags : tie.Need-array-share-prefix-flags
+array-share-prefix-flags : tie.Need-slice_bounds-flags-end-2
 array-share-prefix-flags c = (back c.before).room
 
-slice-aggregate-flag-lacking : tie.Need-slice-aggregate-flag-lacking
+slice-aggregate-flag-lacking : tie.Need-slice_bounds-flag_lacking-end
 slice-aggregate-flag-lacking c = (back c.before.before).whole
 
-flag-lacking-requires : tie.Need-flag-lacking-requires
+flag-lacking-requires : tie.Need-flag_lacking-requires
 flag-lacking-requires c κs = search rules
 
-same_length : tie.Need-same-length
+same_length : tie.Need-shape_of-fails
 same_length c = search rules
 
-abbrev flagged_from_flag_lacking : tie.After-flag-lacking → flagged
+abbrev flagged_from_flag_lacking : tie.After-flag_lacking → flagged
 flagged_from_flag_lacking c = let p = c.before.before.before in p.before
 
 returns : tie.Need-returns
@@ -70,11 +70,11 @@ returns c =
     let l = c.before.before in
     let d = flagged_from_flag_lacking l in
     let a = (start d.before).args in
-    λ ls closed. l.flag-lacking.ensures
-    ∙ ap (λ G. flag_more (lacks_flag a.l G) (clauses_of a.judged.now) a.fails.now) ((back d).part ∙ d.flag-guaranteed.ensures ls closed)
+    λ ls closed. l.flag_lacking.ensures
+    ∙ ap (λ G. flag_more (lacks_flag a.l G) (clauses_of a.judged.now) a.fails.now) ((back d).part ∙ d.flag_guaranteed.ensures ls closed)
 
-pub flag-violated-spec : {M : Type 1} → statement M
-flag-violated-spec =
+pub flag_violated_spec : {M : Type 1} → statement M
+flag_violated_spec =
     tie.close
     (tie.spec
     literal-flags-requires

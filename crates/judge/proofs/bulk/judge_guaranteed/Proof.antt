@@ -12,7 +12,7 @@ use Rattle.judge.proofs.bulk.judge_guaranteed.Tie as tie
 
 -- where the block's head is known: the start, and the flags cleared
 abbrev headed : Type 0
-headed = tie.After-head
+headed = tie.After-head-head
 
 abbrev cleared : headed → tie.After-clear
 cleared h = h.before.before.before
@@ -27,32 +27,32 @@ abbrev fails : headed → List ℕ
 fails h = (start h).args.fails.now
 
 -- where the closure is made
-abbrev head_of : tie.After-close → headed
+abbrev head_of : tie.After-close-closed → headed
 head_of d = d.before.before.before
 
 -- where it is contradictory, and where it is not
-abbrev clashing : tie.After-enum-told → tie.After-close
-clashing c = let p = c.before.before.before in p.before
+abbrev clashing : tie.In-Contradictory → tie.After-close-closed
+clashing c = c.before.before.before
 
-abbrev closing : tie.After-enum-told2 → tie.After-close
-closing c = let p = c.before.before.before in p.before
+abbrev closing : tie.In-Consistent → tie.After-close-closed
+closing c = c.before.before.before
 
 clear-requires : tie.Need-clear-requires
 clear-requires c κs = search rules
 
-head-requires : tie.Need-head-requires
+head-requires : tie.Need-head-head-requires
 head-requires c κs = search rules
 
-sub-close : tie.Need-overflow-sub-close
+sub-close : tie.Need-slice_bounds-close-count
 sub-close c = search rules
 
-part-close-start : tie.Need-slice-bounds-close-start
+part-close-start : tie.Need-slice_bounds-close-start
 part-close-start c = search rules
 
-part-close-end : tie.Need-slice-bounds-close-end
+part-close-end : tie.Need-slice_bounds-close-end
 part-close-end c = search rules
 
-close-requires : tie.Need-close-requires
+close-requires : tie.Need-close-closed-requires
 close-requires c κs =
     let h = c.before.before in
     let g = (start h).requires.0 in
@@ -60,76 +60,76 @@ close-requires c κs =
       few = g.given.few;
       room = g.room;
       rows = g.given.rows;
-      below = precondition_low _ _ g.given.right _ _ h.head.ensures;
+      below = precondition_low _ _ g.given.right _ _ h.head-head.ensures;
     }
 
-enum_told : tie.Need-enum-told
-enum_told c = c.match.keys1
+enum_told : tie.Need-enum_told-1
+enum_told c = c.in-Contradictory-1.keys1
 
-enum-told-2 : tie.Need-enum-told-2
-enum-told-2 c = c.match.keys2
+enum-told-2 : tie.Need-enum_told-in-Consistent
+enum-told-2 c = c.in-Consistent-1.keys2
 
-judge-consistent-requires : tie.Need-judge-consistent-requires
+judge-consistent-requires : tie.Need-judge_consistent-requires
 judge-consistent-requires c κs =
     let e = c.before.before.before in
     let d = closing e in
     let h = head_of d in
-    let g = (start h).pre.0 in
-    let said = says_consistent _ _ _ _ _ d.close.ensures e.enum-told2.given.1 in (
+    let g = (start h).requires.0 in
+    let said = says_consistent _ _ _ _ _ d.close-closed.ensures e.in-Consistent.is in (
       record {
         given = g.given;
         judged = g.judged;
-        closed = closure_start _ _ _ _ _ h.head.ensures.precondition (closure_says _ _ _ _ said);
-        flagged = (cleared h).clear.kept.0 ∙ g.flagged;
+        closed = closure_start _ _ _ _ _ h.head-head.ensures.precondition (closure_says _ _ _ _ said);
+        flagged = (cleared h).clear.auto.flags ∙ g.flagged;
       },
-      (start h).pre.1,
+      (start h).requires.1,
     )
 
-same_length : tie.Need-same-length
+same_length : tie.Need-shape_of-marks-in-Contradictory
 same_length c = search rules
 
-same-length-2 : tie.Need-same-length-2
+same-length-2 : tie.Need-shape_of-fails-in-Contradictory
 same-length-2 c = search rules
 
-returns : tie.Need-returns
+returns : tie.Need-returns-in-Contradictory
 returns c =
     let d = clashing c in
     let h = head_of d in
-    let pre = h.head.ensures.precondition in
-    let said = says_contradictory _ _ _ _ _ d.close.ensures c.enum_told.given.1 in
-    (fail_none _ _ _ (judged h) _ (fails h) _ (start h).pre.0.flagged (cleared h).clear.ensures pre said, contradictory_start _ _ _ _ pre said)
+    let pre = h.head-head.ensures.precondition in
+    let said = says_contradictory _ _ _ _ _ d.close-closed.ensures c.in-Contradictory.is in
+    (fail_none _ _ _ (judged h) _ (fails h) _ (start h).requires.0.flagged (cleared h).clear.ensures pre said, contradictory_start _ _ _ _ pre said)
 
-same-length-3 : tie.Need-same-length-3
+same-length-3 : tie.Need-shape_of-marks-in-Consistent
 same-length-3 c = search rules
 
-same-length-4 : tie.Need-same-length-4
+same-length-4 : tie.Need-shape_of-fails-in-Consistent
 same-length-4 c = search rules
 
-same-length-5 : tie.Need-same-length-5
+same-length-5 : tie.Need-shape_of-flags
 same-length-5 c = search rules
 
-abbrev judge_consistent_from_slice_known8 : tie.After-slice-known8 → tie.After-judge-consistent
+abbrev judge_consistent_from_slice_known8 : tie.After-slice_known-in-Consistent-3-1 → tie.After-judge_consistent
 judge_consistent_from_slice_known8 c = let p = c.before.before.before in p.before.before.before
 
-abbrev enum_told2_from_judge_consistent : tie.After-judge-consistent → tie.After-enum-told2
+abbrev enum_told2_from_judge_consistent : tie.After-judge_consistent → tie.In-Consistent
 enum_told2_from_judge_consistent c = let p = c.before.before.before in p.before
 
-returns-2 : tie.Need-returns-2
+returns-2 : tie.Need-returns-in-Consistent
 returns-2 c =
     let j = judge_consistent_from_slice_known8 c in
     let e = enum_told2_from_judge_consistent j in
     let d = closing e in
     let h = head_of d in
-    let pre = h.head.ensures.precondition in
-    let said = says_consistent _ _ _ _ _ d.close.ensures e.enum-told2.given.1 in
+    let pre = h.head-head.ensures.precondition in
+    let said = says_consistent _ _ _ _ _ d.close-closed.ensures e.in-Consistent.is in
     let consistent = (closure_start _ _ _ _ _ pre (closure_says _ _ _ _ said)).consistent in (
-      fail_rows _ _ _ (judged h) _ (fails h) _ (start h).pre.0.flagged (cleared h).clear.ensures pre _ said.0
-          j.judge-consistent.ensures.0,
-      (consistent, j.judge-consistent.ensures.1),
+      fail_rows _ _ _ (judged h) _ (fails h) _ (start h).requires.0.flagged (cleared h).clear.ensures pre _ said.0
+          j.judge_consistent.ensures.0,
+      (consistent, j.judge_consistent.ensures.1),
     )
 
-pub judge-guaranteed-spec : {M : Type 1} → statement M
-judge-guaranteed-spec =
+pub judge_guaranteed_spec : {M : Type 1} → statement M
+judge_guaranteed_spec =
     tie.close
     (tie.spec
     clear-requires

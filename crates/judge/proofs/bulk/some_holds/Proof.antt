@@ -13,16 +13,16 @@ use borrow.Author.Rules.{rules}
 use Rattle.judge.proofs.bulk.some_holds.Statement.{statement}
 use Rattle.judge.proofs.bulk.some_holds.Tie as tie
 
-abbrev invariant-loop : tie.invariant-loop
+abbrev invariant-loop : tie.invariant-loop-place
 invariant-loop judged l place₀ place =
     Placed judged place × (any (member l) (clauses_of judged) ≡ any (member l) (drop place.number (clauses_of judged)))
 
-abbrev decreases-loop : tie.decreases-loop
+abbrev decreases-loop : tie.decreases-loop-place
 decreases-loop judged l place₀ place = row_count judged - place.number
 
 -- at the loop's head: the clause words
 abbrev head : Type 0
-head = tie.At-loop invariant-loop decreases-loop
+head = tie.At-loop-place invariant-loop decreases-loop
 
 abbrev start : head → tie.Start invariant-loop decreases-loop
 start h = h.before.before.before
@@ -32,73 +32,73 @@ words h = (start h).args.judged.now
 
 -- in the loop: the row
 abbrev turn : Type 0
-turn = tie.Then1 invariant-loop decreases-loop
+turn = tie.In-loop-place invariant-loop decreases-loop
 
 abbrev at : turn → head
 at t = t.before.before
 
-row : (t : turn) → AtRow (words (at t)) (at t).loop.place
-row t = is_row (at t).loop.inv.0 t.before.is-in.ensures t.if1.taken
+row : (t : turn) → AtRow (words (at t)) (at t).loop-place.place
+row t = is_row (at t).loop-place.invariant.0 t.is_in.ensures t.loop-place-test.true
 
 -- and its clause
 abbrev asked : Type 0
-asked = tie.After-has-literal invariant-loop decreases-loop
+asked = tie.After-has_literal invariant-loop decreases-loop
 
 abbrev turn_of : asked → turn
 turn_of q = q.before.before
 
-clause : (q : asked) → let h = at (turn_of q) in clause_of q.before.row.result.now ≡ get_or (clauses_of (words h)) h.loop.place.number []
-clause q = row_clause (row (turn_of q)) q.before.row.ensures refl
+clause : (q : asked) → let h = at (turn_of q) in clause_of q.row.result.now ≡ get_or (clauses_of (words h)) h.loop-place.place.number []
+clause q = row_clause (row (turn_of q)) q.row.ensures refl
 
-first-requires : tie.Need-first-requires invariant-loop decreases-loop
+first-requires : tie.Need-first-place-requires invariant-loop decreases-loop
 first-requires c κs = search rules
 
-loop-holds : tie.Need-loop-init invariant-loop decreases-loop
-loop-holds c = (placed_first c.first.ensures, rw c.first.ensures.number refl)
+loop-holds : tie.Need-loop-place-init invariant-loop decreases-loop
+loop-holds c = (placed_first c.first-place.ensures, rw c.first-place.ensures.number refl)
 
-is-in-requires : tie.Need-is-in-requires invariant-loop decreases-loop
-is-in-requires c κs = c.loop.invariant.0
+is-in-requires : tie.Need-is_in-requires invariant-loop decreases-loop
+is-in-requires c κs = c.loop-place.invariant.0
 
 row-requires : tie.Need-row-requires invariant-loop decreases-loop
 row-requires c κs = row c
 
-has-literal-requires : tie.Need-has-literal-requires invariant-loop decreases-loop
+has-literal-requires : tie.Need-has_literal-requires invariant-loop decreases-loop
 has-literal-requires c κs = search rules
 
-returns : tie.Need-returns invariant-loop decreases-loop
+returns : tie.Need-returns-then-has_literal invariant-loop decreases-loop
 returns c =
     let q = c.before in
     let t = turn_of q in
     sym
-    ((at t).loop.inv.1
-    ∙ any_found (clauses_of (words (at t))) _ [] _ (clause q) (has_clause_lem (row t)) (member _) (sym q.has-literal.ensures ∙ c.if2.true))
+    ((at t).loop-place.invariant.1
+    ∙ any_found (clauses_of (words (at t))) _ [] _ (clause q) (has_clause_lem (row t)) (member _) (sym q.has_literal.ensures ∙ c.if-has_literal.true))
 
-next-requires : tie.Need-next-requires invariant-loop decreases-loop
-next-requires c κs = let t = turn_of c.before in has_next (row t) (start (at t)).good.0.0
+next-requires : tie.Need-next-place-requires invariant-loop decreases-loop
+next-requires c κs = let t = turn_of c.before in has_next (row t) (start (at t)).well_formed.0.0
 
 -- after the row
-abbrev passed : tie.After-next invariant-loop decreases-loop → asked
+abbrev passed : tie.After-next-place invariant-loop decreases-loop → asked
 passed c = c.before.before
 
-loop-less : tie.Need-loop-smaller invariant-loop decreases-loop
-loop-less c = fewer_left (row (turn_of (passed c))) c.next.ensures
+loop-less : tie.Need-loop-place-smaller invariant-loop decreases-loop
+loop-less c = fewer_left (row (turn_of (passed c))) c.next-place.ensures
 
-loop-again : tie.Need-loop-preserved invariant-loop decreases-loop
+loop-again : tie.Need-loop-place-preserved invariant-loop decreases-loop
 loop-again c =
     let q = passed c in
     let t = turn_of q in
-    let on = any_on (clauses_of (words (at t))) _ [] _ (clause q) (has_clause_lem (row t)) (member _) (sym q.has-literal.ensures ∙ c.before.if2.false) in
-    (placed_next (row t) c.next.ensures, rw c.next.ensures.number ((at t).loop.inv.1 ∙ on))
+    let on = any_on (clauses_of (words (at t))) _ [] _ (clause q) (has_clause_lem (row t)) (member _) (sym q.has_literal.ensures ∙ c.if-has_literal.false) in
+    (placed_next (row t) c.next-place.ensures, rw c.next-place.ensures.number ((at t).loop-place.invariant.1 ∙ on))
 
-returns-2 : tie.Need-returns-2 invariant-loop decreases-loop
+returns-2 : tie.Need-returns invariant-loop decreases-loop
 returns-2 c =
     let h = c.before.before in
     let w = words h in
-    let done = no_clause h.loop.invariant.0 c.before.is-in.ensures c.if1.false in
-    sym (h.loop.invariant.1 ∙ any_end (member _) (clauses_of w) h.loop.place.number done)
+    let done = no_clause h.loop-place.invariant.0 c.is_in.ensures c.loop-place-test.false in
+    sym (h.loop-place.invariant.1 ∙ any_end (member _) (clauses_of w) h.loop-place.place.number done)
 
-pub some-holds-spec : {M : Type 1} → statement M
-some-holds-spec =
+pub some_holds_spec : {M : Type 1} → statement M
+some_holds_spec =
     tie.close
     (tie.spec
     invariant-loop

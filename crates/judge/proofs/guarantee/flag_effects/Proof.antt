@@ -17,141 +17,141 @@ use borrow.Author.Rules.{rules}
 use Rattle.judge.proofs.guarantee.flag_effects.Statement.{statement}
 use Rattle.judge.proofs.guarantee.flag_effects.Tie as tie
 
-abbrev invariant-loop : tie.invariant-loop
+abbrev invariant-loop : tie.invariant-loop-left
 invariant-loop block marks adds flags₀ end rows at₀ left₀ flags at left =
     (parses_at block at left ≡ true) × (length flags ≡ length flags₀)
     ×
     ((atoms : ℕ) (K : List ℕ) → operator_right atoms (operator_in block) ≡ true → Marked atoms marks K → Left atoms block at left ×
     (flag_effects adds K (operator_in block).rows flags₀ ≡ flag_effects adds K (rows_at block at left) flags))
 
-abbrev decreases-loop : tie.decreases-loop
+abbrev decreases-loop : tie.decreases-loop-left
 decreases-loop block marks adds flags₀ end rows at₀ left₀ flags at left = left
 
 -- the places of a turn: the loop, the row that was read, the sign of its effect, its conditions, its flag
-abbrev at_loop : tie.After-row invariant-loop decreases-loop → tie.At-loop invariant-loop decreases-loop
+abbrev at_loop : tie.After-row-effect invariant-loop decreases-loop → tie.At-loop-left invariant-loop decreases-loop
 at_loop c = c.before.before
 
-abbrev row_of : tie.After-has-sign invariant-loop decreases-loop → tie.After-row invariant-loop decreases-loop
+abbrev row_of : tie.After-has_sign invariant-loop decreases-loop → tie.After-row-effect invariant-loop decreases-loop
 row_of c = c.before
 
-abbrev right_sign : tie.After-holds-all invariant-loop decreases-loop → tie.Else1 invariant-loop decreases-loop
+abbrev right_sign : tie.After-holds_all invariant-loop decreases-loop → tie.Else-not-has_sign invariant-loop decreases-loop
 right_sign c = c.before.before
 
-abbrev sign_of : tie.After-holds-all invariant-loop decreases-loop → tie.After-has-sign invariant-loop decreases-loop
+abbrev sign_of : tie.After-holds_all invariant-loop decreases-loop → tie.After-has_sign invariant-loop decreases-loop
 sign_of c = (right_sign c).before
 
-abbrev held : tie.After-put invariant-loop decreases-loop → tie.Else2 invariant-loop decreases-loop
+abbrev held : tie.After-put invariant-loop decreases-loop → tie.Else-not-holds_all invariant-loop decreases-loop
 held c = c.before.before
 
-abbrev put_of : tie.After-slice-known2 invariant-loop decreases-loop → tie.After-put invariant-loop decreases-loop
+abbrev put_of : tie.After-slice_known-in-loop-left-1 invariant-loop decreases-loop → tie.After-put invariant-loop decreases-loop
 put_of c = c.before.before
 
-head-requires : tie.Need-head-requires invariant-loop decreases-loop
-head-requires c κs = c.before.before.before.requires
+head-requires : tie.Need-head-end-requires invariant-loop decreases-loop
+head-requires c κs = c.requires
 
-add_at : tie.Need-overflow-add-at invariant-loop decreases-loop
+add_at : tie.Need-overflow_add-at invariant-loop decreases-loop
 add_at c = search rules
 
-loop-holds : tie.Need-loop-init invariant-loop decreases-loop
+loop-holds : tie.Need-loop-left-init invariant-loop decreases-loop
 loop-holds c =
-    (c.head.ensures.parses, refl, λ atoms K right m. (left_start atoms _ right _ _ c.head.ensures, effects_start _ K _ _ _ c.head.ensures.rows))
+    (c.head-end.ensures.parses, refl, λ atoms K right m. (left_start atoms _ right _ _ c.head-end.ensures, effects_start _ K _ _ _ c.head-end.ensures.rows))
 
-row-requires : tie.Need-row-requires invariant-loop decreases-loop
-row-requires c κs = (c.before.loop.invariant.0, c.loop-test.true)
+row-requires : tie.Need-row-effect-requires invariant-loop decreases-loop
+row-requires c κs = (c.loop-left.invariant.0, c.loop-left-test.true)
 
-sub-left : tie.Need-overflow-sub-left invariant-loop decreases-loop
+sub-left : tie.Need-overflow_sub-left invariant-loop decreases-loop
 sub-left c = search rules
 
-cast-t16 : tie.Need-overflow-cast-t16 invariant-loop decreases-loop
+cast-t16 : tie.Need-overflow_cast-l invariant-loop decreases-loop
 cast-t16 c = search rules
 
-has-sign-requires : tie.Need-has-sign-requires invariant-loop decreases-loop
+has-sign-requires : tie.Need-has_sign-requires invariant-loop decreases-loop
 has-sign-requires c κs = search rules
 
-loop-less : tie.Need-loop-smaller invariant-loop decreases-loop
+loop-less : tie.Need-loop-left-smaller-then-not-has_sign invariant-loop decreases-loop
 loop-less c = search rules
 
-loop-again : tie.Need-loop-preserved invariant-loop decreases-loop
+loop-again : tie.Need-loop-left-preserved-then-not-has_sign invariant-loop decreases-loop
 loop-again c =
     let k = c.before in
-    let i = (at_loop (row_of k)).loop.inv in
-    let r = (row_of k).row.ensures in (
+    let i = (at_loop (row_of k)).loop-left.invariant in
+    let r = (row_of k).row-effect.ensures in (
       r.next,
       i.1,
       λ atoms K right m.
           let j = i.2 atoms K right m in (
             left_next atoms _ _ _ _ _ _ j.0 r,
-            j.1 ∙ effects_other _ K _ _ _ _ _ r.row (sym k.has-sign.ensures ∙ not-true _ c.if1.true),
+            j.1 ∙ effects_other _ K _ _ _ _ _ r.row (sym k.has_sign.ensures ∙ c.if-not-has_sign.true),
           ),
     )
 
-mul-holds-all : tie.Need-overflow-mul-holds-all invariant-loop decreases-loop
+mul-holds-all : tie.Need-offset_bounds-block-from invariant-loop decreases-loop
 mul-holds-all c = search rules
 
-sub-holds-all : tie.Need-overflow-sub-holds-all invariant-loop decreases-loop
+sub-holds-all : tie.Need-slice_bounds-holds_all-count invariant-loop decreases-loop
 sub-holds-all c = search rules
 
-part-holds-all-start : tie.Need-slice-bounds-holds-all-start invariant-loop decreases-loop
+part-holds-all-start : tie.Need-slice_bounds-holds_all-start invariant-loop decreases-loop
 part-holds-all-start c = search rules
 
-part-holds-all-end : tie.Need-slice-bounds-holds-all-end invariant-loop decreases-loop
+part-holds-all-end : tie.Need-slice_bounds-holds_all-end invariant-loop decreases-loop
 part-holds-all-end c = search rules
 
-holds-all-requires : tie.Need-holds-all-requires invariant-loop decreases-loop
+holds-all-requires : tie.Need-holds_all-requires invariant-loop decreases-loop
 holds-all-requires c κs = search rules
 
-loop-less-2 : tie.Need-loop-smaller-2 invariant-loop decreases-loop
+loop-less-2 : tie.Need-loop-left-smaller-then-not-holds_all invariant-loop decreases-loop
 loop-less-2 c = search rules
 
-loop-again-2 : tie.Need-loop-preserved-2 invariant-loop decreases-loop
+loop-again-2 : tie.Need-loop-left-preserved-then-not-holds_all invariant-loop decreases-loop
 loop-again-2 c =
     let h = c.before in
     let k = sign_of h in
-    let i = (at_loop (row_of k)).loop.inv in
-    let r = (row_of k).row.ensures in (
+    let i = (at_loop (row_of k)).loop-left.invariant in
+    let r = (row_of k).row-effect.ensures in (
       r.next,
       i.1,
       λ atoms K right m.
           let j = i.2 atoms K right m in (
             left_next atoms _ _ _ _ _ _ j.0 r,
             j.1
-                ∙ effects_passed _ K _ _ _ _ _ r.row (sym k.has-sign.ensures ∙ not-false _ (right_sign h).if1.false)
-                (sym (h.holds-all.ensures atoms K m (conditions_low atoms _ _ _ _ _ _ j.0 r)) ∙ not-true _ c.if2.true),
+                ∙ effects_passed _ K _ _ _ _ _ r.row (sym k.has_sign.ensures ∙ (right_sign h).if-not-has_sign.false)
+                (sym (h.holds_all.ensures atoms K m (conditions_low atoms _ _ _ _ _ _ j.0 r)) ∙ c.if-not-holds_all.true),
           ),
     )
 
 put-requires : tie.Need-put-requires invariant-loop decreases-loop
 put-requires c κs = search rules
 
-loop-less-3 : tie.Need-loop-smaller-3 invariant-loop decreases-loop
+loop-less-3 : tie.Need-loop-left-smaller invariant-loop decreases-loop
 loop-less-3 c = search rules
 
-loop-again-3 : tie.Need-loop-preserved-3 invariant-loop decreases-loop
+loop-again-3 : tie.Need-loop-left-preserved invariant-loop decreases-loop
 loop-again-3 c =
     let p = put_of c in
     let h = (held p).before in
     let k = sign_of h in
-    let i = (at_loop (row_of k)).loop.inv in
-    let r = (row_of k).row.ensures in (
+    let i = (at_loop (row_of k)).loop-left.invariant in
+    let r = (row_of k).row-effect.ensures in (
       r.next,
-      p.put.kept.0 ∙ i.1,
+      p.put.auto.flags ∙ i.1,
       λ atoms K right m.
           let j = i.2 atoms K right m in (
             left_next atoms _ _ _ _ _ _ j.0 r,
             j.1
-                ∙ effects_made _ K _ _ _ _ _ r.row _ p.put.ensures (sym k.has-sign.ensures ∙ not-false _ (right_sign h).if1.left)
-                (sym (h.holds-all.ensures atoms K m (conditions_low atoms _ _ _ _ _ _ j.0 r)) ∙ not-false _ (held p).if2.left),
+                ∙ effects_made _ K _ _ _ _ _ r.row _ p.put.ensures (sym k.has_sign.ensures ∙ (right_sign h).if-not-has_sign.false)
+                (sym (h.holds_all.ensures atoms K m (conditions_low atoms _ _ _ _ _ _ j.0 r)) ∙ (held p).if-not-holds_all.false),
           ),
     )
 
-same_length : tie.Need-same-length invariant-loop decreases-loop
-same_length c = c.before.loop.invariant.1
+same_length : tie.Need-shape_of-flags invariant-loop decreases-loop
+same_length c = c.loop-left.invariant.1
 
 returns : tie.Need-returns invariant-loop decreases-loop
-returns c = λ atoms K right m. sym ((c.before.loop.invariant.2 atoms K right m).1 ∙ effects_end _ K _ _ (rows_none _ _ _ (omega arith)))
+returns c = λ atoms K right m. sym ((c.loop-left.invariant.2 atoms K right m).1 ∙ effects_end _ K _ _ (rows_none _ _ _ (omega arith)))
 
-pub flag-effects-spec : {M : Type 1} → statement M
-flag-effects-spec =
+pub flag_effects_spec : {M : Type 1} → statement M
+flag_effects_spec =
     tie.close
     (tie.spec
     invariant-loop

@@ -11,52 +11,52 @@ use borrow.Author.Rules.{rules}
 use Rattle.next_set.proofs.test.some_flag.Statement.{statement}
 use Rattle.next_set.proofs.test.some_flag.Tie as tie
 
-abbrev invariant-loop : tie.invariant-loop
+abbrev invariant-loop : tie.invariant-loop-i
 invariant-loop flags i₀ i = any (λ x. eqb x 1) flags ≡ any (λ x. eqb x 1) (drop i flags)
 
-abbrev decreases-loop : tie.decreases-loop
+abbrev decreases-loop : tie.decreases-loop-i
 decreases-loop flags i₀ i = length flags - i
 
-loop-holds : tie.Need-loop-init invariant-loop decreases-loop
+loop-holds : tie.Need-loop-i-init invariant-loop decreases-loop
 loop-holds c = refl
 
-shared-slice-read-if1 : tie.Need-shared-slice-read-if1 invariant-loop decreases-loop
+shared-slice-read-if1 : tie.Need-bounds-flags-i invariant-loop decreases-loop
 shared-slice-read-if1 c = search rules
 
 -- the places of the function
-abbrev at_start : tie.At-loop invariant-loop decreases-loop → tie.Start invariant-loop decreases-loop
+abbrev at_start : tie.At-loop-i invariant-loop decreases-loop → tie.Start invariant-loop decreases-loop
 at_start c = c.before
 
-abbrev at_loop_of_else1 : tie.Else1 invariant-loop decreases-loop → tie.At-loop invariant-loop decreases-loop
+abbrev at_loop_of_else1 : tie.Else-flags-i-eq1 invariant-loop decreases-loop → tie.At-loop-i invariant-loop decreases-loop
 at_loop_of_else1 c = c.before.before.before
 
-abbrev at_loop_of_then1 : tie.Then1 invariant-loop decreases-loop → tie.At-loop invariant-loop decreases-loop
+abbrev at_loop_of_then1 : tie.Then-flags-i-eq1 invariant-loop decreases-loop → tie.At-loop-i invariant-loop decreases-loop
 at_loop_of_then1 c = c.before.before.before
 
-returns : tie.Need-returns invariant-loop decreases-loop
+returns : tie.Need-returns-then-flags-i-eq1 invariant-loop decreases-loop
 returns c =
     sym
-    (c.before.before.before.loop.invariant
-    ∙ any_found (at_start (at_loop_of_then1 c)).args.flags.now c.before.before.before.loop.i 0 _ refl c.before.before.loop-test.true
-    (λ x. eqb x 1) (eq-eqb _ _ c.if1.true))
+    (c.loop-i.invariant
+    ∙ any_found (at_start (at_loop_of_then1 c)).args.flags.now c.loop-i.i 0 _ refl c.loop-i-test.true
+    (λ x. eqb x 1) (eq-eqb _ _ c.if-flags-i-eq1.true))
 
-add-i : tie.Need-overflow-add-i invariant-loop decreases-loop
+add-i : tie.Need-overflow_add-i invariant-loop decreases-loop
 add-i c = search rules
 
-loop-less : tie.Need-loop-smaller invariant-loop decreases-loop
+loop-less : tie.Need-loop-i-smaller invariant-loop decreases-loop
 loop-less c = search rules
 
-loop-again : tie.Need-loop-preserved invariant-loop decreases-loop
+loop-again : tie.Need-loop-i-preserved invariant-loop decreases-loop
 loop-again c =
-    c.before.before.before.loop.invariant
-    ∙ any_on (at_start (at_loop_of_else1 c)).args.flags.now c.before.before.before.loop.i 0 _ refl c.before.before.loop-test.true
-    (λ x. eqb x 1) (ne_eqb _ _ c.if1.false)
+    c.loop-i.invariant
+    ∙ any_on (at_start (at_loop_of_else1 c)).args.flags.now c.loop-i.i 0 _ refl c.loop-i-test.true
+    (λ x. eqb x 1) (ne_eqb _ _ c.if-flags-i-eq1.false)
 
-returns-2 : tie.Need-returns-2 invariant-loop decreases-loop
-returns-2 c = sym (c.before.loop.invariant ∙ any_end (λ x. eqb x 1) c.before.before.args.flags.now c.before.loop.i c.loop-test.false)
+returns-2 : tie.Need-returns invariant-loop decreases-loop
+returns-2 c = sym (c.loop-i.invariant ∙ any_end (λ x. eqb x 1) c.args.flags.now c.loop-i.i c.loop-i-test.false)
 
-pub some-flag-spec : {M : Type 1} → statement M
-some-flag-spec =
+pub some_flag_spec : {M : Type 1} → statement M
+some_flag_spec =
     tie.close
     (tie.spec
     invariant-loop

@@ -19,13 +19,13 @@ use Rattle.next_set.proofs.test.test_operator.Tie as tie
 
 -- where the clauses are judged
 abbrev judged : Type 0
-judged = tie.After-judge-operator
+judged = tie.After-judge_operator
 
 abbrev start : judged → tie.Start
 start d = let p = d.before.before.before in let q = p.before.before.before in q.before.before.before
 
 abbrev fails : judged → List ℕ
-fails d = d.judge-operator.last.1.1.1.1.1.0
+fails d = d.judge_operator.new.fails
 
 few : (d : judged) → (start d).args.operator < most_operators
 few d =
@@ -33,44 +33,44 @@ few d =
     omega (arith, p.1, few_operators (start d).args.image.now p.0.read.task)
 
 flagged : (d : judged) → length (fails d) ≡ row_count (start d).args.clauses.now
-flagged d = d.judge-operator.auto.1.1.1.1.1.0 ∙ (start d).requires.0.flagged
+flagged d = d.judge_operator.auto.fails ∙ (start d).requires.0.flagged
 
-abbrev start_from_judge_operator : tie.After-judge-operator-arg2 → tie.Start
+abbrev start_from_judge_operator : tie.After-judge_operator-arg-2-1 → tie.Start
 start_from_judge_operator c = let p = c.before.before.before in let q = p.before.before.before in q.before.before
 
-judge-operator-requires : tie.Need-judge-operator-requires
+judge-operator-requires : tie.Need-judge_operator-requires
 judge-operator-requires c κs = let p = (start_from_judge_operator c).requires in (p.0, p.1)
 
-abbrev judged_from_add_flags : tie.After-add-flags-arg3 → judged
-judged_from_add_flags c = let p = c.before.before.before in let q = p.before.before.before in q.before
+abbrev judged_from_add_flags : tie.After-add_flags-arg-2-1 → judged
+judged_from_add_flags c = let p = c.before.before.before in p.before.before.before
 
-mul-add-flags : tie.Need-overflow-mul-add-flags
+mul-add-flags : tie.Need-overflow_mul-operator
 unfolding width
 mul-add-flags c = record { fits = omega (arith, few (judged_from_add_flags c)) }
 
-add-flags-requires : tie.Need-add-flags-requires
+add-flags-requires : tie.Need-add_flags-requires
 unfolding width
 add-flags-requires c κs =
     let d = judged_from_add_flags c in
-    (flagged d, flagged d ∙ sym (start d).pre.2, omega (arith, few d))
+    (flagged d, flagged d ∙ sym (start d).requires.2, omega (arith, few d))
 
-same_length : tie.Need-same-length
+same_length : tie.Need-shape_of-marks
 same_length c = search rules
 
-same-length-2 : tie.Need-same-length-2
+same-length-2 : tie.Need-shape_of-fails
 same-length-2 c = search rules
 
-same-length-3 : tie.Need-same-length-3
+same-length-3 : tie.Need-shape_of-failing
 same-length-3 c = search rules
 
-same-length-4 : tie.Need-same-length-4
+same-length-4 : tie.Need-shape_of-due
 same-length-4 c = search rules
 
-abbrev add_flags_from_slice_known8 : tie.After-slice-known8 → tie.After-add-flags
+abbrev add_flags_from_slice_known8 : tie.After-slice_known-8-1 → tie.After-add_flags
 add_flags_from_slice_known8 c = let p = c.before.before.before in p.before
 
-abbrev judged_from_add_flags_2 : tie.After-add-flags → judged
-judged_from_add_flags_2 c = let p = c.before.before.before in let q = p.before.before.before in q.before.before
+abbrev judged_from_add_flags_2 : tie.After-add_flags → judged
+judged_from_add_flags_2 c = let p = c.before.before.before in let q = p.before.before.before in q.before
 
 returns : tie.Need-returns
 unfolding fail_flags width
@@ -79,10 +79,10 @@ returns c =
     let d = judged_from_add_flags_2 e in
     let a = (start d).args in
     let o = operator_at (task_of a.image.now) a.operator in
-    e.add-flags.ensures (λ f. not (kept a.atoms (clauses_of a.clauses.now) o f)) d.judge-operator.ensures
+    e.add_flags.ensures (λ f. not (kept a.atoms (clauses_of a.clauses.now) o f)) d.judge_operator.ensures
 
-pub test-operator-spec : {M : Type 1} → statement M
-test-operator-spec =
+pub test_operator_spec : {M : Type 1} → statement M
+test_operator_spec =
     tie.close
     (tie.spec
     judge-operator-requires

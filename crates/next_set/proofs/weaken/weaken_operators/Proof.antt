@@ -21,18 +21,18 @@ use borrow.Author.Rules.{rules}
 use Rattle.next_set.proofs.weaken.weaken_operators.Statement.{statement}
 use Rattle.next_set.proofs.weaken.weaken_operators.Tie as tie
 
-abbrev invariant-loop : tie.invariant-loop
+abbrev invariant-loop : tie.invariant-loop-operator
 invariant-loop image clauses atoms k due marks₀ fails₀ work₀ count rows operators taken₀ operator₀ marks fails work taken operator =
     (operators ≡ length (task_of image).operators) × (length marks ≡ length marks₀) × (length fails ≡ length fails₀) × (length work ≡ length work₀) ×
     Pending rows (each (added_by (task_of image) (clauses_of clauses) k) (drop operator (task_of image).operators))
     (put_all rows (added_at (task_of image) (clauses_of clauses) k) (some (held count work₀))) taken work
 
-abbrev decreases-loop : tie.decreases-loop
+abbrev decreases-loop : tie.decreases-loop-operator
 decreases-loop image clauses atoms k due marks₀ fails₀ work₀ count rows operators taken₀ operator₀ marks fails work taken operator = operators - operator
 
 -- in the loop: the start, and what an operator adds
 abbrev at_loop : Type 0
-at_loop = tie.At-loop invariant-loop decreases-loop
+at_loop = tie.At-loop-operator invariant-loop decreases-loop
 
 abbrev start : at_loop → tie.Start invariant-loop decreases-loop
 start l = let p = l.before.before.before in let q = p.before.before.before in q.before.before
@@ -45,130 +45,129 @@ added l = added_by (task l) (clauses_of (start l).args.clauses.now) (start l).ar
 
 -- what is left at an operator: what it adds, and what the next ones add
 left_at :
-    (i : tie.In-loop invariant-loop decreases-loop) → let l = i.before in
-    each (added l) (drop l.loop.operator (task l).operators) ≡ added l (operator_at (task l) l.loop.operator) ++ each (added l)
-    (drop (l.loop.operator + 1) (task l).operators)
+    (i : tie.In-loop-operator invariant-loop decreases-loop) → let l = i.before in
+    each (added l) (drop l.loop-operator.operator (task l).operators) ≡ added l (operator_at (task l) l.loop-operator.operator) ++ each (added l)
+    (drop (l.loop-operator.operator + 1) (task l).operators)
 unfolding operator_at
 left_at i =
     let l = i.before in
-    each_left (added l) (task l).operators l.loop.operator no_operator (operator_at (task l) l.loop.operator) refl
-    (omega (arith, i.loop-test.true, l.loop.invariant.0))
+    each_left (added l) (task l).operators l.loop-operator.operator no_operator (operator_at (task l) l.loop-operator.operator) refl
+    (omega (arith, i.loop-operator-test.true, l.loop-operator.invariant.0))
 
 -- where an operator is done
 abbrev done : Type 0
-done = tie.After-weaken-operator invariant-loop decreases-loop
+done = tie.After-weaken_operator-built invariant-loop decreases-loop
 
-abbrev loop_of : done → tie.In-loop invariant-loop decreases-loop
+abbrev loop_of : done → tie.In-loop-operator invariant-loop decreases-loop
 loop_of d = let p = d.before.before.before in p.before
 
-same_marks : (d : done) → length d.weaken-operator.last.1.1.1.1.1.1.0 ≡ length (start (loop_of d).before).args.marks.now
-same_marks d = d.weaken-operator.kept.1.1.1.1.1.1.0 ∙ (loop_of d).before.loop.inv.1
+same_marks : (d : done) → length d.weaken_operator-built.new.marks ≡ length (start (loop_of d).before).args.marks.now
+same_marks d = d.weaken_operator-built.auto.marks ∙ (loop_of d).loop-operator.invariant.1
 
-same_fails : (d : done) → length d.weaken-operator.last.1.1.1.1.1.1.1.0 ≡ length (start (loop_of d).before).args.fails.now
-same_fails d = d.weaken-operator.kept.1.1.1.1.1.1.1.0 ∙ (loop_of d).before.loop.inv.2
+same_fails : (d : done) → length d.weaken_operator-built.new.fails ≡ length (start (loop_of d).before).args.fails.now
+same_fails d = d.weaken_operator-built.auto.fails ∙ (loop_of d).loop-operator.invariant.2
 
-same_work : (d : done) → length d.weaken-operator.last.1.1.1.1.1.1.1.1.0 ≡ length (start (loop_of d).before).args.work.now
-same_work d = d.weaken-operator.kept.1.1.1.1.1.1.1.1.0 ∙ (loop_of d).before.loop.inv.3
+same_work : (d : done) → length d.weaken_operator-built.new.work ≡ length (start (loop_of d).before).args.work.now
+same_work d = d.weaken_operator-built.auto.work ∙ (loop_of d).loop-operator.invariant.3
 
-abbrev start_from_slice_known3 : tie.After-slice-known3 invariant-loop decreases-loop → tie.Start invariant-loop decreases-loop
+abbrev start_from_slice_known3 : tie.After-slice_known-3-1 invariant-loop decreases-loop → tie.Start invariant-loop decreases-loop
 start_from_slice_known3 c = let p = c.before.before.before in p.before.before.before
 
-operators-requires : tie.Need-operators-requires invariant-loop decreases-loop
+operators-requires : tie.Need-operators-operators-requires invariant-loop decreases-loop
 operators-requires c κs = (start_from_slice_known3 c).requires.0.tested.given.read.task
 
-abbrev start_from_operators : tie.After-operators invariant-loop decreases-loop → tie.Start invariant-loop decreases-loop
+abbrev start_from_operators : tie.After-operators-operators invariant-loop decreases-loop → tie.Start invariant-loop decreases-loop
 start_from_operators c = let p = c.before.before.before in let q = p.before.before.before in q.before
 
-loop-holds : tie.Need-loop-init invariant-loop decreases-loop
+loop-holds : tie.Need-loop-operator-init invariant-loop decreases-loop
 unfolding added_at
 loop-holds c =
     let s = start_from_operators c in
     let a = s.args in (
-      c.operators.ensures.0,
+      c.operators-operators.ensures.0,
       refl,
       refl,
       refl,
-      pending_start a.rows (added_at (task_of a.image.now) (clauses_of a.clauses.now) a.k) a.count a.work.now s.pre.1,
+      pending_start a.rows (added_at (task_of a.image.now) (clauses_of a.clauses.now) a.k) a.count a.work.now s.requires.1,
     )
 
-abbrev at_loop_from_weaken_operator : tie.After-weaken-operator-arg3 invariant-loop decreases-loop → at_loop
+abbrev at_loop_from_weaken_operator : tie.After-weaken_operator-arg-in-loop-operator-2-1 invariant-loop decreases-loop → at_loop
 at_loop_from_weaken_operator c = let p = c.before.before.before in p.before
 
-weaken-operator-requires : tie.Need-weaken-operator-requires invariant-loop decreases-loop
+weaken-operator-requires : tie.Need-weaken_operator-built-requires invariant-loop decreases-loop
 weaken-operator-requires c κs =
     let l = at_loop_from_weaken_operator c in
-    let v = l.loop.inv in (
-      weakens_on _ _ _ _ _ _ _ l.loop.marks l.loop.fails v.1 v.2 (start l).pre.0,
-      omega (arith, c.before.before.before.loop-test.true, v.0),
+    let v = l.loop-operator.invariant in (
+      weakens_on _ _ _ _ _ _ _ l.loop-operator.marks l.loop-operator.fails v.1 v.2 (start l).requires.0,
+      omega (arith, c.loop-operator-test.true, v.0),
       v.4.room,
     )
 
-enum_told : tie.Need-enum-told invariant-loop decreases-loop
-enum_told c = c.match.keys1
+enum_told : tie.Need-enum_told-1 invariant-loop decreases-loop
+enum_told c = c.in-Full-1.keys1
 
-abbrev done_from_enum_told : tie.After-enum-told invariant-loop decreases-loop → done
-done_from_enum_told c = let p = c.before.before.before in let q = p.before.before.before in q.before.before
+abbrev done_from_enum_told : tie.In-Full invariant-loop decreases-loop → done
+done_from_enum_told c = let p = c.before.before.before in let q = p.before.before.before in q.before
 
-same_length : tie.Need-same-length invariant-loop decreases-loop
+same_length : tie.Need-shape_of-marks-in-Full invariant-loop decreases-loop
 same_length c = same_marks (done_from_enum_told c)
 
-same-length-2 : tie.Need-same-length-2 invariant-loop decreases-loop
+same-length-2 : tie.Need-shape_of-fails-in-Full invariant-loop decreases-loop
 same-length-2 c = same_fails (done_from_enum_told c)
 
-same-length-3 : tie.Need-same-length-3 invariant-loop decreases-loop
+same-length-3 : tie.Need-shape_of-work-in-Full invariant-loop decreases-loop
 same-length-3 c = same_work (done_from_enum_told c)
 
-returns : tie.Need-returns invariant-loop decreases-loop
+returns : tie.Need-returns-in-Full invariant-loop decreases-loop
 returns c =
     let d = done_from_enum_told c in
     let l = (loop_of d).before in
-    pending_full (start l).args.rows _ _ l.loop.taken l.loop.work l.loop.inv.4 _ _ (left_at (loop_of d)) _ d.weaken-operator.result
-    d.weaken-operator.ensures c.enum_told.given.1
+    pending_full (start l).args.rows _ _ l.loop-operator.taken l.loop-operator.work l.loop-operator.invariant.4 _ _ (left_at (loop_of d)) _ d.weaken_operator-built.result
+    d.weaken_operator-built.ensures c.in-Full.is
 
-enum-known-built : tie.Need-enum-known-built invariant-loop decreases-loop
-enum-known-built c = c.match.keys2
+enum-known-built : tie.Need-enum_known-built invariant-loop decreases-loop
+enum-known-built c = c.in-Rows-1.keys2
 
-add-operator : tie.Need-overflow-add-operator invariant-loop decreases-loop
+add-operator : tie.Need-overflow_add-operator invariant-loop decreases-loop
 add-operator c = search rules
 
-loop-less : tie.Need-loop-smaller invariant-loop decreases-loop
+loop-less : tie.Need-loop-operator-smaller invariant-loop decreases-loop
 loop-less c = search rules
 
-abbrev done_from_known_told : tie.After-known-told invariant-loop decreases-loop → done
-done_from_known_told c = let p = c.before.before.before in let q = p.before.before.before in q.before.before.before
+abbrev done_from_known_told : tie.In-Rows invariant-loop decreases-loop → done
+done_from_known_told c = let p = c.before.before.before in let q = p.before.before.before in q.before
 
-loop-again : tie.Need-loop-preserved invariant-loop decreases-loop
+loop-again : tie.Need-loop-operator-preserved invariant-loop decreases-loop
 loop-again c =
     let d = done_from_known_told c in
-    let l = (loop_of d).before in
-    let built = c.before.built.given in (
-      l.loop.inv.0,
+    let l = (loop_of d).before in (
+      l.loop-operator.invariant.0,
       same_marks d,
       same_fails d,
       same_work d,
-      pending_on (start l).args.rows _ _ l.loop.taken l.loop.work l.loop.inv.4 _ _ (left_at (loop_of d)) _ d.weaken-operator.result
-          d.weaken-operator.ensures built.0.0 built.1,
+      pending_on (start l).args.rows _ _ l.loop-operator.taken l.loop-operator.work l.loop-operator.invariant.4 _ _ (left_at (loop_of d)) _ d.weaken_operator-built.result
+          d.weaken_operator-built.ensures c.in-Rows.more c.in-Rows.is,
     )
 
-same-length-4 : tie.Need-same-length-4 invariant-loop decreases-loop
-same-length-4 c = c.before.loop.invariant.1
+same-length-4 : tie.Need-shape_of-marks invariant-loop decreases-loop
+same-length-4 c = c.loop-operator.invariant.1
 
-same-length-5 : tie.Need-same-length-5 invariant-loop decreases-loop
-same-length-5 c = c.before.loop.invariant.2
+same-length-5 : tie.Need-shape_of-fails invariant-loop decreases-loop
+same-length-5 c = c.loop-operator.invariant.2
 
-same-length-6 : tie.Need-same-length-6 invariant-loop decreases-loop
-same-length-6 c = c.before.loop.invariant.3
+same-length-6 : tie.Need-shape_of-work invariant-loop decreases-loop
+same-length-6 c = c.loop-operator.invariant.3
 
-returns-2 : tie.Need-returns-2 invariant-loop decreases-loop
+returns-2 : tie.Need-returns invariant-loop decreases-loop
 returns-2 c =
     let l = c.before in (
-      l.loop.invariant.4.room,
-      pending_end (start l).args.rows _ _ l.loop.taken l.loop.work l.loop.invariant.4
-          (each_done (added l) (task l).operators l.loop.operator (omega (arith, c.loop-test.false, l.loop.invariant.0))),
+      l.loop-operator.invariant.4.room,
+      pending_end (start l).args.rows _ _ l.loop-operator.taken l.loop-operator.work l.loop-operator.invariant.4
+          (each_done (added l) (task l).operators l.loop-operator.operator (omega (arith, c.loop-operator-test.false, l.loop-operator.invariant.0))),
     )
 
-pub weaken-operators-spec : {M : Type 1} → statement M
-weaken-operators-spec =
+pub weaken_operators_spec : {M : Type 1} → statement M
+weaken_operators_spec =
     tie.close
     (tie.spec
     invariant-loop

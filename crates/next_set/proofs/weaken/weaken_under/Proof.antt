@@ -16,7 +16,7 @@ use Rattle.next_set.proofs.weaken.weaken_under.Tie as tie
 
 -- where the clauses are judged: the clause words, the operator, the flags of the clauses and the literals listed
 abbrev judged : Type 0
-judged = tie.After-judge-listed
+judged = tie.After-judge_listed-length
 
 abbrev start : judged → tie.Start
 start d = let p = d.before.before.before in let q = p.before.before.before in let r = q.before.before.before in r.before
@@ -28,67 +28,67 @@ abbrev operator : judged → Operator
 operator d = operator_in (start d).args.block.now
 
 abbrev fails : judged → List ℕ
-fails d = d.judge-listed.last.1.1.1.1.0
+fails d = d.judge_listed-length.new.fails
 
 abbrev room : judged → List ℕ
-room d = d.judge-listed.last.1.1.1.1.1.0
+room d = d.judge_listed-length.new.list
 
-literals-requires : tie.Need-literals-requires
+literals-requires : tie.Need-literals-list-requires
 literals-requires c κs = search rules
 
-slice-aggregate-judge-listed : tie.Need-slice-aggregate-judge-listed
+slice-aggregate-judge-listed : tie.Need-slice_bounds-judge_listed-end
 slice-aggregate-judge-listed c = search rules
 
-judge-listed-requires : tie.Need-judge-listed-requires
+judge-listed-requires : tie.Need-judge_listed-length-requires
 judge-listed-requires c κs = search rules
 
-array-share-prefix-list : tie.Need-array-share-prefix-list
+array-share-prefix-list : tie.Need-slice_bounds-list-end
 array-share-prefix-list c = search rules
 
-abbrev judged_from_list3 : tie.After-list3 → judged
-judged_from_list3 c = let p = c.before.before.before in let q = p.before.before.before in q.before
+abbrev judged_from_list3 : tie.After-list-3-1 → judged
+judged_from_list3 c = let p = c.before.before.before in p.before.before.before
 
-slice-aggregate-weaken-rows : tie.Need-slice-aggregate-weaken-rows
-slice-aggregate-weaken-rows c = let d = judged_from_list3 c in sym (length-take-le _ (room d) d.judge-listed.ensures.1.few)
+slice-aggregate-weaken-rows : tie.Need-slice_bounds-weaken_rows-end
+slice-aggregate-weaken-rows c = let d = judged_from_list3 c in sym (length-take-le _ (room d) d.judge_listed-length.ensures.1.few)
 
-abbrev judged_from_weaken_rows : tie.After-weaken-rows-arg2 → judged
-judged_from_weaken_rows c = let p = c.before.before.before in let q = p.before.before.before in q.before.before
+abbrev judged_from_weaken_rows : tie.After-weaken_rows-arg-1 → judged
+judged_from_weaken_rows c = let p = c.before.before.before in let q = p.before.before.before in q.before
 
-weaken-rows-requires : tie.Need-weaken-rows-requires
+weaken-rows-requires : tie.Need-weaken_rows-requires
 weaken-rows-requires c κs =
     let d = judged_from_weaken_rows c in
-    let g = (start d).pre.0.given in
+    let g = (start d).requires.0.given in
     let a = (start d).args in (
-      weakening (words d) (operator d) a.atoms a.k (fails d) d.judge-listed.ensures.0 g.few g.rows _
-          d.judge-listed.ensures.1.low (start d).pre.1,
-      (start d).pre.2,
+      weakening (words d) (operator d) a.atoms a.k (fails d) d.judge_listed-length.ensures.0 g.few g.rows _
+          d.judge_listed-length.ensures.1.low (start d).requires.1,
+      (start d).requires.2,
     )
 
-same_length : tie.Need-same-length
+same_length : tie.Need-shape_of-marks
 same_length c = search rules
 
-same-length-2 : tie.Need-same-length-2
+same-length-2 : tie.Need-shape_of-fails
 same-length-2 c = search rules
 
-same-length-3 : tie.Need-same-length-3
+same-length-3 : tie.Need-shape_of-work
 same-length-3 c = search rules
 
-abbrev judged_from_slice_known6 : tie.After-slice-known6 → judged
-judged_from_slice_known6 c = let p = c.before.before.before in let q = p.before.before.before in let r = q.before.before.before in r.before.before
+abbrev judged_from_slice_known6 : tie.After-slice_known-6-1 → judged
+judged_from_slice_known6 c = let p = c.before.before.before in let q = p.before.before.before in let r = q.before.before.before in r.before
 
 returns : tie.Need-returns
 returns c =
-    let r = c.before.before.weaken-rows in
+    let r = c.weaken_rows in
     let d = judged_from_slice_known6 c in
     let a = (start d).args in
     let s : Option (List (List ℕ)) = some (held a.count a.work.now) in
-    λ t e. subst (λ (z : Option (List (List ℕ))). Holds a.rows r.result r.new.1.1.1.1.0 z)
-    (under_added (words d) (operator d) a.atoms a.k (fails d) d.judge-listed.ensures.0 t e a.rows s
-    (take d.judge-listed.result (room d)) (d.judge-listed.ensures.1.words t e))
+    λ t e. subst (λ (z : Option (List (List ℕ))). Holds a.rows r.result r.new.work z)
+    (under_added (words d) (operator d) a.atoms a.k (fails d) d.judge_listed-length.ensures.0 t e a.rows s
+    (take d.judge_listed-length.result (room d)) (d.judge_listed-length.ensures.1.words t e))
     r.ensures
 
-pub weaken-under-spec : {M : Type 1} → statement M
-weaken-under-spec =
+pub weaken_under_spec : {M : Type 1} → statement M
+weaken_under_spec =
     tie.close
     (tie.spec
     literals-requires

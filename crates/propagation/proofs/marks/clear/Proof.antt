@@ -23,10 +23,10 @@ decreases-loop marks₀ atoms whole i₀ marks i = whole - i
 abbrev start : tie.After-loop-i invariant-loop decreases-loop → tie.Start invariant-loop decreases-loop
 start d = d.before.before
 
-whole_cleared :
+whole_is_cleared :
     (d : tie.After-loop-i invariant-loop decreases-loop) → let a = (start d).args in d.loop-i.marks ≡ whole_cleared a.atoms a.marks.now
 unfolding whole_cleared
-whole_cleared d =
+whole_is_cleared d =
     let l = d.loop-i in
     let e : l.i ≡ (start d).args.atoms / 4 = omega (arith, l.invariant.0, d.loop-i-test.false) in
     l.invariant.2 ∙ ap (λ (k : ℕ). replicate k 0 ++ drop k (start d).args.marks.now) e
@@ -97,13 +97,13 @@ returns : tie.Need-returns-then-left-ne0 invariant-loop decreases-loop
 returns c =
     let t = c.before.before in
     let d = part_left t in
-    cleared_part _ _ _ (start d).requires (whole_cleared d) (inside t)
+    cleared_part _ _ _ (start d).requires (whole_is_cleared d) (inside t)
 
 same-length-2 : tie.Need-shape_of-marks-else-left-ne0 invariant-loop decreases-loop
 same-length-2 c = c.loop-i.invariant.1
 
 returns-2 : tie.Need-returns-else-left-ne0 invariant-loop decreases-loop
-returns-2 c = let d = c.before in cleared_whole _ _ _ (start d).requires (whole_cleared d) c.if-left-ne0.false
+returns-2 c = let d = c.before in cleared_whole _ _ _ (start d).requires (whole_is_cleared d) c.if-left-ne0.false
 
 pub clear_spec : {M : Type 1} → statement M
 clear_spec =

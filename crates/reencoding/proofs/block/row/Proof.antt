@@ -11,97 +11,97 @@ use Rattle.reencoding.proofs.block.row.Statement.{statement}
 use Rattle.reencoding.proofs.block.row.Tie as tie
 
 -- where atom and sign of the effect are known: the start
-abbrev known : tie.After-sign → tie.After-slice-known
+abbrev known : tie.After-sign-clears → tie.After-slice_known-1
 known c = c.before.before
 
-abbrev start : tie.After-sign → tie.Start
+abbrev start : tie.After-sign-clears → tie.Start
 start c = (known c).before.before.before
 
-room : (c : tie.After-sign) → let a = (start c).args in a.at + 4 ≤ length a.target.now
+room : (c : tie.After-sign-clears) → let a = (start c).args in a.at + 4 ≤ length a.target.now
 room c =
     let a = (start c).args in
     omega (arith, (start c).requires.0.room, row_length a.places.now a.effect.code a.conditions.now)
 
-inside : (c : tie.After-sign) → 2 * c.before.atom.result + 1 < length (start c).args.places.now
-inside c = omega (arith, c.before.atom.ensures, row_inside _ _ (start c).requires.1)
+inside : (c : tie.After-sign-clears) → 2 * c.atom-a.result + 1 < length (start c).args.places.now
+inside c = omega (arith, c.atom-a.ensures, row_inside _ _ (start c).requires.1)
 
 -- where the conditions are written
-abbrev signed : tie.After-counted-arg → tie.After-sign
+abbrev signed : tie.After-counted-arg-1 → tie.After-sign-clears
 signed c = c.before.before.before
 
-atom-requires : tie.Need-atom-requires
+atom-requires : tie.Need-atom-a-requires
 atom-requires c κs = search rules
 
-sign-requires : tie.Need-sign-requires
+sign-requires : tie.Need-sign-clears-requires
 sign-requires c κs = search rules
 
-mul-target : tie.Need-overflow-mul-target
+mul-target : tie.Need-offset_bounds-target-at
 mul-target c = search rules
 
-slice-write-target : tie.Need-slice-write-target
+slice-write-target : tie.Need-bounds-target-at
 slice-write-target c = omega (arith, room c)
 
-mul-target-2 : tie.Need-overflow-mul-target-2
+mul-target-2 : tie.Need-overflow_mul-target
 mul-target-2 c = omega (arith, inside c)
 
-mul-target-3 : tie.Need-overflow-mul-target-3
+mul-target-3 : tie.Need-offset_bounds-places-a
 mul-target-3 c = omega (arith, inside c)
 
-shared-slice-read-target : tie.Need-shared-slice-read-target
+shared-slice-read-target : tie.Need-bounds-places-a
 shared-slice-read-target c = omega (arith, inside c.before)
 
-add-target : tie.Need-overflow-add-target
+add-target : tie.Need-overflow_add-target
 add-target c = search rules
 
-mul-target-4 : tie.Need-overflow-mul-target-4
+mul-target-4 : tie.Need-offset_bounds-target-at-2
 mul-target-4 c = search rules
 
-slice-write-target-2 : tie.Need-slice-write-target-2
+slice-write-target-2 : tie.Need-bounds-target-at-2
 slice-write-target-2 c = simp length-set (omega (arith, room c.before))
 
-mul-target-5 : tie.Need-overflow-mul-target-5
+mul-target-5 : tie.Need-overflow_mul-target-2
 mul-target-5 c = omega (arith, inside c.before)
 
-add-target-2 : tie.Need-overflow-add-target-2
+add-target-2 : tie.Need-overflow_add-target-2
 add-target-2 c = omega (arith, inside c.before)
 
-mul-target-6 : tie.Need-overflow-mul-target-6
+mul-target-6 : tie.Need-offset_bounds-places-a-2
 mul-target-6 c = omega (arith, inside c.before)
 
-shared-slice-read-target-2 : tie.Need-shared-slice-read-target-2
+shared-slice-read-target-2 : tie.Need-bounds-places-a-2
 shared-slice-read-target-2 c = omega (arith, inside c.before.before)
 
-add-target-3 : tie.Need-overflow-add-target-3
+add-target-3 : tie.Need-overflow_add-target-3
 add-target-3 c = search rules
 
-mul-target-7 : tie.Need-overflow-mul-target-7
+mul-target-7 : tie.Need-offset_bounds-target-at-3
 mul-target-7 c = search rules
 
-slice-write-target-3 : tie.Need-slice-write-target-3
+slice-write-target-3 : tie.Need-bounds-target-at-3
 slice-write-target-3 c = simp length-set (omega (arith, room c.before.before))
 
-add-counted : tie.Need-overflow-add-counted
+add-counted : tie.Need-overflow_add-at
 add-counted c = search rules
 
 counted-requires : tie.Need-counted-requires
 counted-requires c κs =
     let s = start (signed c) in
-    let r = s.pre.0.room in
+    let r = s.requires.0.room in
     let a = row_length s.args.places.now s.args.effect.code s.args.conditions.now in
     let b = counted_length s.args.places.now s.args.conditions.now in
-    (record { low = s.pre.0.low; room = simp length-set (omega arith) }, row_conditions _ _ s.pre.1, s.pre.2)
+    (record { low = s.requires.0.low; room = simp length-set (omega arith) }, row_conditions _ _ s.requires.1, s.requires.2)
 
-same_length : tie.Need-same-length
-same_length c = c.before.before.counted.auto.1.1.0 ∙ simp length-set
+same_length : tie.Need-shape_of-target
+same_length c = c.counted.auto.target ∙ simp length-set
 
 returns : tie.Need-returns
 returns c =
     let d = c.before.before in
     let k = signed d.before in
-    wrote_same (row_words_lem _ _ _ _ _ k.before.atom.ensures k.sign.ensures) (wrote_three d.counted.ensures)
+    wrote_same (row_words_lem _ _ _ _ _ k.atom-a.ensures k.sign-clears.ensures) (wrote_three d.counted.ensures)
 
-pub row-spec : {M : Type 1} → statement M
-row-spec =
+pub row_spec : {M : Type 1} → statement M
+row_spec =
     tie.close
     (tie.spec
     atom-requires

@@ -4,14 +4,17 @@ use borrow.Author.Rules.{rules}
 use Rattle.reencoding.proofs.block.sign.Statement.{statement}
 use Rattle.reencoding.proofs.block.sign.Tie as tie
 
-is-positive-requires : tie.Need-is-positive-requires
+is-positive-requires : tie.Need-is_positive-requires
 is-positive-requires c κs = search rules
 
-returns : tie.Need-returns
-returns c = sign_even _ (sym c.before.is_positive.ensures ∙ c.if1.true)
+returns : tie.Need-returns-then-is_positive
+returns c = sign_even _ (sym c.is_positive.ensures ∙ c.if-is_positive.true)
 
-returns-2 : tie.Need-returns-2
-returns-2 c = sign_odd _ (sym c.before.is_positive.ensures ∙ c.if1.false)
+returns-2 : tie.Need-returns-else-is_positive
+returns-2 c = sign_odd _ (sym c.is_positive.ensures ∙ c.if-is_positive.false)
 
-pub sign-spec : {M : Type 1} → statement M
-sign-spec = tie.close (tie.spec is-positive-requires returns returns-2)
+pub sign_spec : {M : Type 1} → statement M
+sign_spec = tie.close (tie.spec
+    is-positive-requires
+    returns
+    returns-2)
