@@ -1,4 +1,4 @@
-//! Links the static library that `rt staticlib kulabismuth` makes.
+//! Links the static library that `tools/build` makes.
 
 use std::env;
 use std::path::{Path, PathBuf};

@@ -1,5 +1,5 @@
 // The words of a case and its lists (specs/Case.antt says what they are).
-ghost use Rattle.std.specs.Prelude.{◌≡◌, ◌+◌, ◌≤◌, ◌<◌, min, length, get_or};
+ghost use Rattle.std.specs.Prelude.{◌≡◌, ◌+◌, ◌*◌, ◌≤◌, ◌<◌, min, length, get_or};
 ghost use Rattle.cases.specs.Case.{most_input, most_words, most_bytes, last_end, list_length, bytes_length, stored_count, values_at, case_end};
 ghost use Rattle.cases.specs.Case.{value_at, words_from, bytes_from, list_of, bytes_of, Loaded};
 
@@ -18,6 +18,13 @@ pub fn input_room() -> [u16; MOST_INPUT]
     ensures { length result ≡ most_input }
 {
     [0u16; MOST_INPUT]
+}
+
+// Room for the bytes of an input.
+pub fn input_bytes_room() -> [u8; 2 * MOST_INPUT]
+    ensures { length result ≡ 2 * most_input }
+{
+    [0u8; 2 * MOST_INPUT]
 }
 
 // Room for a list of words.

@@ -5,31 +5,28 @@
 // `fdr_call` (10 to 16), `dimacs_call` (17 and 18), `ticket_call` (21 and 22) and `call` (19 and 20). A line has the returned number, both
 // values or places, and each list that was lent to be changed, after a bar (not marks and work, which may hold anything, but the marks of 20).
 //
-// Only `run` is public. The other functions of this file call the C interface, whose contracts stand in `kulabismuth`, and write:
-// no contract of the kit can name what C's `write` puts out, so they have no `ensures`, and are proved to be safe and to end.
+// Only `run` is public. The functions that write take a writer, and give its error where it fails.
 #![tactic(auto)]
 
 ghost use Rattle.std.specs.Prelude.{◌*◌, ◌≤◌, length};
 ghost use Rattle.cases.specs.Case.{most_input};
 
+use std::io::{self, BufWriter, Write};
+
 mod input; // input.rt: the words of a case and its lists
 
 // ---- A line
 
-fn field(number: u64) {
-    io::print_decimal(1, number);
-    let space = [b' '];
-    io::write_all(1, &space);
+fn field<W: Write>(out: &mut W, number: u64) -> io::Result<()> {
+    write!(out, "{number} ")
 }
 
-fn bar() {
-    let text = [b'|', b' '];
-    io::write_all(1, &text);
+fn bar<W: Write>(out: &mut W) -> io::Result<()> {
+    write!(out, "| ")
 }
 
-fn end_line() {
-    let newline = [10u8];
-    io::write_all(1, &newline);
+fn end_line<W: Write>(out: &mut W) -> io::Result<()> {
+    writeln!(out)
 }
 
 fn wide(x: u16) -> u64 {
@@ -40,35 +37,39 @@ fn wide_byte(x: u8) -> u64 {
     x as u64
 }
 
-fn write_words(list: &[u16]) {
-    bar();
-    let mut i: usize = 0;
-    while i < list.len() {
-        field(wide(list[i]));
-        i += 1;
+fn write_words<W: Write>(out: &mut W, list: &[u16]) -> io::Result<()> {
+    bar(out)?;
+    for x in list {
+        field(out, wide(*x))?;
     }
+    Ok(())
 }
 
-fn write_bytes(list: &[u8]) {
-    bar();
-    let mut i: usize = 0;
-    while i < list.len() {
-        field(wide_byte(list[i]));
-        i += 1;
+fn write_bytes<W: Write>(out: &mut W, list: &[u8]) -> io::Result<()> {
+    bar(out)?;
+    for x in list {
+        field(out, wide_byte(*x))?;
     }
+    Ok(())
 }
 
 // The lists that call `which` was lent to be changed.
-fn write_lent(which: u16, list: &[u16], other: &[u16], small: &[u8]) {
+fn write_lent<W: Write>(
+    out: &mut W,
+    which: u16,
+    list: &[u16],
+    other: &[u16],
+    small: &[u8],
+) -> io::Result<()> {
     match which {
-        1 | 2 | 4 | 15 | 17 | 20 => write_bytes(small),
-        7 | 10 | 11 | 13 | 14 | 18 => write_words(list),
-        8 | 9 | 19 => write_words(other),
+        1 | 2 | 4 | 15 | 17 | 20 => write_bytes(out, small),
+        7 | 10 | 11 | 13 | 14 | 18 => write_words(out, list),
+        8 | 9 | 19 => write_words(out, other),
         22 => {
-            write_bytes(small);
-            write_words(list);
+            write_bytes(out, small)?;
+            write_words(out, list)
         }
-        _ => {}
+        _ => Ok(()),
     }
 }
 
@@ -225,14 +226,15 @@ fn call(
 // ---- The cases
 
 // Loads the lists of the case at word `at`, and runs it.
-fn run_lists(
+fn run_lists<W: Write>(
+    out: &mut W,
     words: &[u16],
     at: usize,
     image: &mut [u16],
     list: &mut [u16],
     other: &mut [u16],
     small: &mut [u8],
-)
+) -> io::Result<()>
     requires { at ≤ most_input }
 {
     input::load(words, at, image, list, other, small);
@@ -252,15 +254,15 @@ fn run_lists(
         &mut first,
         &mut second,
     );
-    field(number as u64);
-    field(first);
-    field(second);
-    write_lent(which, list, other, small);
-    end_line();
+    field(out, number as u64)?;
+    field(out, first)?;
+    field(out, second)?;
+    write_lent(out, which, list, other, small)?;
+    end_line(out)
 }
 
 // Runs the case at word `at`.
-fn run_case(words: &[u16], at: usize)
+fn run_case<W: Write>(out: &mut W, words: &[u16], at: usize) -> io::Result<()>
     requires { at ≤ most_input }
 {
     let a = input::list_length(words, at, 0);
@@ -272,36 +274,40 @@ fn run_case(words: &[u16], at: usize)
     let mut other = input::words_room();
     let mut small = input::bytes_room();
     run_lists(
+        out,
         words,
         at,
         &mut image[..a],
         &mut list[..b],
         &mut other[..c],
         &mut small[..d],
-    );
+    )
 }
 
-fn run_cases(words: &[u16])
+fn run_cases<W: Write>(out: &mut W, words: &[u16]) -> io::Result<()>
     requires { length words.now ≤ most_input }
 {
     let mut at: usize = 0;
     while at < words.len() {
-        run_case(words, at);
+        run_case(out, words, at)?;
         at = input::end(words, at);
     }
+    Ok(())
 }
 
-fn run_bytes(bytes: &[u8])
+fn run_bytes<W: Write>(out: &mut W, bytes: &[u8]) -> io::Result<()>
     requires { length bytes.now ≤ 2 * most_input }
 {
     let mut words = input::input_room();
     let count = writing::words_of(bytes, &mut words);
-    run_cases(&words[..count]);
+    run_cases(out, &words[..count])
 }
 
-// Runs the cases of standard input. It has no `ensures`: all that it does is to read and to write.
-pub fn run() {
-    let mut bytes = io::large_buffer();
-    let got = io::read_full(0, &mut bytes);
-    run_bytes(&bytes[..got]);
+// Runs the cases of standard input, and writes what each answers to standard output.
+pub fn run<R: Input + Print + AllocGlobal>(rt: &R) -> io::Result<()> {
+    let mut bytes = input::input_bytes_room();
+    let got = streams::read_full(&mut rt.reader(), &mut bytes)?;
+    let mut out = BufWriter::new(rt.alloc(), io::writer(rt))?;
+    run_bytes(&mut out, &bytes[..got])?;
+    out.flush()
 }

@@ -1,6 +1,8 @@
 // A test program: the calls on re-encoded tasks, over the cases of standard input (the file stdin; stdout is what they must answer).
 #![tactic(auto)]
 
-fn main() {
-    cases::run();
+use std::io;
+
+fn main(rt: HostRuntime) -> io::Result<()> {
+    cases::run(&rt)
 }

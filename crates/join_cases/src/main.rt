@@ -1,6 +1,8 @@
 // A test program: tasks joined, over the cases of standard input (the file stdin; stdout is what is answered).
 #![tactic(auto)]
 
-fn main() {
-    cases::run();
+use std::io;
+
+fn main(rt: HostRuntime) -> io::Result<()> {
+    cases::run(&rt)
 }

@@ -1,5 +1,5 @@
-// The C interface. Each call returns 0 for a finding, else the number of the refusal; `first` and `second` receive the
-// finding's values or the places, zero unless named. A slice passes as a pointer and a length.
+// The calls of the C interface, which `kulabismuth_c` exports. Each returns 0 for a finding, else the number of the refusal; `first` and
+// `second` receive the finding's values or the places, zero unless named.
 #![tactic(auto)]
 
 ghost use Rattle.std.specs.Prelude.{◌≡◌, length};
@@ -23,29 +23,21 @@ ghost use Rattle.kulabismuth.specs.Returned.{returned, returned_verdict, returne
 mod numbers; // numbers.rt: answers as numbers
 
 // Reads a task image: questions 1 to 7.
-#[unsafe(no_mangle)]
-pub extern "C" fn kb_read(image: &[u16], first: &mut u64, second: &mut u64) -> u32
+pub fn kb_read(image: &[u16], first: &mut u64, second: &mut u64) -> u32
     ensures { returned result first.new second.new ≡ returned_verdict (verdict (read_task image.now)) }
 {
     numbers::verdict(task::read(image), first, second)
 }
 
 // Sets a state to the initial one: 1 to 7, the length of 18.
-#[unsafe(no_mangle)]
-pub extern "C" fn kb_task_initial(
-    image: &[u16],
-    state: &mut [u8],
-    first: &mut u64,
-    second: &mut u64,
-) -> u32
+pub fn kb_task_initial(image: &[u16], state: &mut [u8], first: &mut u64, second: &mut u64) -> u32
     ensures { (returned result first.new second.new ≡ returned_verdict (verdict (start_task image.now state.old))) × (state.new ≡ state_after state.old (start_task image.now state.old)) }
 {
     numbers::verdict(state::set_initial(image, state), first, second)
 }
 
 // A step in the lent state: 1 to 7, 18 to 20.
-#[unsafe(no_mangle)]
-pub extern "C" fn kb_task_step(
+pub fn kb_task_step(
     image: &[u16],
     state: &mut [u8],
     operator: u16,
@@ -58,21 +50,14 @@ pub extern "C" fn kb_task_step(
 }
 
 // The goal test: 1 to 7, 18. `first` is 1 if the goal is met, 0 if it is not.
-#[unsafe(no_mangle)]
-pub extern "C" fn kb_task_goal(
-    image: &[u16],
-    state: &[u8],
-    first: &mut u64,
-    second: &mut u64,
-) -> u32
+pub fn kb_task_goal(image: &[u16], state: &[u8], first: &mut u64, second: &mut u64) -> u32
     ensures { returned result first.new second.new ≡ returned_test (goal_task image.now state.now) }
 {
     numbers::test(state::goal_met(image, state), first, second)
 }
 
 // A list run in the lent state: 1 to 7 and 18 once, then 19 and 20 at each operator. `first` is the number of steps.
-#[unsafe(no_mangle)]
-pub extern "C" fn kb_task_run(
+pub fn kb_task_run(
     image: &[u16],
     state: &mut [u8],
     list: &[u16],
@@ -86,8 +71,7 @@ pub extern "C" fn kb_task_run(
 
 // Asks for a step in a state with its commit count, and changes nothing: 1 to 7, 18 to 20. `first` and `second` are the ticket: the count and the
 // operator.
-#[unsafe(no_mangle)]
-pub extern "C" fn kb_ask(
+pub fn kb_ask(
     image: &[u16],
     state: &[u8],
     count: u16,
@@ -102,8 +86,7 @@ pub extern "C" fn kb_ask(
 }
 
 // Commits a ticket: its step in the lent state, and one more in the lent count: 1 to 7, 18, 28, 19, 20.
-#[unsafe(no_mangle)]
-pub extern "C" fn kb_commit(
+pub fn kb_commit(
     image: &[u16],
     state: &mut [u8],
     count: &mut u16,
@@ -127,8 +110,7 @@ pub extern "C" fn kb_commit(
 }
 
 // The closure of the clauses and an operator's precondition, in the marks: 1 to 9, 19, 13. `first` is the number of its literals.
-#[unsafe(no_mangle)]
-pub extern "C" fn kb_closure(
+pub fn kb_closure(
     image: &[u16],
     clauses: &[u16],
     operator: u16,
@@ -146,8 +128,7 @@ pub extern "C" fn kb_closure(
 }
 
 // Whether the clauses keep a clause under an operator: 1 to 9, then 8 and 9 for the clause alone, 19, 13. `first` is 1 if kept, 0 if not.
-#[unsafe(no_mangle)]
-pub extern "C" fn kb_kept(
+pub fn kb_kept(
     image: &[u16],
     clauses: &[u16],
     clause: &[u16],
@@ -167,8 +148,7 @@ pub extern "C" fn kb_kept(
 
 // The checker: 1 to 9, 13, 10, 11. 10 names the lowest false clause, 11 the lowest clause that is not kept and under it the lowest
 // operator.
-#[unsafe(no_mangle)]
-pub extern "C" fn kb_check(
+pub fn kb_check(
     image: &[u16],
     clauses: &[u16],
     marks: &mut [u8],
@@ -181,8 +161,7 @@ pub extern "C" fn kb_check(
 }
 
 // Synthesis: 1 to 7, 12 to 15. `first` is the number of rows, `second` that of rounds.
-#[unsafe(no_mangle)]
-pub extern "C" fn kb_synthesize(
+pub fn kb_synthesize(
     image: &[u16],
     n: u16,
     limit: u16,
@@ -202,8 +181,7 @@ pub extern "C" fn kb_synthesize(
 }
 
 // Groups: the checker's questions, then 16. Writes the domains part and the atoms part; `first` is the number of variables.
-#[unsafe(no_mangle)]
-pub extern "C" fn kb_groups(
+pub fn kb_groups(
     image: &[u16],
     clauses: &[u16],
     marks: &mut [u8],
@@ -217,8 +195,7 @@ pub extern "C" fn kb_groups(
 }
 
 // Re-encoding: the checker's questions, then 16. Writes the re-encoded image; `first` is its length.
-#[unsafe(no_mangle)]
-pub extern "C" fn kb_reencode(
+pub fn kb_reencode(
     image: &[u16],
     clauses: &[u16],
     marks: &mut [u8],
@@ -236,21 +213,14 @@ pub extern "C" fn kb_reencode(
 }
 
 // Sets a finite-domain state to the initial one: 17, the length of 18.
-#[unsafe(no_mangle)]
-pub extern "C" fn kb_fdr_initial(
-    image: &[u16],
-    state: &mut [u16],
-    first: &mut u64,
-    second: &mut u64,
-) -> u32
+pub fn kb_fdr_initial(image: &[u16], state: &mut [u16], first: &mut u64, second: &mut u64) -> u32
     ensures { (returned result first.new second.new ≡ returned_verdict (verdict (start_fdr image.now state.old))) × (state.new ≡ state_after state.old (start_fdr image.now state.old)) }
 {
     numbers::verdict(fdr::set_initial(image, state), first, second)
 }
 
 // A step in the lent finite-domain state: 17, 18 to 22.
-#[unsafe(no_mangle)]
-pub extern "C" fn kb_fdr_step(
+pub fn kb_fdr_step(
     image: &[u16],
     state: &mut [u16],
     operator: u16,
@@ -263,21 +233,14 @@ pub extern "C" fn kb_fdr_step(
 }
 
 // The goal test in a finite-domain state: 17, 18. `first` is 1 if the goal is met, 0 if it is not.
-#[unsafe(no_mangle)]
-pub extern "C" fn kb_fdr_goal(
-    image: &[u16],
-    state: &[u16],
-    first: &mut u64,
-    second: &mut u64,
-) -> u32
+pub fn kb_fdr_goal(image: &[u16], state: &[u16], first: &mut u64, second: &mut u64) -> u32
     ensures { returned result first.new second.new ≡ returned_test (goal_fdr image.now state.now) }
 {
     numbers::test(fdr::goal_met(image, state), first, second)
 }
 
 // A list run in the lent finite-domain state: 17 and 18 once, then 19 to 22 at each operator. `first` is the number of steps.
-#[unsafe(no_mangle)]
-pub extern "C" fn kb_fdr_run(
+pub fn kb_fdr_run(
     image: &[u16],
     state: &mut [u16],
     list: &[u16],
@@ -290,8 +253,7 @@ pub extern "C" fn kb_fdr_run(
 }
 
 // The finite-domain state of a task's state: 17, 18, 23.
-#[unsafe(no_mangle)]
-pub extern "C" fn kb_encode(
+pub fn kb_encode(
     image: &[u16],
     state: &[u8],
     target: &mut [u16],
@@ -304,8 +266,7 @@ pub extern "C" fn kb_encode(
 }
 
 // The task's state of a finite-domain state: 17, 18.
-#[unsafe(no_mangle)]
-pub extern "C" fn kb_decode(
+pub fn kb_decode(
     image: &[u16],
     state: &[u16],
     target: &mut [u8],
@@ -319,8 +280,7 @@ pub extern "C" fn kb_decode(
 
 // Demand 3 along a list of operator numbers: the checker's questions; then task and re-encoding are compared at the start and after
 // each step, and by list runs. `first` is 1 if they agree, as they do for every accepted set, else 0.
-#[unsafe(no_mangle)]
-pub extern "C" fn kb_agree(
+pub fn kb_agree(
     image: &[u16],
     clauses: &[u16],
     list: &[u16],
@@ -334,8 +294,7 @@ pub extern "C" fn kb_agree(
 }
 
 // Writes clauses as a DIMACS text: 1 to 9, then 26. `first` is its number of bytes.
-#[unsafe(no_mangle)]
-pub extern "C" fn kb_write_dimacs(
+pub fn kb_write_dimacs(
     image: &[u16],
     clauses: &[u16],
     text: &mut [u8],
@@ -348,8 +307,7 @@ pub extern "C" fn kb_write_dimacs(
 }
 
 // Reads a DIMACS text into clause rows: 1 to 7, then 24 to 26. `first` is the number of rows.
-#[unsafe(no_mangle)]
-pub extern "C" fn kb_read_dimacs(
+pub fn kb_read_dimacs(
     image: &[u16],
     text: &[u8],
     clauses: &mut [u16],
@@ -362,8 +320,7 @@ pub extern "C" fn kb_read_dimacs(
 }
 
 // Joins two tasks: 1 to 7 of the first image, 1 to 7 of the second, 27. `first` is the length of the joined image.
-#[unsafe(no_mangle)]
-pub extern "C" fn kb_join(
+pub fn kb_join(
     left: &[u16],
     right: &[u16],
     target: &mut [u16],
