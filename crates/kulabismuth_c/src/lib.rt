@@ -4,6 +4,7 @@
 
 ghost use Rattle.std.specs.Prelude.{◌≡◌, length};
 ghost use Rattle.definitions.specs.Answer.{verdict, state_after};
+ghost use Rattle.definitions.specs.CallLists.{lent_after};
 ghost use Rattle.definitions.specs.Image.{read_task};
 ghost use Rattle.definitions.specs.Step.{step_task, goal_task, start_task, run_task};
 ghost use Rattle.definitions.specs.Ticket.{ask_task, commit_task};
@@ -114,7 +115,7 @@ pub extern "C" fn kb_commit(
         ≡ returned_verdict (verdict (commit_task image.now (counted state.old count.old)
         (ticket_with ticket_count ticket_operator))))
         × (counted state.new count.new
-        ≡ state_after (counted state.old count.old)
+        ≡ lent_after (counted state.old count.old)
         (commit_task image.now (counted state.old count.old) (ticket_with ticket_count ticket_operator))) }
 {
     kulabismuth::kb_commit(
