@@ -21,6 +21,16 @@ module _ {S : Type 0} (s : S) (a : Answer S) where
   unfolding call_becomes outcome_of_call verdict lent_after
   done s' e = rw (← e)
 
+-- ---- the parts of an outcome: what the call answers, and what is lent then holds
+module _ {S : Type 0} (a : Answer (Unit {0})) (s s' : S) (b : Answer S) (e : outcome_of_call a s' ≡ call_becomes s b) where
+  pub answered : a ≡ verdict b
+  unfolding call_becomes outcome_of_call
+  answered = ap (λ (x : OutcomeOf S (Unit {0})). x.answer) e
+
+  pub left : s' ≡ lent_after s b
+  unfolding call_becomes outcome_of_call
+  left = ap (λ (x : OutcomeOf S (Unit {0})). x.lent) e
+
 -- ---- of a call that lends x besides an image and a state
 module _ {T X : Type 0} (R : Reader T) (w s : List ℕ) (x : X) (rest : T → Answer X) where
   pub rest_becomes :

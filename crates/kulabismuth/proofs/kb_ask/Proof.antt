@@ -18,5 +18,8 @@ ticket-requires c κs = search rules
 returns : tie.Need-returns
 returns c = c.ticket.ensures ∙ ap returned_ticket (made c).ask.ensures
 
-pub kb-ask-spec : {M : Type 1} → statement M
-kb-ask-spec = tie.close (tie.spec ask-requires ticket-requires returns)
+pub kb_ask_spec : {M : Type 1} → statement M
+kb_ask_spec = tie.close (tie.spec
+    ask-requires
+    ticket-requires
+    returns)

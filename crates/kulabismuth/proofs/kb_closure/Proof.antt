@@ -8,7 +8,7 @@ use Rattle.kulabismuth.proofs.kb_closure.Statement.{statement}
 use Rattle.kulabismuth.proofs.kb_closure.Tie as tie
 
 -- where the call was made
-abbrev lent : tie.After-count → tie.After-slice-known2
+abbrev lent : tie.After-count → tie.After-slice_known-2-1
 lent c = c.before.before.before
 
 abbrev called : tie.After-count → tie.After-closure
@@ -20,7 +20,7 @@ closure-requires c κs = search rules
 count-requires : tie.Need-count-requires
 count-requires c κs = search rules
 
-same_length : tie.Need-same-length
+same_length : tie.Need-shape_of-marks
 same_length c = search rules
 
 returns : tie.Need-returns
@@ -31,5 +31,9 @@ returns c =
       ap (λ (x : Outcome ℕ). x.lent) d.closure.ensures,
     )
 
-pub kb-closure-spec : {M : Type 1} → statement M
-kb-closure-spec = tie.close (tie.spec closure-requires count-requires same_length returns)
+pub kb_closure_spec : {M : Type 1} → statement M
+kb_closure_spec = tie.close (tie.spec
+    closure-requires
+    count-requires
+    same_length
+    returns)

@@ -6,7 +6,7 @@ use Rattle.kulabismuth.proofs.kb_decode.Statement.{statement}
 use Rattle.kulabismuth.proofs.kb_decode.Tie as tie
 
 -- where the call is made
-abbrev back : tie.After-verdict → tie.After-slice-known2
+abbrev back : tie.After-verdict → tie.After-slice_known-2-1
 back c = c.before.before.before
 
 abbrev made : tie.After-verdict → tie.After-decode
@@ -18,7 +18,7 @@ decode-requires c κs = search rules
 verdict-requires : tie.Need-verdict-requires
 verdict-requires c κs = search rules
 
-same_length : tie.Need-same-length
+same_length : tie.Need-shape_of-target
 same_length c = search rules
 
 returns : tie.Need-returns
@@ -26,5 +26,9 @@ returns c =
     let e = (made c).decode.ensures in
     (c.verdict.ensures ∙ ap returned_verdict (answered _ _ _ _ e), left _ _ _ _ e)
 
-pub kb-decode-spec : {M : Type 1} → statement M
-kb-decode-spec = tie.close (tie.spec decode-requires verdict-requires same_length returns)
+pub kb_decode_spec : {M : Type 1} → statement M
+kb_decode_spec = tie.close (tie.spec
+    decode-requires
+    verdict-requires
+    same_length
+    returns)

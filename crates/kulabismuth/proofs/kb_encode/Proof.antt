@@ -6,7 +6,7 @@ use Rattle.kulabismuth.proofs.kb_encode.Statement.{statement}
 use Rattle.kulabismuth.proofs.kb_encode.Tie as tie
 
 -- where the call is made
-abbrev back : tie.After-verdict → tie.After-slice-known2
+abbrev back : tie.After-verdict → tie.After-slice_known-2-1
 back c = c.before.before.before
 
 abbrev made : tie.After-verdict → tie.After-encode
@@ -18,7 +18,7 @@ encode-requires c κs = search rules
 verdict-requires : tie.Need-verdict-requires
 verdict-requires c κs = search rules
 
-same_length : tie.Need-same-length
+same_length : tie.Need-shape_of-target
 same_length c = search rules
 
 returns : tie.Need-returns
@@ -26,5 +26,9 @@ returns c =
     let e = (made c).encode.ensures in
     (c.verdict.ensures ∙ ap returned_verdict (answered _ _ _ _ e), left _ _ _ _ e)
 
-pub kb-encode-spec : {M : Type 1} → statement M
-kb-encode-spec = tie.close (tie.spec encode-requires verdict-requires same_length returns)
+pub kb_encode_spec : {M : Type 1} → statement M
+kb_encode_spec = tie.close (tie.spec
+    encode-requires
+    verdict-requires
+    same_length
+    returns)

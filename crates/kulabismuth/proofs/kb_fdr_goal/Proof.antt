@@ -4,14 +4,17 @@ use borrow.Author.Rules.{rules}
 use Rattle.kulabismuth.proofs.kb_fdr_goal.Statement.{statement}
 use Rattle.kulabismuth.proofs.kb_fdr_goal.Tie as tie
 
-goal-met-requires : tie.Need-goal-met-requires
+goal-met-requires : tie.Need-goal_met-requires
 goal-met-requires c κs = search rules
 
 test-requires : tie.Need-test-requires
 test-requires c κs = search rules
 
 returns : tie.Need-returns
-returns c = c.test.ensures ∙ ap returned_test c.before.before.before.goal-met.ensures
+returns c = c.test.ensures ∙ ap returned_test c.goal_met.ensures
 
-pub kb-fdr-goal-spec : {M : Type 1} → statement M
-kb-fdr-goal-spec = tie.close (tie.spec goal-met-requires test-requires returns)
+pub kb_fdr_goal_spec : {M : Type 1} → statement M
+kb_fdr_goal_spec = tie.close (tie.spec
+    goal-met-requires
+    test-requires
+    returns)

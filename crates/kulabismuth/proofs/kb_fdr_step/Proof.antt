@@ -6,7 +6,7 @@ use Rattle.kulabismuth.proofs.kb_fdr_step.Statement.{statement}
 use Rattle.kulabismuth.proofs.kb_fdr_step.Tie as tie
 
 -- where the call is made
-abbrev back : tie.After-verdict → tie.After-slice-known2
+abbrev back : tie.After-verdict → tie.After-slice_known-2-1
 back c = c.before.before.before
 
 abbrev made : tie.After-verdict → tie.After-step
@@ -18,7 +18,7 @@ step-requires c κs = search rules
 verdict-requires : tie.Need-verdict-requires
 verdict-requires c κs = search rules
 
-same_length : tie.Need-same-length
+same_length : tie.Need-shape_of-state
 same_length c = search rules
 
 returns : tie.Need-returns
@@ -26,5 +26,9 @@ returns c =
     let e = (made c).step.ensures in
     (c.verdict.ensures ∙ ap returned_verdict (answered _ _ _ _ e), left _ _ _ _ e)
 
-pub kb-fdr-step-spec : {M : Type 1} → statement M
-kb-fdr-step-spec = tie.close (tie.spec step-requires verdict-requires same_length returns)
+pub kb_fdr_step_spec : {M : Type 1} → statement M
+kb_fdr_step_spec = tie.close (tie.spec
+    step-requires
+    verdict-requires
+    same_length
+    returns)

@@ -8,7 +8,7 @@ use Rattle.kulabismuth.proofs.kb_join.Statement.{statement}
 use Rattle.kulabismuth.proofs.kb_join.Tie as tie
 
 -- where the call was made
-abbrev lent : tie.After-count → tie.After-slice-known2
+abbrev lent : tie.After-count → tie.After-slice_known-2-1
 lent c = c.before.before.before
 
 abbrev called : tie.After-count → tie.After-join
@@ -20,7 +20,7 @@ join-requires c κs = search rules
 count-requires : tie.Need-count-requires
 count-requires c κs = search rules
 
-same_length : tie.Need-same-length
+same_length : tie.Need-shape_of-target
 same_length c = search rules
 
 returns : tie.Need-returns
@@ -31,5 +31,9 @@ returns c =
       ap (λ (x : Outcome ℕ). x.lent) d.join.ensures,
     )
 
-pub kb-join-spec : {M : Type 1} → statement M
-kb-join-spec = tie.close (tie.spec join-requires count-requires same_length returns)
+pub kb_join_spec : {M : Type 1} → statement M
+kb_join_spec = tie.close (tie.spec
+    join-requires
+    count-requires
+    same_length
+    returns)

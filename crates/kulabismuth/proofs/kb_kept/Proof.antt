@@ -10,18 +10,22 @@ kept-requires c κs = search rules
 test-requires : tie.Need-test-requires
 test-requires c κs = search rules
 
-same_length : tie.Need-same-length
+same_length : tie.Need-shape_of-marks
 same_length c = search rules
 
 -- the places of the function
-abbrev after_kept : tie.After-test-arg → tie.After-kept
+abbrev after_kept : tie.After-test-arg-1 → tie.After-kept
 after_kept c = c.before.before.before
 
-abbrev after_test_arg : tie.After-test → tie.After-test-arg
+abbrev after_test_arg : tie.After-test → tie.After-test-arg-1
 after_test_arg c = c.before.before
 
 returns : tie.Need-returns
 returns c = c.test.ensures ∙ ap returned_test (after_kept (after_test_arg c)).kept.ensures
 
-pub kb-kept-spec : {M : Type 1} → statement M
-kb-kept-spec = tie.close (tie.spec kept-requires test-requires same_length returns)
+pub kb_kept_spec : {M : Type 1} → statement M
+kb_kept_spec = tie.close (tie.spec
+    kept-requires
+    test-requires
+    same_length
+    returns)

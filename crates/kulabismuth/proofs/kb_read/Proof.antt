@@ -11,7 +11,10 @@ verdict-requires : tie.Need-verdict-requires
 verdict-requires c κs = search rules
 
 returns : tie.Need-returns
-returns c = c.verdict.ensures ∙ ap returned_verdict c.before.before.before.read.ensures
+returns c = c.verdict.ensures ∙ ap returned_verdict c.read.ensures
 
-pub kb-read-spec : {M : Type 1} → statement M
-kb-read-spec = tie.close (tie.spec read-requires verdict-requires returns)
+pub kb_read_spec : {M : Type 1} → statement M
+kb_read_spec = tie.close (tie.spec
+    read-requires
+    verdict-requires
+    returns)

@@ -8,7 +8,7 @@ use Rattle.kulabismuth.proofs.kb_read_dimacs.Statement.{statement}
 use Rattle.kulabismuth.proofs.kb_read_dimacs.Tie as tie
 
 -- where the call was made
-abbrev lent : tie.After-count → tie.After-slice-known2
+abbrev lent : tie.After-count → tie.After-slice_known-2-1
 lent c = c.before.before.before
 
 abbrev called : tie.After-count → tie.After-read
@@ -20,7 +20,7 @@ read-requires c κs = search rules
 count-requires : tie.Need-count-requires
 count-requires c κs = search rules
 
-same_length : tie.Need-same-length
+same_length : tie.Need-shape_of-clauses
 same_length c = search rules
 
 returns : tie.Need-returns
@@ -31,5 +31,9 @@ returns c =
       ap (λ (x : Outcome ℕ). x.lent) d.read.ensures,
     )
 
-pub kb-read-dimacs-spec : {M : Type 1} → statement M
-kb-read-dimacs-spec = tie.close (tie.spec read-requires count-requires same_length returns)
+pub kb_read_dimacs_spec : {M : Type 1} → statement M
+kb_read_dimacs_spec = tie.close (tie.spec
+    read-requires
+    count-requires
+    same_length
+    returns)

@@ -12,20 +12,20 @@ reencode-requires c κs = search rules
 count-requires : tie.Need-count-requires
 count-requires c κs = search rules
 
-same_length : tie.Need-same-length
+same_length : tie.Need-shape_of-marks
 same_length c = search rules
 
-same-length-2 : tie.Need-same-length-2
+same-length-2 : tie.Need-shape_of-target
 same-length-2 c = search rules
 
 -- the places of the function
-abbrev after_reencode : tie.After-target → tie.After-reencode
+abbrev after_reencode : tie.After-target-1 → tie.After-reencode
 after_reencode c = c.before.before.before
 
-abbrev after_target : tie.After-count-arg → tie.After-target
+abbrev after_target : tie.After-count-arg-1 → tie.After-target-1
 after_target c = c.before.before
 
-abbrev after_count_arg : tie.After-count → tie.After-count-arg
+abbrev after_count_arg : tie.After-count → tie.After-count-arg-1
 after_count_arg c = c.before.before
 
 abbrev after_reencode_from_count : tie.After-count → tie.After-reencode
@@ -38,6 +38,11 @@ returns c = (
   ap (λ (x : Outcome ℕ). x.lent) (after_reencode_from_count c).reencode.ensures,
 )
 
-pub kb-reencode-spec : {M : Type 1} → statement M
-kb-reencode-spec =
-    tie.close (tie.spec reencode-requires count-requires same_length same-length-2 returns)
+pub kb_reencode_spec : {M : Type 1} → statement M
+kb_reencode_spec =
+    tie.close (tie.spec
+    reencode-requires
+    count-requires
+    same_length
+    same-length-2
+    returns)

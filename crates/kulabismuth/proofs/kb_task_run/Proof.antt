@@ -12,14 +12,14 @@ run-requires c κs = search rules
 count-requires : tie.Need-count-requires
 count-requires c κs = search rules
 
-same_length : tie.Need-same-length
+same_length : tie.Need-shape_of-state
 same_length c = search rules
 
 -- the places of the function
-abbrev after_run : tie.After-count-arg → tie.After-run
+abbrev after_run : tie.After-count-arg-1 → tie.After-run
 after_run c = c.before.before.before
 
-abbrev after_count_arg : tie.After-count → tie.After-count-arg
+abbrev after_count_arg : tie.After-count → tie.After-count-arg-1
 after_count_arg c = c.before.before
 
 returns : tie.Need-returns
@@ -29,5 +29,9 @@ returns c = (
   ap (λ (x : Outcome ℕ). x.lent) (after_run (after_count_arg c)).run.ensures,
 )
 
-pub kb-task-run-spec : {M : Type 1} → statement M
-kb-task-run-spec = tie.close (tie.spec run-requires count-requires same_length returns)
+pub kb_task_run_spec : {M : Type 1} → statement M
+kb_task_run_spec = tie.close (tie.spec
+    run-requires
+    count-requires
+    same_length
+    returns)
