@@ -11,7 +11,7 @@ use Rattle.definitions.specs.Answer.{Answer, finding, outcome, ask, ask_at, ◌>
 use Rattle.definitions.specs.Literal.{is_state, all_true, literal_list}
 use Rattle.definitions.specs.Image.{Task, initial_state, read_task}
 use Rattle.definitions.specs.Step.{step, step_task, goal_task, start_task, run_task}
-use Rattle.definitions.specs.StepLists.{run_from, not_run, walk, verdicts, steps_before, run_answer}
+use Rattle.definitions.specs.StepLists.{run_from, not_run, walk, verdicts, run_answer}
 use Rattle.definitions.specs.Invariant.{Invariant}
 use Rattle.definitions.specs.Groups.{groups, Domain, domain_of, place_of}
 use Rattle.definitions.specs.Fdr.{no_domain}
@@ -29,7 +29,7 @@ use Rattle.definitions.proofs.LiteralLaws.{list_low}
 use Rattle.definitions.proofs.ListLaws.{below_count, get_or_map_low}
 use Rattle.definitions.proofs.StepsAlike.{domains_count, steps_alike, starts_coded, goals_alike, to_atoms_lem}
 use Rattle.definitions.proofs.AnswerLaws.{same_finding}
-use Rattle.definitions.proofs.ReadLaws.{ReadRight, read_right}
+use Rattle.definitions.proofs.ReadLaws.{read_right}
 use Rattle.definitions.proofs.ImageSize.{read_sizes}
 use Rattle.definitions.proofs.FdrValid.{values_right_lem, image_read}
 use Rattle.definitions.proofs.FromAtoms.{from_atoms_lem}

@@ -10,7 +10,7 @@ use lib.Dec.{ltb, leb}
 use lib.ListN.{length, drop}
 use borrow.Author.Tests.{eqb-false, leb-true, lt-ltb}
 use Rattle.definitions.specs.Lists.{all}
-use Rattle.definitions.specs.Answer.{finding, ask_at, ask, ◌>>=◌}
+use Rattle.definitions.specs.Answer.{finding, ask_at, ask}
 use Rattle.definitions.specs.Literal.{most_atoms, all_below}
 use Rattle.definitions.specs.Image.{Task, read_task}
 use Rattle.definitions.specs.Clauses.{width, most_rows, clause_words, read_clauses}
@@ -22,7 +22,7 @@ use Rattle.definitions.proofs.SetLaws.{insert_all_of}
 use Rattle.definitions.proofs.OrderLaws.{up, insert_all_up}
 use Rattle.definitions.specs.Clauses.{GoodClause}
 use Rattle.definitions.proofs.AnswerLaws.{same_finding, bind_of, ask_of}
-use Rattle.definitions.proofs.ReadLaws.{read_right, ReadRight}
+use Rattle.definitions.proofs.ReadLaws.{read_right}
 use Rattle.definitions.proofs.Accepts.{read_back}
 use Rattle.definitions.proofs.DimacsLaws.{split_all, ended_all}
 use Rattle.definitions.proofs.DimacsRows.{good_sorted}

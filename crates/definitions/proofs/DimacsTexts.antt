@@ -9,7 +9,7 @@ use Rattle.definitions.specs.Dimacs.{clauses_in, sorted, distinct}
 use Rattle.definitions.specs.DimacsTexts.{WrittenReadAgain, FoundPasses, RowsOfText, DimacsTexts}
 use Rattle.definitions.proofs.ListLaws.{map_in}
 use Rattle.definitions.proofs.AnswerLaws.{same_finding}
-use Rattle.definitions.proofs.ReadLaws.{read_right, ReadRight}
+use Rattle.definitions.proofs.ReadLaws.{read_right}
 use Rattle.definitions.proofs.DimacsRight.{clauses_low, distinct_of, distinct_in, text_found}
 use Rattle.definitions.proofs.DimacsBack.{write_read}
 

@@ -2,7 +2,7 @@
 use mathlib.Core.Bool.{true, false, ◌&&◌}
 use mathlib.Core.Path.{◌≡◌, refl, sym, ◌∙◌, ap, ap₂, subst}
 use mathlib.Core.List.{List, ◌++◌}
-use Prim.Native.Nat.{ℕ, ◌+◌}
+use Prim.Native.Nat.{ℕ}
 use lib.ListN.{length}
 use Rattle.definitions.specs.Answer.{Refusal, finding, refused, refuse, Outcome, outcome, ask, ask_at, ◌>>=◌, is_finding}
 use Rattle.definitions.specs.StepLists.{walk, runs}
