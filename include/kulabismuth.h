@@ -174,7 +174,7 @@ uint32_t kb_closure(const uint16_t *image, size_t image_length, const uint16_t *
  * clause: exactly KB_ROW_WORDS words.
  * marks: KB_MARK_BYTES(N) bytes or more; then anything.
  * first: 1 if the clause is kept, 0 if it is not.
- * stack: 10240 bytes
+ * stack: 9216 bytes
  */
 uint32_t kb_kept(const uint16_t *image, size_t image_length, const uint16_t *clauses, size_t clauses_length,
                  const uint16_t *clause, size_t clause_length, uint16_t operator_number, uint8_t *marks,
@@ -222,7 +222,7 @@ uint32_t kb_groups(const uint16_t *image, size_t image_length, const uint16_t *c
  * marks: KB_MARK_BYTES(N) bytes or more; then anything.
  * target: as long as the image or longer, KB_MOST_FDR_IMAGE_WORDS always suffice; then the image, words behind it stay.
  * first: the number of words written.
- * stack: 30720 bytes
+ * stack: 29696 bytes
  */
 uint32_t kb_reencode(const uint16_t *image, size_t image_length, const uint16_t *clauses, size_t clauses_length,
                      uint8_t *marks, size_t marks_length, uint16_t *target, size_t target_length,
@@ -291,7 +291,7 @@ uint32_t kb_decode(const uint16_t *image, size_t image_length, const uint16_t *s
  * list: any length, any numbers.
  * marks: KB_MARK_BYTES(N) bytes or more; then anything.
  * first: 1 if they agree, as they do for every accepted set and every list (proved), else 0.
- * stack: 104448 bytes
+ * stack: 110592 bytes
  */
 uint32_t kb_agree(const uint16_t *image, size_t image_length, const uint16_t *clauses, size_t clauses_length,
                   const uint16_t *list, size_t list_length, uint8_t *marks, size_t marks_length,
