@@ -4,6 +4,7 @@
 usage: turn_edits.py COMMIT    rewrites crates/*/must-fail/*.edit of this repository from those of COMMIT (before the port), and says what is left
        turn_edits.py --look COMMIT    writes nothing: prints of each pair the line that it changes and its new text, each as it was and as it is
 
+Run it once: edits that were worded anew after it (docs/PORT.md lists them) would get their old wording back.
 An edit is turned if its old lines, so spelled, stand exactly once in the file as it is now; its new lines are spelled by the same rules, so
 that they differ from the old ones by what they differed by before. Lines that no rule gives (imports, patterns) stand below in BY_HAND.
 """
