@@ -11,7 +11,7 @@
 ghost use Rattle.std.specs.Prelude.{◌*◌, ◌≤◌, length};
 ghost use Rattle.cases.specs.Case.{most_input};
 
-use std::io::{self, BufWriter, Write};
+use std::io::{self, Write};
 
 mod input; // input.rt: the words of a case and its lists
 
@@ -304,10 +304,8 @@ fn run_bytes<W: Write>(out: &mut W, bytes: &[u8]) -> io::Result<()>
 }
 
 // Runs the cases of standard input, and writes what each answers to standard output.
-pub fn run<R: Input + Print + AllocGlobal>(rt: &R) -> io::Result<()> {
+pub fn run<R: Input + Print>(rt: &R) -> io::Result<()> {
     let mut bytes = input::input_bytes_room();
     let got = streams::read_full(&mut rt.reader(), &mut bytes)?;
-    let mut out = BufWriter::new(rt.alloc(), io::writer(rt))?;
-    run_bytes(&mut out, &bytes[..got])?;
-    out.flush()
+    run_bytes(&mut io::writer(rt), &bytes[..got])
 }
