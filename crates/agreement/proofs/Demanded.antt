@@ -120,7 +120,8 @@ module _ (w c : List ℕ) (marks : ℕ) (ok : Accepts w c marks) where
   states_pass : (s v : List ℕ) → SameState w t C s v → same_states w e c s v ≡ true
   unfolding same_states both_found
   states_pass s v x =
-      let goals : both_found same_bool (goal_task w s) (goal_fdr e v) ≡ true = ap₂ (both_found same_bool) x.goal x.goal_fdr_lem ∙ bool_self (all_true s t.goal) in
+      let goals : both_found same_bool (goal_task w s) (goal_fdr e v) ≡ true =
+      ap₂ (both_found same_bool) x.goal x.goal_fdr_lem ∙ bool_self (all_true s t.goal) in
       let to : to_atoms_call e v (length s) ≡ finding s = ap (to_atoms_call e v) x.bytes ∙ x.to in
       and_both x.invariant
       (and_both goals (and_both (found_self (from_atoms_call e s (length v)) v x.from) (found_self (to_atoms_call e v (length s)) s to)))

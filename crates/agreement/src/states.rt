@@ -14,7 +14,8 @@ use answer::Verdict;
 
 // Sets both states to the initial ones: whether neither call was refused.
 pub fn set_both(image: &[u16], encoded: &[u16], state: &mut [u8], values: &mut [u16]) -> bool
-    ensures { Both (both_found same_unit) (becomes state.old (start_task image.now state.old)) (becomes values.old (start_fdr encoded.now values.old)) state.new values.new result }
+    ensures { Both (both_found same_unit) (becomes state.old (start_task image.now state.old))
+        (becomes values.old (start_fdr encoded.now values.old)) state.new values.new result }
 {
     let first = state::set_initial(image, state);
     let second = fdr::set_initial(encoded, values);

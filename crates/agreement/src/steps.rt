@@ -14,7 +14,8 @@ fn step_both(
     state: &mut [u8],
     values: &mut [u16],
 ) -> bool
-    ensures { Both (same_answer same_unit) (becomes state.old (step_task image.now state.old operator)) (becomes values.old (step_fdr encoded.now values.old operator)) state.new values.new result }
+    ensures { Both (same_answer same_unit) (becomes state.old (step_task image.now state.old operator))
+        (becomes values.old (step_fdr encoded.now values.old operator)) state.new values.new result }
 {
     let first = state::step(image, state, operator);
     let second = fdr::step(encoded, values, operator);

@@ -123,7 +123,7 @@ module _ {T : Type 0} (R : Reader T) (w s : List ℕ) where
 
   -- where one of them is answered no
   module _ (r : Refusal) (no-18 : refused r ≡ state_answer R w s) where
-    either_refused : {B : Type 0} (rest : T → Answer B) → refused r ≡ asking (R.read w) (λ t. R.is_state t s) rest
+    pub either_refused : {B : Type 0} (rest : T → Answer B) → refused r ≡ asking (R.read w) (λ t. R.is_state t s) rest
     unfolding state_answer ◌>>=◌ ask ask_at
     either_refused {B} rest = go (R.read w) no-18
       where

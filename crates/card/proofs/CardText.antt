@@ -162,7 +162,9 @@ answer_size : (w : List ℕ) (x : Found) → input_answer w ≡ finding x → le
 answer_size w x e =
     let N = get_or w 2 0 in
     let cw = clause_words x.clauses in
-    let r = rw (get_or-drop 2 w 0 0) at (clauses_read (drop 2 w) (get_or w 0 0) (get_or w 1 0) (width * most_rows) (width * most_rows) (mark_bytes most_atoms) x e) in
+    let r =
+    rw (get_or-drop 2 w 0 0) at (clauses_read (drop 2 w) (get_or w 0 0) (get_or w 1 0) (width * most_rows) (width * most_rows)
+    (mark_bytes most_atoms) x e) in
     let s = read_size N cw x.rounds (read_of N cw x.clauses r.0) r.1 in
     rw (found_is x (clauses_of cw) x.rounds (read_are N cw x.clauses r.0) refl) s
 

@@ -18,7 +18,8 @@ fn write_covered(
     sizes: &mut [u16],
     none: &mut [u16],
 ) -> usize
-    requires { (ClausesRead atoms clauses.now) × (Room atoms places.old sizes.old none.old) × (length (found_text atoms (finding_of (clauses_of clauses.now) rounds)) ≤ length out.old) }
+    requires { (ClausesRead atoms clauses.now) × (Room atoms places.old sizes.old none.old)
+        × (length (found_text atoms (finding_of (clauses_of clauses.now) rounds)) ≤ length out.old) }
     ensures { Wrote out.old 0 (found_text atoms (finding_of (clauses_of clauses.now) rounds)) out.new result }
 {
     let count = cover::cover(clauses, atoms, places, sizes, none);

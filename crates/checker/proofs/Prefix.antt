@@ -52,7 +52,8 @@ module _ (w : List ℕ) (low : ℕ) (inside : low ≤ row_count w) where
       ext_get_or [] (clauses_of v) (take low (clauses_of w)) (p ∙ sym q)
       (λ i h.
       let l : i < low = omega arith in
-      clauses_at_lem v i (omega (arith, prefix_count)) ∙ ap clause_of (prefix_row i l) ∙ sym (get_or-take low (clauses_of w) i [] l ∙ clauses_at_lem w i (omega arith)))
+      clauses_at_lem v i (omega (arith, prefix_count)) ∙ ap clause_of (prefix_row i l)
+      ∙ sym (get_or-take low (clauses_of w) i [] l ∙ clauses_at_lem w i (omega arith)))
 
   pub prefix_judged : (atoms : ℕ) → ClausesRead atoms w → Judged atoms (take (width * low) w)
   prefix_judged atoms read =

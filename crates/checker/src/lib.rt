@@ -67,7 +67,8 @@ fn first_failing(
     fails: &mut [u8],
 ) -> usize
     requires { Judging image.now clauses.now atoms operator (length marks.old) (length fails.old) }
-    ensures { FirstFlag (fail_flags atoms (clauses_of clauses.now) (operator_at (task_of image.now) operator) (take (length fails.old) (clauses_of clauses.now))) result }
+    ensures { FirstFlag (fail_flags atoms (clauses_of clauses.now) (operator_at (task_of image.now) operator)
+        (take (length fails.old) (clauses_of clauses.now))) result }
 {
     let block = task::operator_block(image, operator);
     let end = WIDTH * fails.len();

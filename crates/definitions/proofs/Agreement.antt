@@ -113,7 +113,8 @@ module _ (w : List ℕ) (t : Task) (C : List (List ℕ)) (read : read_task w ≡
     unfolding from_atoms_call ask ask_at ◌>>=◌
     from_call =
         rw (image_there)
-        (rw (and_both (ap (λ n. is_state n s) atoms_count ∙ is_state_lem) (eq-eqb (length v) (length (encode t C).domains) (coded.vars ∙ sym (domains_count t C))))
+        (rw (and_both (ap (λ n. is_state n s) atoms_count ∙ is_state_lem)
+        (eq-eqb (length v) (length (encode t C).domains) (coded.vars ∙ sym (domains_count t C))))
         (from_atoms_lem t C s v coded))
 
     run_call_lem : (is : List ℕ) → run_task w s is ≡ run_from (step t) s 0 is

@@ -152,7 +152,8 @@ module _ (w : List ℕ) (t : Task) (read : read_task w ≡ finding t) where
       commits_keep w Committed one_more cs (initial_counted t)
       (record { state = refl; runs_all = refl; count = refl; within = omega arith })
 
-  lists : (cs : List TicketCall) → OfOperators w t (committed (history (ticket_call w) (initial_counted t) cs)) (after_calls (ticket_call w) (initial_counted t) cs)
+  lists :
+      (cs : List TicketCall) → OfOperators w t (committed (history (ticket_call w) (initial_counted t) cs)) (after_calls (ticket_call w) (initial_counted t) cs)
   lists cs =
       let is = committed (history (ticket_call w) (initial_counted t) cs) in
       let m = committed_all cs in

@@ -41,7 +41,8 @@ module _ (w v z : List ℕ) (t u : Task) (is : List ℕ) where
 
   pub record RunsTogether : Type 0 where
     -- it runs exactly if the first's part runs in the first and the second's part in the second
-    pub runs_both : runs (step_task z) (initial_state (joined t u)) is ≡ (runs (step_task w) (initial_state t) own && runs (step_task v) (initial_state u) other)
+    pub runs_both :
+        runs (step_task z) (initial_state (joined t u)) is ≡ (runs (step_task w) (initial_state t) own && runs (step_task v) (initial_state u) other)
     -- the joined state is the two states one after the other (whichever steps were refused)
     pub state : end_joined ≡ end_first ++ end_second
     -- the goal is met exactly if both goals are

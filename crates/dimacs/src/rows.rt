@@ -17,7 +17,8 @@ use dimacs_rows::Collected;
 // Question 26 of the target, and the first rows written.
 fn write_rows(rows: &[u16], count: usize, clauses: &mut [u16]) -> Counted
     requires { width * count ≤ length rows.now }
-    ensures { (D : List (List ℕ)) → RowsRead D rows.now count → outcome (count_answer result) clauses.new ≡ written clauses.old (rows_answer D (length clauses.old)) }
+    ensures { (D : List (List ℕ)) → RowsRead D rows.now count → outcome (count_answer result) clauses.new
+        ≡ written clauses.old (rows_answer D (length clauses.old)) }
 {
     let end = WIDTH * count;
     if clauses.len() < end {

@@ -51,7 +51,8 @@ module _ (w : List ℕ) (size i : ℕ) (r : Reading w size i) where
   pub reading_stops : i < length w → is_digit (get_or w i 0) ≡ false → is_numeral w ≡ false
   reading_stops h e = r.numeral ∙ here is_digit h ∙ rw e
 
-  pub reading_next : (next : ℕ) → i < length w → is_digit (get_or w i 0) ≡ true → next ≡ min most_size (10 * size + (get_or w i 0 - 48)) → Reading w next (i + 1)
+  pub reading_next :
+      (next : ℕ) → i < length w → is_digit (get_or w i 0) ≡ true → next ≡ min most_size (10 * size + (get_or w i 0 - 48)) → Reading w next (i + 1)
   unfolding value_behind
   reading_next next h e n =
       record {

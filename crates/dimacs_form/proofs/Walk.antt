@@ -123,7 +123,8 @@ tail_asked N k (w ∷ ws) c e = go (is_zero (number_in w)) refl (tail_asked N k 
         (ap (λ z. all is_number ws && (eqb k (c + 1 + n) && last_marked is_zero z (map number_in ws) && small)) h ∙ a))
     go false h a b =
         rw (h, counted, tail_from)
-        (step (c + n) last (tail_from N k c false ws) (ap (λ z. all is_number ws && (eqb k (c + n) && last_marked is_zero z (map number_in ws) && small)) h ∙ b))
+        (step (c + n) last (tail_from N k c false ws) (ap (λ z. all is_number ws
+        && (eqb k (c + n) && last_marked is_zero z (map number_in ws) && small)) h ∙ b))
 
 -- question 24 of the words behind "p cnf"
 pub words_say_lem : (N : ℕ) (T : List (List ℕ)) → (all is_number T && says_clauses N (map number_in T)) ≡ words_say N T

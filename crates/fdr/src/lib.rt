@@ -45,7 +45,9 @@ fn precondition_holds(block: &[u16], state: &[u16]) -> bool
 // The rows of a block, done in a state, with changes that note nothing before it: questions 21 and 22. What is noted stays.
 fn apply(image: &[u16], block: &[u16], state: &mut [u16], changes: &mut [usize]) -> Verdict
     requires { Applying image.now block.now state.old changes.old }
-    ensures { (outcome (verdict_answer result) state.new ≡ becomes state.old (applied (fdr_of image.now) state.old (fdr_fired state.old (operator_in block.now)))) × NotedFor (operator_in block.now).rows changes.old changes.new }
+    ensures { (outcome (verdict_answer result) state.new
+        ≡ becomes state.old (applied (fdr_of image.now) state.old (fdr_fired state.old (operator_in block.now))))
+        × NotedFor (operator_in block.now).rows changes.old changes.new }
 {
     if !change::note(block, state, changes) {
         return answer::refuse(Refusal::CONFLICT);
@@ -61,7 +63,8 @@ fn apply(image: &[u16], block: &[u16], state: &mut [u16], changes: &mut [usize])
 // A step by the block of its operator, with changes that note nothing before and after: questions 20 to 22.
 fn step_block(image: &[u16], block: &[u16], state: &mut [u16], changes: &mut [usize]) -> Verdict
     requires { Applying image.now block.now state.old changes.old }
-    ensures { (outcome (verdict_answer result) state.new ≡ becomes state.old (stepped (fdr_of image.now) state.old (operator_in block.now))) × (changes.new ≡ changes.old) }
+    ensures { (outcome (verdict_answer result) state.new ≡ becomes state.old (stepped (fdr_of image.now) state.old (operator_in block.now)))
+        × (changes.new ≡ changes.old) }
 {
     if !precondition_holds(block, state) {
         return answer::refuse(Refusal::PRECONDITION);

@@ -92,7 +92,8 @@ module _ (D : List Domain) where
   )
 
   -- a value is given as often as its rank stands among those of the atoms
-  count_given : (v x : ℕ) → x < size v → (P : List Place) → all (place_right D) P ≡ true → count (values_before D v + x) (map rank P) ≡ length (given_to D P v x)
+  count_given :
+      (v x : ℕ) → x < size v → (P : List Place) → all (place_right D) P ≡ true → count (values_before D v + x) (map rank P) ≡ length (given_to D P v x)
   unfolding count given_to keep all
   count_given v x h [] a = refl
   count_given v x h (p ∷ P) a =

@@ -296,7 +296,8 @@ module _ (w : List ℕ) (r : ReadsFdr w) where
       (subst (λ (x : List ℕ). BlockGiven x (fdr_there w) i) (sym e) (given (part w (i + 4)) right (operator_at_lem i (get_or w 1 0) low)))
     where
       operator_at_lem : (i k : ℕ) → i < k → operator_in (part w (i + 4)) ≡ get_or (map (operator_there w) (below k)) i no_fdr_operator
-      operator_at_lem i k h = sym (get_or_map_low (operator_there w) (below k) i 0 no_fdr_operator (rw (below_count k) h) ∙ ap (operator_there w) (below_get_or k i h))
+      operator_at_lem i k h = sym (get_or_map_low (operator_there w) (below k) i 0 no_fdr_operator (rw (below_count k) h)
+          ∙ ap (operator_there w) (below_get_or k i h))
 
       given :
           (b : List ℕ) → block_right (domains_in (part w 0)) (fdr_operator_of b) ≡ true → operator_in b ≡ get_or (fdr_there w).operators i no_fdr_operator

@@ -14,7 +14,8 @@ use borrow.Author.Tests.{lt-leb, le-leb, leb-true, leb-false, eq-eqb, ne_eqb}
 use Rattle.definitions.specs.Lists.{all}
 use Rattle.definitions.specs.Groups.{Domain}
 use Rattle.definitions.specs.Fdr.{FdrLiteral, FdrRow, FdrOperator}
-use Rattle.definitions.specs.FdrImage.{literals_in, is_atom_value, fdr_literal_right, fdr_row_right, fdr_operator_right, fdr_rows_of, fdr_rest_of, fdr_operator_of}
+use Rattle.definitions.specs.FdrImage.{literals_in, is_atom_value, fdr_literal_right, fdr_row_right, fdr_operator_right, fdr_rows_of}
+use Rattle.definitions.specs.FdrImage.{fdr_rest_of, fdr_operator_of}
 use Rattle.definitions.proofs.ListLaws.{never}
 use Rattle.fdr_image.specs.Walk.{whole_row, kind_of, row, rows_right, block_right, some_rows, rows_or, parses_at, rows_at, some_operator}
 use Rattle.fdr_image.specs.Walk.{operator_or, block_parses, operator_in}
@@ -290,7 +291,8 @@ module _ (D : List Domain) (b : List ℕ) where
       pub block_off : right ≡ false → false ≡ block_right D (fdr_operator_of b)
       block_off h = sym (block_here (get_or b (2 * c + 1) 0) refl ∙ rw h)
 
-      pub block_on : (k : ℕ) → k ≡ get_or b (2 * c + 1) 0 → right ≡ true → rows_right D (fdr_rows_of k (drop (2 * c + 1 + 1) b)) ≡ block_right D (fdr_operator_of b)
+      pub block_on :
+          (k : ℕ) → k ≡ get_or b (2 * c + 1) 0 → right ≡ true → rows_right D (fdr_rows_of k (drop (2 * c + 1 + 1) b)) ≡ block_right D (fdr_operator_of b)
       block_on k ek h = sym (block_here k ek ∙ rw h)
 
 -- ---- a block that parses
@@ -372,7 +374,8 @@ rows_done b p k e = rw e (go (drop p b))
     go (x ∷ l) = refl
 
 module _ (pre : List FdrLiteral) where
-  with_precondition_lem : (q : Option (List FdrRow)) → some_operator (with_precondition pre q) ≡ true → (operator_or (with_precondition pre q)).precondition ≡ pre
+  with_precondition_lem :
+      (q : Option (List FdrRow)) → some_operator (with_precondition pre q) ≡ true → (operator_or (with_precondition pre q)).precondition ≡ pre
   unfolding with_precondition some_operator operator_or
   with_precondition_lem none h = not_some h
   with_precondition_lem (some rs) h = refl

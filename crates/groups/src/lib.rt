@@ -35,7 +35,8 @@ fn write_groups(
 // The groups of a task and of clauses that are read.
 pub fn groups_read(image: &[u16], clauses: &[u16], target: &mut [u16]) -> Counted
     requires { (Reads image.now) × (ClausesRead (task_of image.now).atoms clauses.now) }
-    ensures { outcome (count_answer result) target.new ≡ written target.old (groups_answer (task_of image.now).atoms (clauses_of clauses.now) (length target.old)) }
+    ensures { outcome (count_answer result) target.new
+        ≡ written target.old (groups_answer (task_of image.now).atoms (clauses_of clauses.now) (length target.old)) }
 {
     let atoms = task::atoms(image);
     let mut places = [0u16; literal::MOST_LITERALS];

@@ -61,7 +61,8 @@ fn rows(
     target: &mut [u16],
     at: usize,
 ) -> usize
-    requires { (before ≤ most_atoms) × (RowsOver (most_atoms - before) block.now from count) × (at + length (rows_behind before (rows_at block.now from count)) ≤ length target.old) }
+    requires { (before ≤ most_atoms) × (RowsOver (most_atoms - before) block.now from count)
+        × (at + length (rows_behind before (rows_at block.now from count)) ≤ length target.old) }
     ensures { Wrote target.old at (rows_behind before (rows_at block.now from count)) target.new result }
 {
     let mut to = at;
@@ -82,7 +83,8 @@ fn rows(
 
 // Writes the operator of a block, behind `before` atoms.
 fn operator(block: &[u16], before: u16, target: &mut [u16], at: usize) -> usize
-    requires { (before ≤ most_atoms) × (OperatorOver (most_atoms - before) block.now) × (at + length (operator_behind before (operator_in block.now)) ≤ length target.old) }
+    requires { (before ≤ most_atoms) × (OperatorOver (most_atoms - before) block.now)
+        × (at + length (operator_behind before (operator_in block.now)) ≤ length target.old) }
     ensures { Wrote target.old at (operator_behind before (operator_in block.now)) target.new result }
 {
     let task::block::BlockHead { end, rows: count } = task::block::head(block);
@@ -93,7 +95,8 @@ fn operator(block: &[u16], before: u16, target: &mut [u16], at: usize) -> usize
 
 // Writes the operators of a task, behind `before` atoms.
 pub fn operators(image: &[u16], before: u16, target: &mut [u16], at: usize) -> usize
-    requires { (Reads image.now) × (before + (task_of image.now).atoms ≤ most_atoms) × (at + length (operators_behind before (task_of image.now).operators) ≤ length target.old) }
+    requires { (Reads image.now) × (before + (task_of image.now).atoms ≤ most_atoms)
+        × (at + length (operators_behind before (task_of image.now).operators) ≤ length target.old) }
     ensures { Wrote target.old at (operators_behind before (task_of image.now).operators) target.new result }
 {
     let count = task::operators(image);

@@ -32,7 +32,8 @@ pub fn kb_read(image: &[u16], first: &mut u64, second: &mut u64) -> u32
 
 // Sets a state to the initial one: 1 to 7, the length of 18.
 pub fn kb_task_initial(image: &[u16], state: &mut [u8], first: &mut u64, second: &mut u64) -> u32
-    ensures { (returned result first.new second.new ≡ returned_verdict (verdict (start_task image.now state.old))) × (state.new ≡ state_after state.old (start_task image.now state.old)) }
+    ensures { (returned result first.new second.new ≡ returned_verdict (verdict (start_task image.now state.old)))
+        × (state.new ≡ state_after state.old (start_task image.now state.old)) }
 {
     numbers::verdict(state::set_initial(image, state), first, second)
 }
@@ -45,7 +46,8 @@ pub fn kb_task_step(
     first: &mut u64,
     second: &mut u64,
 ) -> u32
-    ensures { (returned result first.new second.new ≡ returned_verdict (verdict (step_task image.now state.old operator))) × (state.new ≡ state_after state.old (step_task image.now state.old operator)) }
+    ensures { (returned result first.new second.new ≡ returned_verdict (verdict (step_task image.now state.old operator)))
+        × (state.new ≡ state_after state.old (step_task image.now state.old operator)) }
 {
     numbers::verdict(state::step(image, state, operator), first, second)
 }
@@ -65,7 +67,8 @@ pub fn kb_task_run(
     first: &mut u64,
     second: &mut u64,
 ) -> u32
-    ensures { (returned result first.new second.new ≡ returned_count (run_task image.now state.old list.now).answer) × (state.new ≡ (run_task image.now state.old list.now).lent) }
+    ensures { (returned result first.new second.new ≡ returned_count (run_task image.now state.old list.now).answer)
+        × (state.new ≡ (run_task image.now state.old list.now).lent) }
 {
     numbers::count(state::run(image, state, list), first, second)
 }
@@ -119,7 +122,9 @@ pub fn kb_closure(
     first: &mut u64,
     second: &mut u64,
 ) -> u32
-    ensures { (returned result first.new second.new ≡ returned_count (written marks.old (closure_call image.now clauses.now operator marks.old)).answer) × (marks.new ≡ (written marks.old (closure_call image.now clauses.now operator marks.old)).lent) }
+    ensures { (returned result first.new second.new
+        ≡ returned_count (written marks.old (closure_call image.now clauses.now operator marks.old)).answer)
+        × (marks.new ≡ (written marks.old (closure_call image.now clauses.now operator marks.old)).lent) }
 {
     numbers::count(
         closure::closure(image, clauses, operator, marks),
@@ -172,7 +177,9 @@ pub fn kb_synthesize(
     first: &mut u64,
     second: &mut u64,
 ) -> u32
-    ensures { (returned result first.new second.new ≡ returned_made (synthesis_call image.now n limit clauses.old (length work.old) (length marks.old)).answer) × (clauses.new ≡ (synthesis_call image.now n limit clauses.old (length work.old) (length marks.old)).lent) }
+    ensures { (returned result first.new second.new
+        ≡ returned_made (synthesis_call image.now n limit clauses.old (length work.old) (length marks.old)).answer)
+        × (clauses.new ≡ (synthesis_call image.now n limit clauses.old (length work.old) (length marks.old)).lent) }
 {
     numbers::made(
         synthesis::synthesize(image, n, limit, clauses, work, marks),
@@ -190,7 +197,9 @@ pub fn kb_groups(
     first: &mut u64,
     second: &mut u64,
 ) -> u32
-    ensures { (returned result first.new second.new ≡ returned_count (written target.old (groups_call image.now clauses.now (length marks.old) (length target.old))).answer) × (target.new ≡ (written target.old (groups_call image.now clauses.now (length marks.old) (length target.old))).lent) }
+    ensures { (returned result first.new second.new
+        ≡ returned_count (written target.old (groups_call image.now clauses.now (length marks.old) (length target.old))).answer)
+        × (target.new ≡ (written target.old (groups_call image.now clauses.now (length marks.old) (length target.old))).lent) }
 {
     numbers::count(groups::groups(image, clauses, marks, target), first, second)
 }
@@ -204,7 +213,9 @@ pub fn kb_reencode(
     first: &mut u64,
     second: &mut u64,
 ) -> u32
-    ensures { (returned result first.new second.new ≡ returned_count (written target.old (encode_call image.now clauses.now (length marks.old) (length target.old))).answer) × (target.new ≡ (written target.old (encode_call image.now clauses.now (length marks.old) (length target.old))).lent) }
+    ensures { (returned result first.new second.new
+        ≡ returned_count (written target.old (encode_call image.now clauses.now (length marks.old) (length target.old))).answer)
+        × (target.new ≡ (written target.old (encode_call image.now clauses.now (length marks.old) (length target.old))).lent) }
 {
     numbers::count(
         reencoding::reencode(image, clauses, marks, target),
@@ -215,7 +226,8 @@ pub fn kb_reencode(
 
 // Sets a finite-domain state to the initial one: 17, the length of 18.
 pub fn kb_fdr_initial(image: &[u16], state: &mut [u16], first: &mut u64, second: &mut u64) -> u32
-    ensures { (returned result first.new second.new ≡ returned_verdict (verdict (start_fdr image.now state.old))) × (state.new ≡ state_after state.old (start_fdr image.now state.old)) }
+    ensures { (returned result first.new second.new ≡ returned_verdict (verdict (start_fdr image.now state.old)))
+        × (state.new ≡ state_after state.old (start_fdr image.now state.old)) }
 {
     numbers::verdict(fdr::set_initial(image, state), first, second)
 }
@@ -228,7 +240,8 @@ pub fn kb_fdr_step(
     first: &mut u64,
     second: &mut u64,
 ) -> u32
-    ensures { (returned result first.new second.new ≡ returned_verdict (verdict (step_fdr image.now state.old operator))) × (state.new ≡ state_after state.old (step_fdr image.now state.old operator)) }
+    ensures { (returned result first.new second.new ≡ returned_verdict (verdict (step_fdr image.now state.old operator)))
+        × (state.new ≡ state_after state.old (step_fdr image.now state.old operator)) }
 {
     numbers::verdict(fdr::step(image, state, operator), first, second)
 }
@@ -248,7 +261,8 @@ pub fn kb_fdr_run(
     first: &mut u64,
     second: &mut u64,
 ) -> u32
-    ensures { (returned result first.new second.new ≡ returned_count (run_fdr image.now state.old list.now).answer) × (state.new ≡ (run_fdr image.now state.old list.now).lent) }
+    ensures { (returned result first.new second.new ≡ returned_count (run_fdr image.now state.old list.now).answer)
+        × (state.new ≡ (run_fdr image.now state.old list.now).lent) }
 {
     numbers::count(fdr::run(image, state, list), first, second)
 }
@@ -261,7 +275,8 @@ pub fn kb_encode(
     first: &mut u64,
     second: &mut u64,
 ) -> u32
-    ensures { (returned result first.new second.new ≡ returned_verdict (verdict (from_atoms_call image.now state.now (length target.old)))) × (target.new ≡ state_after target.old (from_atoms_call image.now state.now (length target.old))) }
+    ensures { (returned result first.new second.new ≡ returned_verdict (verdict (from_atoms_call image.now state.now (length target.old))))
+        × (target.new ≡ state_after target.old (from_atoms_call image.now state.now (length target.old))) }
 {
     numbers::verdict(coding::encode(image, state, target), first, second)
 }
@@ -274,7 +289,8 @@ pub fn kb_decode(
     first: &mut u64,
     second: &mut u64,
 ) -> u32
-    ensures { (returned result first.new second.new ≡ returned_verdict (verdict (to_atoms_call image.now state.now (length target.old)))) × (target.new ≡ state_after target.old (to_atoms_call image.now state.now (length target.old))) }
+    ensures { (returned result first.new second.new ≡ returned_verdict (verdict (to_atoms_call image.now state.now (length target.old))))
+        × (target.new ≡ state_after target.old (to_atoms_call image.now state.now (length target.old))) }
 {
     numbers::verdict(coding::decode(image, state, target), first, second)
 }
@@ -289,7 +305,8 @@ pub fn kb_agree(
     first: &mut u64,
     second: &mut u64,
 ) -> u32
-    ensures { (returned result first.new second.new ≡ returned_test (comparison image.now clauses.now (length marks.old) list.now)) × (returned result first.new second.new ≡ returned_test (demanded (check image.now clauses.now (length marks.old)))) }
+    ensures { (returned result first.new second.new ≡ returned_test (comparison image.now clauses.now (length marks.old) list.now))
+        × (returned result first.new second.new ≡ returned_test (demanded (check image.now clauses.now (length marks.old)))) }
 {
     numbers::test(agreement::agree(image, clauses, list, marks), first, second)
 }
@@ -302,7 +319,9 @@ pub fn kb_write_dimacs(
     first: &mut u64,
     second: &mut u64,
 ) -> u32
-    ensures { (returned result first.new second.new ≡ returned_count (written text.old (write_dimacs image.now clauses.now (length text.old))).answer) × (text.new ≡ (written text.old (write_dimacs image.now clauses.now (length text.old))).lent) }
+    ensures { (returned result first.new second.new
+        ≡ returned_count (written text.old (write_dimacs image.now clauses.now (length text.old))).answer)
+        × (text.new ≡ (written text.old (write_dimacs image.now clauses.now (length text.old))).lent) }
 {
     numbers::count(dimacs::write(image, clauses, text), first, second)
 }
@@ -315,7 +334,9 @@ pub fn kb_read_dimacs(
     first: &mut u64,
     second: &mut u64,
 ) -> u32
-    ensures { (returned result first.new second.new ≡ returned_count (written clauses.old (read_dimacs image.now text.now (length clauses.old))).answer) × (clauses.new ≡ (written clauses.old (read_dimacs image.now text.now (length clauses.old))).lent) }
+    ensures { (returned result first.new second.new
+        ≡ returned_count (written clauses.old (read_dimacs image.now text.now (length clauses.old))).answer)
+        × (clauses.new ≡ (written clauses.old (read_dimacs image.now text.now (length clauses.old))).lent) }
 {
     numbers::count(dimacs::read(image, text, clauses), first, second)
 }
@@ -328,7 +349,8 @@ pub fn kb_join(
     first: &mut u64,
     second: &mut u64,
 ) -> u32
-    ensures { (returned result first.new second.new ≡ returned_count (written target.old (join_call left.now right.now (length target.old))).answer) × (target.new ≡ (written target.old (join_call left.now right.now (length target.old))).lent) }
+    ensures { (returned result first.new second.new ≡ returned_count (written target.old (join_call left.now right.now (length target.old))).answer)
+        × (target.new ≡ (written target.old (join_call left.now right.now (length target.old))).lent) }
 {
     numbers::count(joining::join(left, right, target), first, second)
 }

@@ -37,7 +37,8 @@ pub extern "C" fn kb_task_initial(
     first: &mut u64,
     second: &mut u64,
 ) -> u32
-    ensures { (returned result first.new second.new ≡ returned_verdict (verdict (start_task image.now state.old))) × (state.new ≡ state_after state.old (start_task image.now state.old)) }
+    ensures { (returned result first.new second.new ≡ returned_verdict (verdict (start_task image.now state.old)))
+        × (state.new ≡ state_after state.old (start_task image.now state.old)) }
 {
     kulabismuth::kb_task_initial(image, state, first, second)
 }
@@ -51,7 +52,8 @@ pub extern "C" fn kb_task_step(
     first: &mut u64,
     second: &mut u64,
 ) -> u32
-    ensures { (returned result first.new second.new ≡ returned_verdict (verdict (step_task image.now state.old operator))) × (state.new ≡ state_after state.old (step_task image.now state.old operator)) }
+    ensures { (returned result first.new second.new ≡ returned_verdict (verdict (step_task image.now state.old operator)))
+        × (state.new ≡ state_after state.old (step_task image.now state.old operator)) }
 {
     kulabismuth::kb_task_step(image, state, operator, first, second)
 }
@@ -78,7 +80,8 @@ pub extern "C" fn kb_task_run(
     first: &mut u64,
     second: &mut u64,
 ) -> u32
-    ensures { (returned result first.new second.new ≡ returned_count (run_task image.now state.old list.now).answer) × (state.new ≡ (run_task image.now state.old list.now).lent) }
+    ensures { (returned result first.new second.new ≡ returned_count (run_task image.now state.old list.now).answer)
+        × (state.new ≡ (run_task image.now state.old list.now).lent) }
 {
     kulabismuth::kb_task_run(image, state, list, first, second)
 }
@@ -139,7 +142,9 @@ pub extern "C" fn kb_closure(
     first: &mut u64,
     second: &mut u64,
 ) -> u32
-    ensures { (returned result first.new second.new ≡ returned_count (written marks.old (closure_call image.now clauses.now operator marks.old)).answer) × (marks.new ≡ (written marks.old (closure_call image.now clauses.now operator marks.old)).lent) }
+    ensures { (returned result first.new second.new
+        ≡ returned_count (written marks.old (closure_call image.now clauses.now operator marks.old)).answer)
+        × (marks.new ≡ (written marks.old (closure_call image.now clauses.now operator marks.old)).lent) }
 {
     kulabismuth::kb_closure(image, clauses, operator, marks, first, second)
 }
@@ -187,7 +192,9 @@ pub extern "C" fn kb_synthesize(
     first: &mut u64,
     second: &mut u64,
 ) -> u32
-    ensures { (returned result first.new second.new ≡ returned_made (synthesis_call image.now n limit clauses.old (length work.old) (length marks.old)).answer) × (clauses.new ≡ (synthesis_call image.now n limit clauses.old (length work.old) (length marks.old)).lent) }
+    ensures { (returned result first.new second.new
+        ≡ returned_made (synthesis_call image.now n limit clauses.old (length work.old) (length marks.old)).answer)
+        × (clauses.new ≡ (synthesis_call image.now n limit clauses.old (length work.old) (length marks.old)).lent) }
 {
     kulabismuth::kb_synthesize(image, n, limit, clauses, work, marks, first, second)
 }
@@ -202,7 +209,9 @@ pub extern "C" fn kb_groups(
     first: &mut u64,
     second: &mut u64,
 ) -> u32
-    ensures { (returned result first.new second.new ≡ returned_count (written target.old (groups_call image.now clauses.now (length marks.old) (length target.old))).answer) × (target.new ≡ (written target.old (groups_call image.now clauses.now (length marks.old) (length target.old))).lent) }
+    ensures { (returned result first.new second.new
+        ≡ returned_count (written target.old (groups_call image.now clauses.now (length marks.old) (length target.old))).answer)
+        × (target.new ≡ (written target.old (groups_call image.now clauses.now (length marks.old) (length target.old))).lent) }
 {
     kulabismuth::kb_groups(image, clauses, marks, target, first, second)
 }
@@ -217,7 +226,9 @@ pub extern "C" fn kb_reencode(
     first: &mut u64,
     second: &mut u64,
 ) -> u32
-    ensures { (returned result first.new second.new ≡ returned_count (written target.old (encode_call image.now clauses.now (length marks.old) (length target.old))).answer) × (target.new ≡ (written target.old (encode_call image.now clauses.now (length marks.old) (length target.old))).lent) }
+    ensures { (returned result first.new second.new
+        ≡ returned_count (written target.old (encode_call image.now clauses.now (length marks.old) (length target.old))).answer)
+        × (target.new ≡ (written target.old (encode_call image.now clauses.now (length marks.old) (length target.old))).lent) }
 {
     kulabismuth::kb_reencode(image, clauses, marks, target, first, second)
 }
@@ -230,7 +241,8 @@ pub extern "C" fn kb_fdr_initial(
     first: &mut u64,
     second: &mut u64,
 ) -> u32
-    ensures { (returned result first.new second.new ≡ returned_verdict (verdict (start_fdr image.now state.old))) × (state.new ≡ state_after state.old (start_fdr image.now state.old)) }
+    ensures { (returned result first.new second.new ≡ returned_verdict (verdict (start_fdr image.now state.old)))
+        × (state.new ≡ state_after state.old (start_fdr image.now state.old)) }
 {
     kulabismuth::kb_fdr_initial(image, state, first, second)
 }
@@ -244,7 +256,8 @@ pub extern "C" fn kb_fdr_step(
     first: &mut u64,
     second: &mut u64,
 ) -> u32
-    ensures { (returned result first.new second.new ≡ returned_verdict (verdict (step_fdr image.now state.old operator))) × (state.new ≡ state_after state.old (step_fdr image.now state.old operator)) }
+    ensures { (returned result first.new second.new ≡ returned_verdict (verdict (step_fdr image.now state.old operator)))
+        × (state.new ≡ state_after state.old (step_fdr image.now state.old operator)) }
 {
     kulabismuth::kb_fdr_step(image, state, operator, first, second)
 }
@@ -271,7 +284,8 @@ pub extern "C" fn kb_fdr_run(
     first: &mut u64,
     second: &mut u64,
 ) -> u32
-    ensures { (returned result first.new second.new ≡ returned_count (run_fdr image.now state.old list.now).answer) × (state.new ≡ (run_fdr image.now state.old list.now).lent) }
+    ensures { (returned result first.new second.new ≡ returned_count (run_fdr image.now state.old list.now).answer)
+        × (state.new ≡ (run_fdr image.now state.old list.now).lent) }
 {
     kulabismuth::kb_fdr_run(image, state, list, first, second)
 }
@@ -285,7 +299,8 @@ pub extern "C" fn kb_encode(
     first: &mut u64,
     second: &mut u64,
 ) -> u32
-    ensures { (returned result first.new second.new ≡ returned_verdict (verdict (from_atoms_call image.now state.now (length target.old)))) × (target.new ≡ state_after target.old (from_atoms_call image.now state.now (length target.old))) }
+    ensures { (returned result first.new second.new ≡ returned_verdict (verdict (from_atoms_call image.now state.now (length target.old))))
+        × (target.new ≡ state_after target.old (from_atoms_call image.now state.now (length target.old))) }
 {
     kulabismuth::kb_encode(image, state, target, first, second)
 }
@@ -299,7 +314,8 @@ pub extern "C" fn kb_decode(
     first: &mut u64,
     second: &mut u64,
 ) -> u32
-    ensures { (returned result first.new second.new ≡ returned_verdict (verdict (to_atoms_call image.now state.now (length target.old)))) × (target.new ≡ state_after target.old (to_atoms_call image.now state.now (length target.old))) }
+    ensures { (returned result first.new second.new ≡ returned_verdict (verdict (to_atoms_call image.now state.now (length target.old))))
+        × (target.new ≡ state_after target.old (to_atoms_call image.now state.now (length target.old))) }
 {
     kulabismuth::kb_decode(image, state, target, first, second)
 }
@@ -315,7 +331,8 @@ pub extern "C" fn kb_agree(
     first: &mut u64,
     second: &mut u64,
 ) -> u32
-    ensures { (returned result first.new second.new ≡ returned_test (comparison image.now clauses.now (length marks.old) list.now)) × (returned result first.new second.new ≡ returned_test (demanded (check image.now clauses.now (length marks.old)))) }
+    ensures { (returned result first.new second.new ≡ returned_test (comparison image.now clauses.now (length marks.old) list.now))
+        × (returned result first.new second.new ≡ returned_test (demanded (check image.now clauses.now (length marks.old)))) }
 {
     kulabismuth::kb_agree(image, clauses, list, marks, first, second)
 }
@@ -329,7 +346,9 @@ pub extern "C" fn kb_write_dimacs(
     first: &mut u64,
     second: &mut u64,
 ) -> u32
-    ensures { (returned result first.new second.new ≡ returned_count (written text.old (write_dimacs image.now clauses.now (length text.old))).answer) × (text.new ≡ (written text.old (write_dimacs image.now clauses.now (length text.old))).lent) }
+    ensures { (returned result first.new second.new
+        ≡ returned_count (written text.old (write_dimacs image.now clauses.now (length text.old))).answer)
+        × (text.new ≡ (written text.old (write_dimacs image.now clauses.now (length text.old))).lent) }
 {
     kulabismuth::kb_write_dimacs(image, clauses, text, first, second)
 }
@@ -343,7 +362,9 @@ pub extern "C" fn kb_read_dimacs(
     first: &mut u64,
     second: &mut u64,
 ) -> u32
-    ensures { (returned result first.new second.new ≡ returned_count (written clauses.old (read_dimacs image.now text.now (length clauses.old))).answer) × (clauses.new ≡ (written clauses.old (read_dimacs image.now text.now (length clauses.old))).lent) }
+    ensures { (returned result first.new second.new
+        ≡ returned_count (written clauses.old (read_dimacs image.now text.now (length clauses.old))).answer)
+        × (clauses.new ≡ (written clauses.old (read_dimacs image.now text.now (length clauses.old))).lent) }
 {
     kulabismuth::kb_read_dimacs(image, text, clauses, first, second)
 }
@@ -357,7 +378,8 @@ pub extern "C" fn kb_join(
     first: &mut u64,
     second: &mut u64,
 ) -> u32
-    ensures { (returned result first.new second.new ≡ returned_count (written target.old (join_call left.now right.now (length target.old))).answer) × (target.new ≡ (written target.old (join_call left.now right.now (length target.old))).lent) }
+    ensures { (returned result first.new second.new ≡ returned_count (written target.old (join_call left.now right.now (length target.old))).answer)
+        × (target.new ≡ (written target.old (join_call left.now right.now (length target.old))).lent) }
 {
     kulabismuth::kb_join(left, right, target, first, second)
 }

@@ -41,7 +41,8 @@ module _ (rows : ℕ) (C : List (List ℕ)) (flags list : List ℕ) (k i : ℕ) 
   unfolding added_row put_all
   row_none h = rw h
 
-  pub row_some : is_due C flags k i ≡ true → (f : List ℕ) → f ≡ get_or C i [] → put_all rows (each (extended f) list) s ≡ put_all rows (added_row C flags list k i) s
+  pub row_some :
+      is_due C flags k i ≡ true → (f : List ℕ) → f ≡ get_or C i [] → put_all rows (each (extended f) list) s ≡ put_all rows (added_row C flags list k i) s
   unfolding added_row
   row_some h f e = rw (h, e)
 

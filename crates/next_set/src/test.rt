@@ -18,7 +18,8 @@ use clause::place::RowPlace;
 // Adds flags of clauses to those of `to`. In `due`, from position `at` on, it flags the numbers of literals of the flagged clauses.
 fn add_flags(clauses: &[u16], flags: &[u8], to: &mut [u8], due: &mut [u8], at: usize)
     requires { (length flags.now ≡ row_count clauses.now) × (length flags.now ≡ length to.old) × (at ≤ width * most_operators) }
-    ensures { (p : List ℕ → Bool) → flags.now ≡ map (λ f. bit (p f)) (clauses_of clauses.now) → FlagsAdded p (clauses_of clauses.now) at to.old to.new due.old due.new }
+    ensures { (p : List ℕ → Bool) → flags.now
+        ≡ map (λ f. bit (p f)) (clauses_of clauses.now) → FlagsAdded p (clauses_of clauses.now) at to.old to.new due.old due.new }
 {
     let mut place = RowPlace::first();
     while place.number < flags.len() {
@@ -75,8 +76,10 @@ fn test_operator(
     failing: &mut [u8],
     due: &mut [u8],
 )
-    requires { ReadWithRoom image.now clauses.now atoms marks.old fails.old × (operator < length (task_of image.now).operators) × (length failing.old ≡ row_count clauses.now) }
-    ensures { FlagsAdded (λ f. not (kept atoms (clauses_of clauses.now) (operator_at (task_of image.now) operator) f)) (clauses_of clauses.now) (width * operator) failing.old failing.new due.old due.new }
+    requires { ReadWithRoom image.now clauses.now atoms marks.old fails.old × (operator < length (task_of image.now).operators)
+        × (length failing.old ≡ row_count clauses.now) }
+    ensures { FlagsAdded (λ f. not (kept atoms (clauses_of clauses.now) (operator_at (task_of image.now) operator) f)) (clauses_of clauses.now)
+        (width * operator) failing.old failing.new due.old due.new }
 {
     judge_operator(image, clauses, atoms, operator, marks, fails);
     add_flags(clauses, fails, failing, due, WIDTH * operator);
@@ -93,7 +96,8 @@ pub fn test(
     due: &mut [u8],
 )
     requires { ReadWithRoom image.now clauses.now atoms marks.old fails.old × (length failing.old ≡ row_count clauses.now) }
-    ensures { (failing.new ≡ map (λ f. bit (fails_below (task_of image.now) (clauses_of clauses.now) (length (task_of image.now).operators) f)) (clauses_of clauses.now)) × FailuresNoted (task_of image.now) (clauses_of clauses.now) due.new }
+    ensures { (failing.new ≡ map (λ f. bit (fails_below (task_of image.now) (clauses_of clauses.now) (length (task_of image.now).operators) f))
+        (clauses_of clauses.now)) × FailuresNoted (task_of image.now) (clauses_of clauses.now) due.new }
 {
     let operators = task::operators(image);
     literal::flags::clear(failing);

@@ -51,7 +51,8 @@ fn judge_listed(
     list: &mut [u16],
 ) -> usize
     requires { BulkGiven atoms clauses.now clauses.now block.now marks.old fails.old × (length list.old ≡ most_literals) }
-    ensures { (fails.new ≡ fail_flags atoms (clauses_of clauses.now) (operator_in block.now) (clauses_of clauses.now)) × ListedGuarantees atoms (clauses_of clauses.now) (operator_in block.now) list.new result }
+    ensures { (fails.new ≡ fail_flags atoms (clauses_of clauses.now) (operator_in block.now) (clauses_of clauses.now))
+        × ListedGuarantees atoms (clauses_of clauses.now) (operator_in block.now) list.new result }
 {
     let mut flags = literal::room::literal_flags();
     let size = 2 * atoms;
@@ -116,7 +117,8 @@ fn weaken_rows(
     rows: usize,
 ) -> Built
     requires { Weakening clauses.now flags.now list.now k × Room rows count work.old }
-    ensures { Holds rows result work.new (put_all rows (each (added_row (clauses_of clauses.now) flags.now list.now k) (range 0 (row_count clauses.now))) (some (held count work.old))) }
+    ensures { Holds rows result work.new (put_all rows
+        (each (added_row (clauses_of clauses.now) flags.now list.now k) (range 0 (row_count clauses.now))) (some (held count work.old))) }
 {
     let mut taken = count;
     let mut place = RowPlace::first();
@@ -148,7 +150,8 @@ fn weaken_under(
     rows: usize,
 ) -> Built
     requires { BulkGiven atoms clauses.now clauses.now block.now marks.old fails.old × (k < width) × Room rows count work.old }
-    ensures { (t : Task) → t.atoms ≡ atoms → Holds rows result work.new (put_all rows (added_by t (clauses_of clauses.now) k (operator_in block.now)) (some (held count work.old))) }
+    ensures { (t : Task) → t.atoms ≡ atoms
+        → Holds rows result work.new (put_all rows (added_by t (clauses_of clauses.now) k (operator_in block.now)) (some (held count work.old))) }
 {
     let mut list = literal::room::literals();
     let length = judge_listed(clauses, block, atoms, marks, fails, &mut list);
@@ -170,8 +173,10 @@ fn weaken_operator(
     count: usize,
     rows: usize,
 ) -> Built
-    requires { WeakensAt image.now clauses.now atoms k due.now marks.old fails.old × (operator < length (task_of image.now).operators) × Room rows count work.old }
-    ensures { Holds rows result work.new (put_all rows (added_by (task_of image.now) (clauses_of clauses.now) k (operator_at (task_of image.now) operator)) (some (held count work.old))) }
+    requires { WeakensAt image.now clauses.now atoms k due.now marks.old fails.old × (operator < length (task_of image.now).operators)
+        × Room rows count work.old }
+    ensures { Holds rows result work.new (put_all rows
+        (added_by (task_of image.now) (clauses_of clauses.now) k (operator_at (task_of image.now) operator)) (some (held count work.old))) }
 {
     if literal::flags::is_zero(due, WIDTH * operator + k) {
         return Built::Rows(count);

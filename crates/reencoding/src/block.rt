@@ -45,7 +45,8 @@ pub fn literals(list: &[u16], places: &[u16], target: &mut [u16], at: usize) -> 
 
 // Writes the number of literals, then the literals.
 fn counted(list: &[u16], places: &[u16], target: &mut [u16], at: usize) -> usize
-    requires { (Ready places.now (counted_by places.now list.now) target.old at) × (all_below (2 * atoms_of places.now) list.now ≡ true) × (length list.now < 65536) }
+    requires { (Ready places.now (counted_by places.now list.now) target.old at) × (all_below (2 * atoms_of places.now) list.now ≡ true)
+        × (length list.now < 65536) }
     ensures { Wrote target.old at (counted_by places.now list.now) target.new result }
 {
     target[at] = list.len() as u16;
@@ -54,7 +55,8 @@ fn counted(list: &[u16], places: &[u16], target: &mut [u16], at: usize) -> usize
 
 // Writes a row: 0 for a set, 1 for a clear, variable and value of the effect's atom, and the conditions.
 fn row(effect: Literal, conditions: &[u16], places: &[u16], target: &mut [u16], at: usize) -> usize
-    requires { (Ready places.now (row_by places.now (row effect.code conditions.now)) target.old at) × (row_right (atoms_of places.now) (row effect.code conditions.now) ≡ true) × (length conditions.now < 65536) }
+    requires { (Ready places.now (row_by places.now (row effect.code conditions.now)) target.old at)
+        × (row_right (atoms_of places.now) (row effect.code conditions.now) ≡ true) × (length conditions.now < 65536) }
     ensures { Wrote target.old at (row_by places.now (row effect.code conditions.now)) target.new result }
 {
     let a = effect.atom();

@@ -28,7 +28,8 @@ fn write_parts(
     target: &mut [u16],
     at: usize,
 ) -> usize
-    requires { (Reads image.now) × (Valued (task_of image.now) places.now sizes.now count) × (at + length (task_by (task_of image.now) places.now sizes.now count) ≤ length target.old) }
+    requires { (Reads image.now) × (Valued (task_of image.now) places.now sizes.now count)
+        × (at + length (task_by (task_of image.now) places.now sizes.now count) ≤ length target.old) }
     ensures { Wrote target.old at (task_by (task_of image.now) places.now sizes.now count) target.new result }
 {
     let goal = initial::values(task::initial(image), places, sizes, count, target, at);
@@ -46,7 +47,8 @@ fn write_image(
     lengths: &[u16],
     target: &mut [u16],
 ) -> usize
-    requires { (Reads image.now) × (Measured (task_of image.now) places.now sizes.now none.now count lengths.now) × (length (image_by (task_of image.now) places.now sizes.now none.now count) ≤ length target.old) }
+    requires { (Reads image.now) × (Measured (task_of image.now) places.now sizes.now none.now count lengths.now)
+        × (length (image_by (task_of image.now) places.now sizes.now none.now count) ≤ length target.old) }
     ensures { Wrote target.old 0 (image_by (task_of image.now) places.now sizes.now none.now count) target.new result }
 {
     let operators = task::operators(image);

@@ -50,7 +50,8 @@ pub fn lengths(image: &[u16], count: usize, lengths: &mut [u16]) -> usize
 
 // Writes the operators.
 pub fn operators(image: &[u16], places: &[u16], target: &mut [u16], at: usize) -> usize
-    requires { (Reads image.now) × ((task_of image.now).atoms ≡ atoms_of places.now) × (Ready places.now (operators_by places.now (task_of image.now).operators) target.old at) }
+    requires { (Reads image.now) × ((task_of image.now).atoms ≡ atoms_of places.now)
+        × (Ready places.now (operators_by places.now (task_of image.now).operators) target.old at) }
     ensures { Wrote target.old at (operators_by places.now (task_of image.now).operators) target.new result }
 {
     let count = task::operators(image);

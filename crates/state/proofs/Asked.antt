@@ -6,14 +6,13 @@ use Prim.Native.Nat.{ℕ, ◌≤◌, ◌<◌}
 use lib.Dec.{ltb}
 use lib.ListN.{length}
 use borrow.Author.Tests.{lt-ltb, le-ltb}
-use Rattle.definitions.specs.Answer.{Refusal, Answer, finding, refused, verdict, ask, ask_at, ◌>>=◌}
+use Rattle.definitions.specs.Answer.{Refusal, Answer, finding, refused, verdict, ask, ◌>>=◌}
 use Rattle.definitions.specs.Literal.{all_true}
 use Rattle.definitions.specs.Image.{Task}
 use Rattle.definitions.specs.Step.{applicable, result, operator_at, step}
-use Rattle.definitions.proofs.AnswerLaws.{not_finding}
 use Rattle.answer.specs.Answer.{refusal_at}
 use Rattle.answer.specs.Reader.{Reader, asking, state_answer, step_call}
-use Rattle.answer.proofs.ReaderCalls.{question_no, question_yes, rest_asked, state_is}
+use Rattle.answer.proofs.ReaderCalls.{question_no, question_yes, rest_asked, state_is, either_refused}
 
 -- ---- the questions up to 18, and the rest, for every kind of image
 module _ {T : Type 0} (R : Reader T) (w s : List ℕ) where
@@ -27,21 +26,9 @@ module _ {T : Type 0} (R : Reader T) (w s : List ℕ) where
 
   -- where one of them is answered no
   module _ (r : Refusal) (no-18 : refused r ≡ state_answer R w s) where
-    pub either_refused : {B : Type 0} (rest : T → Answer B) → refused r ≡ asking (R.read w) (λ t. R.is_state t s) rest
-    unfolding state_answer ◌>>=◌ ask ask_at
-    either_refused {B} rest = go (R.read w) no-18
-      where
-        at_18 : (t : T) (b : Bool) → refused r ≡ (ask 18 b >>= λ _. finding (tt {0})) → refused r ≡ (ask 18 b >>= λ _. rest t)
-        at_18 t true e = absurd (not_finding e)
-        at_18 t false e = ap refused (cc)
-
-        go : (a : Answer T) → refused r ≡ asking a (λ t. R.is_state t s) (λ _. finding (tt {0})) → refused r ≡ asking a (λ t. R.is_state t s) rest
-        go (finding t) e = at_18 t (R.is_state t s) e
-        go (refused q) e = ap refused (cc)
-
     pub check_refused : (i : ℕ) → refused r ≡ verdict (step_call R w s i)
     unfolding verdict
-    check_refused i = ap verdict (either_refused (λ t. R.step t s i))
+    check_refused i = ap verdict (either_refused R w s r no-18 (λ t. R.step t s i))
 
 -- ---- questions 19 and 20
 module _ (t : Task) (s : List ℕ) (i : ℕ) where

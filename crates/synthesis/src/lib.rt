@@ -87,7 +87,8 @@ fn round_flagged(
     due: &mut [u8],
     work: &mut [u16],
 ) -> Step
-    requires { Ready image.now clauses.now atoms n rows (length marks.old) (length work.old) × (length fails.old ≡ row_count clauses.now) × (length failing.old ≡ row_count clauses.now) }
+    requires { Ready image.now clauses.now atoms n rows (length marks.old) (length work.old) × (length fails.old ≡ row_count clauses.now)
+        × (length failing.old ≡ row_count clauses.now) }
     ensures { Stepped (task_of image.now) n rows last (clauses_of clauses.now) work.new result }
 {
     next_set::test::test(image, clauses, atoms, marks, fails, failing, due);
@@ -190,7 +191,9 @@ fn run(
     marks: &mut [u8],
 ) -> Synthesis
     requires { Begun image.now clauses.old work.old atoms n limit rows (length marks.old) }
-    ensures { outcome (synthesis_answer result) clauses.new ≡ outcome (made_of (rounds (task_of image.now) n rows 1 (limit - 1) (first_set (task_of image.now)))) (buffer_after clauses.old (rounds (task_of image.now) n rows 1 (limit - 1) (first_set (task_of image.now)))) }
+    ensures { outcome (synthesis_answer result) clauses.new
+        ≡ outcome (made_of (rounds (task_of image.now) n rows 1 (limit - 1) (first_set (task_of image.now))))
+        (buffer_after clauses.old (rounds (task_of image.now) n rows 1 (limit - 1) (first_set (task_of image.now)))) }
 {
     let mut count = atoms;
     let mut made: usize = 1;

@@ -184,7 +184,8 @@ block_rest atoms i b c k first r ec h ef ek er = er ∙ rw (e₂, ef, e₁) (go 
         (q : Option (List Row)) → rows_of k (drop (c + 2) b) ≡ q
         → rows_verdict atoms i (literal_list atoms (take c (drop 1 b))) q ≡ verdict (read_operator atoms i b)
     go none e = sym (verdict_none atoms i b (parse ∙ ap (with_precondition (take c (drop 1 b))) e))
-    go (some rs) e = sym (verdict_some atoms i b (record { precondition = take c (drop 1 b); rows = rs }) (parse ∙ ap (with_precondition (take c (drop 1 b))) e))
+    go (some rs) e = sym (verdict_some atoms i b (record { precondition = take c (drop 1 b); rows = rs })
+        (parse ∙ ap (with_precondition (take c (drop 1 b))) e))
 
 -- ---- a block that parses
 some_row : (r : Row) (q : Option (List Row)) → some_rows (with_row r q) ≡ some_rows q

@@ -12,7 +12,8 @@ use borrow.Author.Tests.{lt-leb, le-leb, leb-true}
 use Rattle.definitions.specs.Lists.{ascending}
 use Rattle.definitions.specs.Answer.{Refusal, Answer, finding, refused, verdict, ask, ask_at, ◌>>=◌}
 use Rattle.definitions.specs.Literal.{most_atoms, all_below, literal_list}
-use Rattle.definitions.specs.Image.{most_image, most_operators, Operator, Task, part, directory, operator_of, operator_right, read_operator, read_operators, read_task}
+use Rattle.definitions.specs.Image.{most_image, most_operators, Operator, Task, part, directory, operator_of, operator_right, read_operator}
+use Rattle.definitions.specs.Image.{read_operators, read_task}
 use Rattle.definitions.specs.Step.{no_operator, operator_at}
 use Rattle.definitions.proofs.ListLaws.{and_left, and_right}
 use Rattle.definitions.proofs.AnswerLaws.{not_finding, same_finding, bind_of, ask_of}
@@ -171,7 +172,8 @@ operators_read atoms w (suc k) i os e =
     let p = bind_of (read_operator atoms i (part w (i + 2))) (λ o. read_operators atoms w (suc i) k >>= λ os. finding (o ∷ os)) os e in
     let q = bind_of (read_operators atoms w (suc i) k) (λ os. finding (p.0 ∷ os)) os p.2 in
     let rest = operators_read atoms w k (suc i) q.0 q.1 in
-    subst (λ (z : List Operator). (length z ≡ suc k) × ((j : ℕ) → j < suc k → read_operator atoms (i + j) (part w (i + j + 2)) ≡ finding (get_or z j no_operator)))
+    subst (λ (z : List Operator). (length z ≡ suc k) × ((j : ℕ) → j < suc k
+    → read_operator atoms (i + j) (part w (i + j + 2)) ≡ finding (get_or z j no_operator)))
     (same_finding (p.0 ∷ q.0) os q.2)
     (ap suc rest.0, at p.0 q.0 p.1 rest.1)
   where

@@ -26,7 +26,8 @@ module _ (room : List ℕ) (i j n d : ℕ) (size : length room ≡ 20) (low : i 
       let s = length-set room j d in
       let h : j < length (set room j d) = omega arith in
       let k : j < length room = omega arith in
-      rw (drop-cons (set room j d) j 0 h, get_or-set_same room j d 0 k, drop-set-lt (suc j) room j d (omega arith)) (ap (λ (z : ℕ). z ∷ drop (suc j) room) digit)
+      rw (drop-cons (set room j d) j 0 h, get_or-set_same room j d 0 k, drop-set-lt (suc j) room j d (omega arith))
+      (ap (λ (z : ℕ). z ∷ drop (suc j) room) digit)
 
   from_next : digits i n (drop i room) ≡ digits (suc j) n (drop (suc j) room)
   from_next = let e : i ≡ suc j = omega arith in rw e

@@ -5,7 +5,8 @@ use Rattle.definitions.specs.Answer.{Refusal, Answer, finding, refused, verdict}
 use Prim.Native.Nat.{ℕ}
 use Rattle.definitions.specs.CallLists.{OutcomeOf, outcome_of_call, lent_after, call_becomes}
 use Rattle.answer.specs.Reader.{Reader, asking, state_answer}
-use Rattle.state.proofs.Asked.{all_asked, either_refused}
+use Rattle.answer.proofs.ReaderCalls.{either_refused}
+use Rattle.state.proofs.Asked.{all_asked}
 
 -- an outcome by an equal answer
 pub by_answer : {S A : Type 0} (a b : Answer A) (s : S) (r : OutcomeOf S A) → a ≡ b → outcome_of_call b s ≡ r → outcome_of_call a s ≡ r
@@ -38,5 +39,6 @@ module _ {T X : Type 0} (R : Reader T) (w s : List ℕ) (x : X) (rest : T → An
       → call_becomes x (rest t) ≡ call_becomes x (asking (R.read w) (λ t. R.is_state t s) rest)
   rest_becomes yes-18 t found = ap (call_becomes x) (all_asked R w s yes-18 t found rest)
 
-  pub rest_stays : (r : Refusal) → refused r ≡ state_answer R w s → outcome_of_call (refused r) x ≡ call_becomes x (asking (R.read w) (λ t. R.is_state t s) rest)
+  pub rest_stays :
+      (r : Refusal) → refused r ≡ state_answer R w s → outcome_of_call (refused r) x ≡ call_becomes x (asking (R.read w) (λ t. R.is_state t s) rest)
   rest_stays r no-18 = stays x (asking (R.read w) (λ t. R.is_state t s) rest) r (either_refused R w s r no-18 rest)

@@ -73,7 +73,8 @@ more c = omega (arith, c.loop-operator.invariant.all, c.loop-operator-test.true)
 abbrev inside : tie.After-first_failing-first invariant-loop decreases-loop → tie.In-loop-operator invariant-loop decreases-loop
 inside c = c.before.before.before
 
-abbrev back_fails : tie.After-slice_known-in-loop-operator-2-1 invariant-loop decreases-loop → tie.After-slice_known-in-loop-operator-1 invariant-loop decreases-loop
+abbrev back_fails :
+    tie.After-slice_known-in-loop-operator-2-1 invariant-loop decreases-loop → tie.After-slice_known-in-loop-operator-1 invariant-loop decreases-loop
 back_fails c = c.before.before
 
 abbrev judged : tie.After-slice_known-in-loop-operator-2-1 invariant-loop decreases-loop → tie.After-first_failing-first invariant-loop decreases-loop
@@ -82,11 +83,13 @@ judged c = (back_fails c).before.before
 -- the first flag that the operator gives, of the clauses below `low`
 first :
     (c : tie.After-first_failing-first invariant-loop decreases-loop) → let h = (inside c).before in
-    FirstFlag (fail_flags (start h).args.atoms (set h) (operator_at (task h) h.loop-operator.operator) (take h.loop-operator.low (set h))) c.first_failing-first.result
+    FirstFlag (fail_flags (start h).args.atoms (set h) (operator_at (task h) h.loop-operator.operator) (take h.loop-operator.low (set h)))
+    c.first_failing-first.result
 first c =
     let h = (inside c).before in
     subst
-    (λ (k : ℕ). FirstFlag (fail_flags (start h).args.atoms (set h) (operator_at (task h) h.loop-operator.operator) (take k (set h))) c.first_failing-first.result)
+    (λ (k : ℕ). FirstFlag (fail_flags (start h).args.atoms (set h) (operator_at (task h) h.loop-operator.operator) (take k (set h)))
+    c.first_failing-first.result)
     (flags h) c.first_failing-first.ensures
 
 -- the lengths after it
@@ -104,7 +107,9 @@ fails_kept c =
     ∙ h.loop-operator.invariant.fails_kept
 
 -- after the loop: all operators are judged
-searched : (c : tie.After-loop-operator invariant-loop decreases-loop) → let h = c.before in Searched (task h) (set h) (length (task h).operators) h.loop-operator.low h.loop-operator.under
+searched :
+    (c : tie.After-loop-operator invariant-loop decreases-loop)
+    → let h = c.before in Searched (task h) (set h) (length (task h).operators) h.loop-operator.low h.loop-operator.under
 searched c =
     let i = c.loop-operator.invariant in
     search_ends _ _ _ _ _ (omega (arith, i.all, c.loop-operator-test.false)) i.searched

@@ -88,7 +88,8 @@ returns-3 : tie.Need-returns-then-marks-bytes
 returns-3 c =
     let b = c.before.before in
     let e = operator_of_lem b in
-    input_marks _ _ _ _ (is_read (read_of e)) (inside e) (omega (arith, c.if-marks-bytes.true, needed b)) c.refuse-then-marks-bytes.result c.refuse-then-marks-bytes.ensures
+    input_marks _ _ _ _ (is_read (read_of e)) (inside e) (omega (arith, c.if-marks-bytes.true, needed b)) c.refuse-then-marks-bytes.result
+    c.refuse-then-marks-bytes.ensures
 
 returns-4 : tie.Need-returns
 returns-4 c =

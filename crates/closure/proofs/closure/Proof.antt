@@ -56,7 +56,8 @@ returns c =
     let f = c in
     let d = f in
     let r = f.in-Refused.f in
-    passed d.before _ (call_refused (image d.before) (clauses d.before) (number d.before) (marks d.before) (placed r) (answered d.before _ f.in-Refused.is (marks d.before) refl))
+    passed d.before _ (call_refused (image d.before) (clauses d.before) (number d.before) (marks d.before) (placed r)
+    (answered d.before _ f.in-Refused.is (marks d.before) refl))
 
 enum_told : tie.Need-enum_told-1
 enum_told c = search rules

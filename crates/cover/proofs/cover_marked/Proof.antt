@@ -21,7 +21,7 @@ places_size c = c.join_all-count.auto.places ∙ c.requires.1.places
 
 -- where none is omitted
 abbrev joined : tie.After-omit_all-arg-1 → tie.After-join_all-count
-joined c = c.before.before.before.before.before
+joined c = let p = c.before.before.before in p.before.before
 
 mark-alone-requires : tie.Need-mark_alone-requires
 mark-alone-requires c κs = (wide_rows _ _ c.requires.0 c.requires.1.few, c.requires.1.few)

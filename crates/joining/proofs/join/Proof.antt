@@ -59,7 +59,8 @@ same_length c = search rules
 
 returns-3 : tie.Need-returns
 returns-3 c =
-    let d = c.before.before.before.before in
+    let p = c.before.before.before in
+    let d = p.before in
     c.join_read.ensures ∙ both_read _ _ _ (first_reads d.before.before) (second_reads d)
 
 pub join_spec : {M : Type 1} → statement M

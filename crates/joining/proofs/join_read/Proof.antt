@@ -31,7 +31,7 @@ same_length : tie.Need-shape_of-target
 same_length c = search rules
 
 returns-2 : tie.Need-returns
-returns-2 c = join_done _ _ _ (yes c.before.before.before.before) c.write-words.ensures
+returns-2 c = let p = c.before.before.before in join_done _ _ _ (yes p.before) c.write-words.ensures
 
 pub join_read_spec : {M : Type 1} → statement M
 join_read_spec = tie.close (tie.spec

@@ -280,7 +280,8 @@ scan_of f = (lent_row f).before
 
 -- the row, as words
 row_is :
-    (r : tie.After-row invariant-loop decreases-loop invariant-walk decreases-walk) → let w = row r.before in r.row.result.now ≡ take width (drop (position w) (words w))
+    (r : tie.After-row invariant-loop decreases-loop invariant-walk decreases-walk)
+    → let w = row r.before in r.row.result.now ≡ take width (drop (position w) (words w))
 row_is r = r.row.ensures ∙ sym (row_words_lem (at_row_of (row r.before)))
 
 abbrev Follows : followed → Pass → Type 0
@@ -347,7 +348,8 @@ force_of c = c.before.before
 first-requires : tie.Need-first-place-requires invariant-loop decreases-loop invariant-walk decreases-walk
 first-requires c κs = search rules
 
-abbrev start_of_first : tie.After-first-place invariant-loop decreases-loop invariant-walk decreases-walk → tie.Start invariant-loop decreases-loop invariant-walk decreases-walk
+abbrev start_of_first :
+    tie.After-first-place invariant-loop decreases-loop invariant-walk decreases-walk → tie.Start invariant-loop decreases-loop invariant-walk decreases-walk
 start_of_first c = c.before.before.before
 
 walk-holds : tie.Need-walk-init invariant-loop decreases-loop invariant-walk decreases-walk

@@ -41,7 +41,8 @@ same-length-2 c = search rules
 returns-2 : tie.Need-returns
 unfolding run_task
 returns-2 c =
-    let y = fine c.before.before.before.before in
+    let p = c.before.before.before in
+    let y = fine p.before in
     c.run_read.ensures ∙ run_rest task_reader _ _ y _ (standing _ _ y).reads.found _
 
 pub run_spec : {M : Type 1} → statement M

@@ -22,7 +22,7 @@ decreases-loop image state₀ list flags₀ steps₀ state flags steps = length 
 
 -- where the step was made
 abbrev made : tie.After-slice_known-in-loop-steps-2-1 invariant-loop decreases-loop → tie.After-step_flagged-stepped invariant-loop decreases-loop
-made c = c.before.before.before.before
+made c = let p = c.before.before.before in p.before
 
 -- the outcome of the step, by its answer
 of_step :

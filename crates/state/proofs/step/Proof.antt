@@ -41,7 +41,8 @@ same-length-2 c = search rules
 returns-2 : tie.Need-returns
 unfolding step_task
 returns-2 c =
-    let y = fine c.before.before.before.before in
+    let p = c.before.before.before in
+    let y = fine p.before in
     c.step_read.ensures ∙ step_rest task_reader _ _ y _ (standing _ _ y).reads.found _
 
 pub step_spec : {M : Type 1} → statement M

@@ -45,10 +45,11 @@ same-length-2 c = search rules
 
 returns-2 : tie.Need-returns
 returns-2 c =
+    let p = c.before.before.before in
     let t = c.args.state.now in (
       c.step_block.ensures.0
           ∙ ap (λ (o : Operator). becomes t (applied t o)) c.operator_block.ensures.operator
-          ∙ step_there (task_of c.args.image.now) t c.args.operator (there (given c.before.before.before.before).before),
+          ∙ step_there (task_of c.args.image.now) t c.args.operator (there (given p.before).before),
       c.step_block.ensures.1,
     )
 

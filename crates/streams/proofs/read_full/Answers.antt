@@ -17,5 +17,7 @@ take_written a k n xs ys within fits =
 pub loop-done-preserved : goal.loop-done-preserved
 loop-done-preserved g c =
     let got = c.in_ok-got.ensures in
-    let joined = take_written c.loop-done.done (length c.loop-done.buf - c.loop-done.done) c.in_ok-got.got c.loop-done.buf c.read.new.buf c.loop-done.invariant.0 got.bound.0 in
+    let joined =
+    take_written c.loop-done.done (length c.loop-done.buf - c.loop-done.done) c.in_ok-got.got c.loop-done.buf c.read.new.buf
+    c.loop-done.invariant.0 got.bound.0 in
     (search rules, subst (Consumes _ _) (sym joined) (Consumes-trans _ _ _ _ _ c.loop-done.invariant.1 got.bytes.0))

@@ -16,5 +16,6 @@ commit_read-requires c = standing _ _ (ap verdict_answer (sym c.in_default.is) �
 
 pub returns : goal.returns
 returns c =
-    let yes-18 : finding tt ≡ state_answer task_reader c.args.image.now c.args.state.now = ap verdict_answer (sym c.in_default.is) ∙ c.read_state-reading.ensures in
+    let yes-18 : finding tt ≡ state_answer task_reader c.args.image.now c.args.state.now =
+    ap verdict_answer (sym c.in_default.is) ∙ c.read_state-reading.ensures in
     c.commit_read.ensures ∙ commit_rest _ _ _ _ yes-18 _ (standing _ _ yes-18).reads.found

@@ -69,7 +69,8 @@ returns-3 c =
     let a = were_same d in
     let s = was_set a.before in
     d.same_steps.ensures
-    ∙ start_on _ _ _ _ _ _ _ _ _ (set s.before).set_both.ensures (said_yes refl s.if-not-set_both.false) (said_yes a.same_states.ensures a.if-not-same_states.false)
+    ∙ start_on _ _ _ _ _ _ _ _ _ (set s.before).set_both.ensures (said_yes refl s.if-not-set_both.false)
+    (said_yes a.same_states.ensures a.if-not-same_states.false)
 
 pub from_start_spec : {M : Type 1} → statement M
 from_start_spec =

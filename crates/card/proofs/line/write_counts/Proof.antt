@@ -35,7 +35,7 @@ unfolding clauses_word
 second c = write_part (first (start c)) c.write_named-next.ensures
 
 abbrev back : tie.After-write_named-end → tie.After-slice_known-2-1
-back c = c.before.before.before.before
+back c = let p = c.before.before.before in p.before
 
 abbrev counted : tie.After-write_named-end → tie.After-write_named-next
 counted c = (back c).before.before

@@ -32,7 +32,7 @@ first : (c : tie.After-wide-number) → let s = start c in Left s s.args.out.now
 first c = write_same (refusal_parts (placed (start c).args.f) c.wide-number.result c.wide-number.ensures.0) write_start
 
 abbrev wide : tie.After-write_named-first → tie.After-wide-number
-wide c = c.before.before.before.before
+wide c = let p = c.before.before.before in p.before
 
 second : (c : tie.After-write_named-first) → let s = start (wide c) in Left s c.write_named-first.new.out c.write_named-first.result (places s)
 unfolding refused_word

@@ -67,7 +67,8 @@ returns-5 c =
     let second_is = third third-is.before in
     let first_is = second second_is.before in
     let bytes = (start4 fourth-is.before).args.bytes.now in
-    same_head bytes (omega (arith, (start4 fourth-is.before).requires)) first_is.if-bytes-ne112.false second_is.if-bytes-ne32.false third-is.if-bytes-ne99.false fourth-is.if-bytes-ne110.false
+    same_head bytes (omega (arith, (start4 fourth-is.before).requires)) first_is.if-bytes-ne112.false second_is.if-bytes-ne32.false
+    third-is.if-bytes-ne99.false fourth-is.if-bytes-ne110.false
 
 pub is_head_spec : {M : Type 1} → statement M
 is_head_spec =

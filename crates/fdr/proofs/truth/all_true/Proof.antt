@@ -13,7 +13,8 @@ use Rattle.fdr.proofs.truth.all_true.Statement.{statement}
 use Rattle.fdr.proofs.truth.all_true.Tie as tie
 
 abbrev invariant-loop : tie.invariant-loop-i
-invariant-loop state literals i₀ i = (i ≤ length literals / 2) × (fdr_all_true state (literals_in literals) ≡ all (fdr_true_in state) (drop i (literals_in literals)))
+invariant-loop state literals i₀ i =
+    (i ≤ length literals / 2) × (fdr_all_true state (literals_in literals) ≡ all (fdr_true_in state) (drop i (literals_in literals)))
 
 abbrev decreases-loop : tie.decreases-loop-i
 decreases-loop state literals i₀ i = length literals / 2 - i

@@ -66,7 +66,8 @@ at_loop_from_then1 c = at_loop (after_row (after_complement_of_then1 c))
 abbrev after_judge_row_arg : tie.After-judge_row-arg-in-loop-left-2-1 invariant-loop decreases-loop → tie.After-judge_row-arg-1 invariant-loop decreases-loop
 after_judge_row_arg c = c.before.before
 
-abbrev after_row_from_judge_row_arg3 : tie.After-judge_row-arg-in-loop-left-2-1 invariant-loop decreases-loop → tie.After-row-effect invariant-loop decreases-loop
+abbrev after_row_from_judge_row_arg3 :
+    tie.After-judge_row-arg-in-loop-left-2-1 invariant-loop decreases-loop → tie.After-row-effect invariant-loop decreases-loop
 after_row_from_judge_row_arg3 c = after_row (after_complement_of_judge_row_arg (after_judge_row_arg c))
 
 abbrev at_loop_from_judge_row_arg3 : tie.After-judge_row-arg-in-loop-left-2-1 invariant-loop decreases-loop → tie.At-loop-left invariant-loop decreases-loop
@@ -87,7 +88,8 @@ after_judge_row c = c.before
 abbrev after_marks : tie.After-slice_known-in-loop-left-2-1 invariant-loop decreases-loop → tie.After-marks-1 invariant-loop decreases-loop
 after_marks c = c.before.before.before
 
-abbrev after_complement_from_slice_known4 : tie.After-slice_known-in-loop-left-2-1 invariant-loop decreases-loop → tie.After-complement-l invariant-loop decreases-loop
+abbrev after_complement_from_slice_known4 :
+    tie.After-slice_known-in-loop-left-2-1 invariant-loop decreases-loop → tie.After-complement-l invariant-loop decreases-loop
 after_complement_from_slice_known4 c =
     after_complement_of_judge_row_arg (after_judge_row_arg (after_judge_row_arg3 (after_judge_row (after_marks c))))
 

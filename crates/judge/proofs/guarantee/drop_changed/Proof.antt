@@ -107,10 +107,12 @@ else2 c = c.before
 abbrev after_put_arg : tie.After-slice_known-in-loop-left-2-1 invariant-loop decreases-loop → tie.After-put-arg-1 invariant-loop decreases-loop
 after_put_arg c = c.before.before.before
 
-abbrev after_can_fire_from_slice_known4 : tie.After-slice_known-in-loop-left-2-1 invariant-loop decreases-loop → tie.After-can_fire invariant-loop decreases-loop
+abbrev after_can_fire_from_slice_known4 :
+    tie.After-slice_known-in-loop-left-2-1 invariant-loop decreases-loop → tie.After-can_fire invariant-loop decreases-loop
 after_can_fire_from_slice_known4 c = after_can_fire_of_else2 (else2 (after_put_arg c))
 
-abbrev after_complement_from_slice_known4 : tie.After-slice_known-in-loop-left-2-1 invariant-loop decreases-loop → tie.After-complement invariant-loop decreases-loop
+abbrev after_complement_from_slice_known4 :
+    tie.After-slice_known-in-loop-left-2-1 invariant-loop decreases-loop → tie.After-complement invariant-loop decreases-loop
 after_complement_from_slice_known4 c =
     after_complement (after_wide (after_is_zero_of_can_fire_arg2 (after_can_fire_arg2 (after_can_fire_of_else2 (else2 (after_put_arg c))))))
 

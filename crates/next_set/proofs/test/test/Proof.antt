@@ -85,7 +85,8 @@ loop-holds c =
 abbrev at_loop_from_test_operator : tie.After-test_operator-arg-in-loop-operator-3-1 invariant-loop decreases-loop → at_loop
 at_loop_from_test_operator c = let p = c.before.before.before in p.before.before
 
-abbrev loop_from_test_operator : tie.After-test_operator-arg-in-loop-operator-3-1 invariant-loop decreases-loop → tie.In-loop-operator invariant-loop decreases-loop
+abbrev loop_from_test_operator :
+    tie.After-test_operator-arg-in-loop-operator-3-1 invariant-loop decreases-loop → tie.In-loop-operator invariant-loop decreases-loop
 loop_from_test_operator c = let p = c.before.before.before in p.before
 
 test-operator-requires : tie.Need-test_operator-requires invariant-loop decreases-loop

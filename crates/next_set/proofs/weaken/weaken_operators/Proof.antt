@@ -122,7 +122,8 @@ returns : tie.Need-returns-in-Full invariant-loop decreases-loop
 returns c =
     let d = done_from_enum_told c in
     let l = (loop_of d).before in
-    pending_full (start l).args.rows _ _ l.loop-operator.taken l.loop-operator.work l.loop-operator.invariant.4 _ _ (left_at (loop_of d)) _ d.weaken_operator-built.result
+    pending_full (start l).args.rows _ _ l.loop-operator.taken l.loop-operator.work l.loop-operator.invariant.4 _ _ (left_at (loop_of d)) _
+    d.weaken_operator-built.result
     d.weaken_operator-built.ensures c.in-Full.is
 
 enum-known-built : tie.Need-enum_known-built invariant-loop decreases-loop
@@ -145,7 +146,8 @@ loop-again c =
       same_marks d,
       same_fails d,
       same_work d,
-      pending_on (start l).args.rows _ _ l.loop-operator.taken l.loop-operator.work l.loop-operator.invariant.4 _ _ (left_at (loop_of d)) _ d.weaken_operator-built.result
+      pending_on (start l).args.rows _ _ l.loop-operator.taken l.loop-operator.work l.loop-operator.invariant.4 _ _ (left_at (loop_of d)) _
+          d.weaken_operator-built.result
           d.weaken_operator-built.ensures c.in-Rows.more c.in-Rows.is,
     )
 
