@@ -2,7 +2,13 @@
 use mathlib.Core.Path.{◌≡◌, refl, sym, ap, ◌∙◌}
 use mathlib.Core.List.{List}
 use Prim.Native.Nat.{ℕ}
-use Rattle.definitions.specs.Answer.{Refusal, Answer, finding, refused, verdict, Outcome, outcome, ◌>>=◌}
+use Rattle.definitions.specs.Answer.{Refusal, Answer, finding, refused, verdict, Outcome, outcome, ask_at, ◌>>=◌}
+use Rattle.std.specs.Result.{IsErrAnd}
+use Rattle.std.proofs.Common.{Result}
+use Rattle.std.proofs.lemmas.Result.{err_from_is_err_and}
+use Rattle.answer.specs.declared.Refusal as code
+use Rattle.answer.specs.Answer.{refusal_at, placed, answer_of}
+use mathlib.Core.Bool.{Bool, true, false}
 use Rattle.definitions.specs.Groups.{Written, written}
 use Rattle.definitions.proofs.AnswerLaws.{not_finding}
 
@@ -21,6 +27,34 @@ pub verdict_bind : {A B : Type 0} (m : Answer A) (f : A → B) → verdict (m >>
 unfolding verdict ◌>>=◌
 verdict_bind (finding a) f = refl
 verdict_bind (refused r) f = refl
+
+-- after a call that answers m: a refusal is handed on, and a finding goes on
+module _ {A B : Type 0} (m : Answer A) (k : A → Answer B) where
+  pub handed_on : (r : Refusal) → refused r ≡ m → refused r ≡ (m >>= k)
+  unfolding ◌>>=◌
+  handed_on r e = rw (← e)
+
+  pub goes_on : (a : A) → finding a ≡ m → k a ≡ (m >>= k)
+  unfolding ◌>>=◌
+  goes_on a e = rw (← e)
+
+-- the exit of a `?`: the refusal of the call is handed on
+pub left_by : {A : Type 0} (r : Result A code.Refusal) (f : code.Refusal) → IsErrAnd r (λ g. g ≡ f) → answer_of r ≡ refused (placed f)
+left_by r f h = let p = err_from_is_err_and r h in rw (p.1, p.2)
+
+-- what a question said: asked with the answer b, it refuses where b is no
+module _ (q i : ℕ) (b : Bool) where
+  pub asked_no : (r : Refusal) → refused r ≡ ask_at q i b → b ≡ false
+  unfolding ask_at
+  asked_no r e = elim b as (λ v. refused r ≡ ask_at q i v → v ≡ false) [ true ↦ λ h. absurd (not_finding h) | false ↦ λ h. refl ] e
+
+  pub asked_yes : (u : Unit {0}) → finding u ≡ ask_at q i b → b ≡ true
+  unfolding ask_at
+  asked_yes u e = elim b as (λ v. finding u ≡ ask_at q i v → v ≡ true) [ true ↦ λ h. refl | false ↦ λ h. absurd (not_finding (sym h)) ] e
+
+  pub asked_refusal : b ≡ false → ask_at q i b ≡ refused (refusal_at q i 0)
+  unfolding ask_at
+  asked_refusal h = rw h
 
 -- the first refusal decides
 pub refused_first : {A B : Type 0} (m : Answer A) (k : A → Answer B) (r : Refusal) → refused r ≡ verdict m → refused r ≡ (m >>= k)

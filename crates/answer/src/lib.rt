@@ -1,131 +1,126 @@
-// The answers of the calls: a finding, or a refusal with its number and places.
+// The answers of the calls: a finding, or a refusal with its question and places.
 #![tactic(auto)]
 
 ghost use Rattle.std.specs.Prelude.{◌≡◌};
-ghost use Rattle.definitions.specs.Answer.{finding, refused};
-ghost use Rattle.answer.specs.Answer.{refusal_at, verdict_answer, test_answer, count_answer};
+ghost use Rattle.definitions.specs.Answer.{ask, ask_at};
+ghost use Rattle.answer.specs.Answer.{placed, refusal_at, verdict_answer};
+ghost use Rattle.answer.specs.Question.{number_of};
 
-// A refusal: the number of the question that was answered no, and two places, zero unless named.
-#[derive(Clone, Copy)]
+// A question of documents 01 and 02.
+#[derive(Clone, Copy, Debug, PartialEq, Eq)]
+pub enum Question {
+    ImageSize,
+    Counts,
+    Directory,
+    Initial,
+    Goal,
+    BlockCounts,
+    BlockLiterals,
+    ClauseWords,
+    ClauseRow,
+    ClauseFalse,
+    ClauseNotKept,
+    Limits,
+    Buffers,
+    OutOfRows,
+    OutOfRounds,
+    Target,
+    FdrImage,
+    State,
+    OperatorNumber,
+    Precondition,
+    Conflict,
+    OmittedNone,
+    NotCodable,
+    TextForm,
+    TextClause,
+    TextRoom,
+    JoinRoom,
+    Ticket,
+}
+
+impl Question {
+    // The number of the question in the documents.
+    pub fn number(self) -> u16
+        ensures { result ≡ number_of self }
+    {
+        match self {
+            Question::ImageSize => 1,
+            Question::Counts => 2,
+            Question::Directory => 3,
+            Question::Initial => 4,
+            Question::Goal => 5,
+            Question::BlockCounts => 6,
+            Question::BlockLiterals => 7,
+            Question::ClauseWords => 8,
+            Question::ClauseRow => 9,
+            Question::ClauseFalse => 10,
+            Question::ClauseNotKept => 11,
+            Question::Limits => 12,
+            Question::Buffers => 13,
+            Question::OutOfRows => 14,
+            Question::OutOfRounds => 15,
+            Question::Target => 16,
+            Question::FdrImage => 17,
+            Question::State => 18,
+            Question::OperatorNumber => 19,
+            Question::Precondition => 20,
+            Question::Conflict => 21,
+            Question::OmittedNone => 22,
+            Question::NotCodable => 23,
+            Question::TextForm => 24,
+            Question::TextClause => 25,
+            Question::TextRoom => 26,
+            Question::JoinRoom => 27,
+            Question::Ticket => 28,
+        }
+    }
+}
+
+// A refusal: the question that was answered no, and two places, zero unless named.
+#[derive(Clone, Copy, Debug, PartialEq, Eq)]
 pub struct Refusal {
-    pub number: u16,
+    pub question: Question,
     pub first: usize,
     pub second: usize,
 }
 
-// The questions of documents 01 and 02.
 impl Refusal {
-    pub const IMAGE_SIZE: u16 = 1;
-
-    pub const COUNTS: u16 = 2;
-
-    pub const DIRECTORY: u16 = 3;
-
-    pub const INITIAL: u16 = 4;
-
-    pub const GOAL: u16 = 5;
-
-    pub const BLOCK_COUNTS: u16 = 6;
-
-    pub const BLOCK_LITERALS: u16 = 7;
-
-    pub const CLAUSE_WORDS: u16 = 8;
-
-    pub const CLAUSE_ROW: u16 = 9;
-
-    pub const CLAUSE_FALSE: u16 = 10;
-
-    pub const CLAUSE_NOT_KEPT: u16 = 11;
-
-    pub const LIMITS: u16 = 12;
-
-    pub const BUFFERS: u16 = 13;
-
-    pub const OUT_OF_ROWS: u16 = 14;
-
-    pub const OUT_OF_ROUNDS: u16 = 15;
-
-    pub const TARGET: u16 = 16;
-
-    pub const FDR_IMAGE: u16 = 17;
-
-    pub const STATE: u16 = 18;
-
-    pub const OPERATOR_NUMBER: u16 = 19;
-
-    pub const PRECONDITION: u16 = 20;
-
-    pub const CONFLICT: u16 = 21;
-
-    pub const OMITTED_NONE: u16 = 22;
-
-    pub const NOT_CODABLE: u16 = 23;
-
-    pub const TEXT_FORM: u16 = 24;
-
-    pub const TEXT_CLAUSE: u16 = 25;
-
-    pub const TEXT_ROOM: u16 = 26;
-
-    pub const JOIN_ROOM: u16 = 27;
-
-    pub const TICKET: u16 = 28;
-}
-
-// The answer of a call whose finding holds nothing.
-#[derive(Clone, Copy)]
-pub enum Verdict {
-    Fine,
-    Refused(Refusal),
-}
-
-// The answer of a test: whether something holds.
-#[derive(Clone, Copy)]
-pub enum Tested {
-    Holds,
-    Fails,
-    Refused(Refusal),
-}
-
-// The answer of a call whose finding is a number: steps, variables or words.
-#[derive(Clone, Copy)]
-pub enum Counted {
-    Count(usize),
-    Refused(Refusal),
+    // The refusal of a question at a first place.
+    pub fn at(question: Question, first: usize) -> Refusal
+        ensures { placed result ≡ refusal_at (number_of question) first 0 }
+    {
+        Refusal {
+            question,
+            first,
+            second: 0,
+        }
+    }
 }
 
 // The refusal of a question, with both places zero.
-pub fn refuse(number: u16) -> Verdict
-    ensures { verdict_answer result ≡ refused (refusal_at number 0 0) }
-{
-    refuse_at(number, 0)
+impl From<Question> for Refusal {
+    fn from(question: Question) -> Refusal
+        ensures { placed result ≡ refusal_at (number_of question) 0 0 }
+    {
+        Refusal::at(question, 0)
+    }
 }
 
-// The refusal of a question at a first place.
-pub fn refuse_at(number: u16, first: usize) -> Verdict
-    ensures { verdict_answer result ≡ refused (refusal_at number first 0) }
+// Asks a question that is answered by `holds`.
+pub fn ask(question: Question, holds: bool) -> Result<(), Refusal>
+    ensures { verdict_answer result ≡ ask (number_of question) holds }
 {
-    Verdict::Refused(Refusal {
-        number: number,
-        first: first,
-        second: 0,
-    })
+    ask_at(question, 0, holds)
 }
 
-// The refusal of a question by a call whose finding is a number, with both places zero.
-pub fn refuse_count(number: u16) -> Counted
-    ensures { count_answer result ≡ refused (refusal_at number 0 0) }
+// Asks a question at a first place.
+pub fn ask_at(question: Question, first: usize, holds: bool) -> Result<(), Refusal>
+    ensures { verdict_answer result ≡ ask_at (number_of question) first holds }
 {
-    Counted::Refused(Refusal {
-        number: number,
-        first: 0,
-        second: 0,
-    })
-}
-
-// The answer of a test that was not refused.
-pub fn whether(holds: bool) -> Tested
-    ensures { test_answer result ≡ finding holds }
-{
-    if holds { Tested::Holds } else { Tested::Fails }
+    if holds {
+        Ok(())
+    } else {
+        Err(Refusal::at(question, first))
+    }
 }

@@ -1,7 +1,7 @@
 -- Laws of an operator's block: its walk, what its accessors give, and questions 6 and 7. Assumes nothing.
 use mathlib.Core.Path.{◌≡◌, refl, sym, ap, ◌∙◌}
 use mathlib.Core.List.{List, [], ◌∷◌}
-use mathlib.Core.Bool.{Bool, true, false, ◌&&◌, and_assoc, false≢true}
+use mathlib.Core.Bool.{Bool, true, false, ◌&&◌, and_assoc, and-true, false≢true}
 use mathlib.Core.Option.{Option, none, some}
 use Prim.Native.Nat.{ℕ, suc, ◌+◌, ◌-◌, ◌*◌, ◌≤◌, ◌<◌}
 use native.Mathlib.Numerals.{add-one, add-two}
@@ -84,16 +84,15 @@ verdict_row atoms i ok r none = refl
 verdict_row atoms i ok r (some rs) = ap (ask_at 7 i) (sym (and_assoc ok (row_right atoms r) (all (row_right atoms) rs)))
 
 -- one row of the walk, with the code's own values
-pub verdict_next : (atoms i : ℕ) (b : List ℕ) (p k : ℕ) (right ok right' : Bool) (e c : ℕ)
-    → e ≡ get_or b p 0 → c ≡ get_or b (p + 1) 0 → 0 < k → p + 2 ≤ length b → c ≤ length b - (p + 2)
+pub verdict_next : (atoms i : ℕ) (b : List ℕ) (p k k' : ℕ) (right ok right' : Bool) (e c : ℕ)
+    → e ≡ get_or b p 0 → c ≡ get_or b (p + 1) 0 → k ≡ suc k' → p + 2 ≤ length b → c ≤ length b - (p + 2)
     → ok ≡ row_right atoms (row e (take (p + 2 + c - (p + 2)) (drop (p + 2) b))) → right' ≡ (right && ok)
-    → rows_verdict atoms i right (rows_of k (drop p b)) ≡ rows_verdict atoms i right' (rows_of (k - 1) (drop (p + 2 + c) b))
-verdict_next atoms i b p k right ok right' e c ee ec more two fits eo er =
-    let more' : k ≡ suc (k - 1) = omega arith in
-    let q = rows_of (k - 1) (drop (p + 2 + c) b) in
+    → rows_verdict atoms i right (rows_of k (drop p b)) ≡ rows_verdict atoms i right' (rows_of k' (drop (p + 2 + c) b))
+verdict_next atoms i b p k k' right ok right' e c ee ec more two fits eo er =
+    let q = rows_of k' (drop (p + 2 + c) b) in
     let eo' : ok ≡ row_right atoms (row e (take c (drop (p + 2) b))) =
     eo ∙ ap (λ (j : ℕ). row_right atoms (row e (take j (drop (p + 2) b)))) (add-sub_cancel_left (p + 2) c) in
-    ap (rows_verdict atoms i right) (rows_on b p k (k - 1) more' e c ee ec two fits)
+    ap (rows_verdict atoms i right) (rows_on b p k k' more e c ee ec two fits)
     ∙ verdict_row atoms i right (row e (take c (drop (p + 2) b))) q
     ∙ ap (λ (t : Bool). rows_verdict atoms i t q) (sym (er ∙ ap (λ (t : Bool). right && t) eo'))
 
@@ -102,13 +101,9 @@ module _ (atoms i : ℕ) (ok : Bool) (b : List ℕ) (p k : ℕ) (done : k ≡ 0)
   unfolding rows_verdict rows_of refuse
   verdict_left h = rw (done, drop-cons b p 0 h)
 
-  pub verdict_right : length b ≤ p → ok ≡ true → finding tt ≡ rows_verdict atoms i ok (rows_of k (drop p b))
-  unfolding rows_verdict rows_of ask_at all
-  verdict_right h e = rw (done, e, drop_of_length-le b {i = p} h)
-
-  pub verdict_wrong : length b ≤ p → ok ≡ false → refused (refusal_at 7 i 0) ≡ rows_verdict atoms i ok (rows_of k (drop p b))
-  unfolding rows_verdict rows_of ask_at all
-  verdict_wrong h e = rw (done, e, drop_of_length-le b {i = p} h)
+  pub verdict_asked_last : length b ≤ p → ask_at 7 i ok ≡ rows_verdict atoms i ok (rows_of k (drop p b))
+  unfolding rows_verdict rows_of all
+  verdict_asked_last h = rw (done, drop_of_length-le b {i = p} h) (ap (ask_at 7 i) (sym (and-true ok)))
 
 -- the operator of a precondition and rows
 with_precondition : List ℕ → Option (List Row) → Option Operator

@@ -3,12 +3,12 @@ use mathlib.Core.Path.{◌≡◌, refl, sym, ap, ◌∙◌, subst}
 use mathlib.Core.List.{List, [], ◌∷◌}
 use mathlib.Core.Bool.{Bool, true, false, ◌&&◌}
 use mathlib.Core.Option.{some}
-use Prim.Native.Nat.{ℕ, zero, suc, ◌+◌, ◌-◌, ◌≤◌, ◌<◌}
+use Prim.Native.Nat.{ℕ, zero, suc, ◌+◌, ◌≤◌, ◌<◌}
 use native.Mathlib.Numerals.{add-one}
 use native.Mathlib.Omega.{arith}
 use lib.ListN.{length, get_or}
 use lib.Dec.{leb}
-use borrow.Author.Tests.{lt-leb, le-leb, leb-true}
+use borrow.Author.Tests.{leb-true}
 use Rattle.definitions.specs.Lists.{ascending}
 use Rattle.definitions.specs.Answer.{Refusal, Answer, finding, refused, verdict, ask, ask_at, ◌>>=◌}
 use Rattle.definitions.specs.Literal.{most_atoms, all_below, literal_list}
@@ -19,23 +19,13 @@ use Rattle.definitions.proofs.ListLaws.{and_left, and_right}
 use Rattle.definitions.proofs.AnswerLaws.{not_finding, same_finding, bind_of, ask_of}
 use Rattle.definitions.proofs.ReadLaws.{read_right}
 use Rattle.definitions.proofs.ListLaws.{get_or_mem}
-use Rattle.answer.specs.Answer.{refusal_at}
 use Rattle.answer.proofs.Laws.{verdict_bind}
-use Rattle.answer.proofs.ReaderCalls.{question_no, question_yes}
 use Rattle.task.specs.Reads.{task_in, task_of, Reads}
 use Rattle.task.specs.Walk.{some_operator, operator_or, block_parses, operator_in, size_right, counts_right, lists_answer, parts_answer}
 use Rattle.task.specs.Post.{BlockGiven}
 use Rattle.task.proofs.Blocks.{operator_found}
 
 -- ---- questions 1 and 2
-pub size_small : (w : List ℕ) → length w < 6 → false ≡ size_right w
-unfolding size_right
-size_small w h = rw (lt-leb 6 (length w) h)
-
-pub size_rest : (w : List ℕ) → 6 ≤ length w → leb (length w) most_image ≡ size_right w
-unfolding size_right
-size_rest w h = rw (le-leb 6 (length w) h)
-
 pub size_room : (w : List ℕ) → size_right w ≡ true → 6 ≤ length w
 unfolding size_right
 size_room w h = leb-true 6 (length w) (and_left (leb 6 (length w)) (leb (length w) most_image) h)
@@ -46,18 +36,6 @@ module _ (w : List ℕ) where
 
   M : ℕ
   M = get_or w 1 0
-
-  pub counts_none : get_or w 0 0 < 1 → false ≡ counts_right w
-  unfolding counts_right
-  counts_none h = rw (lt-leb 1 (get_or w 0 0) h)
-
-  pub counts_many : 1 ≤ get_or w 0 0 → most_atoms < get_or w 0 0 → false ≡ counts_right w
-  unfolding counts_right
-  counts_many l h = rw (le-leb 1 (get_or w 0 0) l, lt-leb (get_or w 0 0) most_atoms h)
-
-  pub counts_rest : 1 ≤ get_or w 0 0 → get_or w 0 0 ≤ most_atoms → leb (get_or w 1 0) most_operators ≡ counts_right w
-  unfolding counts_right
-  counts_rest l h = rw (le-leb 1 (get_or w 0 0) l, le-leb (get_or w 0 0) most_atoms h)
 
   module _ (h : counts_right w ≡ true) where
     pub counts_atoms : get_or w 0 0 ≤ most_atoms
@@ -100,57 +78,22 @@ unfolding ask ask_at verdict ◌>>=◌
 verdict_asked q true k = refl
 verdict_asked q false k = refl
 
-module _ (w : List ℕ) (N M : ℕ) where
-  abbrev start_right : Bool
-  start_right = ascending (part w 0) && all_below N (part w 0)
-
-  pub lists_4 : start_right ≡ false → refused (refusal_at 4 0 0) ≡ lists_answer w N M
-  unfolding lists_answer
-  lists_4 h = question_no 4 start_right _ h
-
-  module _ (q4 : start_right ≡ true) where
-    pub lists_5 : literal_list N (part w 1) ≡ false → refused (refusal_at 5 0 0) ≡ lists_answer w N M
-    unfolding lists_answer
-    lists_5 h = question_no 5 (literal_list N (part w 1)) _ h ∙ question_yes 4 start_right _ q4
-
-    pub lists_rest : literal_list N (part w 1) ≡ true → verdict (read_operators N w 0 M) ≡ lists_answer w N M
-    unfolding lists_answer
-    lists_rest h = question_yes 5 (literal_list N (part w 1)) _ h ∙ question_yes 4 start_right _ q4
-
-module _ (w : List ℕ) where
-  pub parts_3 : directory w (get_or w 1 0 + 2) ≡ false → refused (refusal_at 3 0 0) ≡ parts_answer w
-  unfolding parts_answer
-  parts_3 h = question_no 3 (directory w (get_or w 1 0 + 2)) _ h
-
-  pub parts_rest : directory w (get_or w 1 0 + 2) ≡ true → lists_answer w (get_or w 0 0) (get_or w 1 0) ≡ parts_answer w
-  unfolding parts_answer
-  parts_rest h = question_yes 3 (directory w (get_or w 1 0 + 2)) _ h
-
-  pub read_1 : size_right w ≡ false → refused (refusal_at 1 0 0) ≡ verdict (read_task w)
-  unfolding read_task size_right verdict ask ask_at ◌>>=◌
-  read_1 h = rw h
-
-  module _ (q1 : size_right w ≡ true) where
-    pub read_2 : counts_right w ≡ false → refused (refusal_at 2 0 0) ≡ verdict (read_task w)
-    unfolding read_task size_right counts_right verdict ask ask_at ◌>>=◌
-    read_2 h = rw (q1, h)
-
-    pub read_rest : counts_right w ≡ true → parts_answer w ≡ verdict (read_task w)
-    unfolding read_task size_right counts_right parts_answer lists_answer
-    read_rest h =
-        sym
-        (verdict_asked 1 (size_right w) _
-        ∙ sym (question_yes 1 (size_right w) _ q1)
-        ∙ verdict_asked 2 (counts_right w) _
-        ∙ sym (question_yes 2 (counts_right w) _ h)
-        ∙ verdict_asked 3 (directory w (get_or w 1 0 + 2)) _
-        ∙ ap (λ (a : Answer (Unit {0})). ask 3 (directory w (get_or w 1 0 + 2)) >>= λ _. a)
-        (verdict_asked 4 (ascending (part w 0) && all_below (get_or w 0 0) (part w 0)) _
-        ∙ ap (λ (a : Answer (Unit {0})). ask 4 (ascending (part w 0) && all_below (get_or w 0 0) (part w 0)) >>= λ _. a)
-        (verdict_asked 5 (literal_list (get_or w 0 0) (part w 1)) _
-        ∙ ap (λ (a : Answer (Unit {0})). ask 5 (literal_list (get_or w 0 0) (part w 1)) >>= λ _. a)
-        (verdict_bind (read_operators (get_or w 0 0) w 0 (get_or w 1 0))
-        (λ os. record { atoms = get_or w 0 0; initial = part w 0; goal = part w 1; operators = os })))))
+pub read_asks : (w : List ℕ) → (ask 1 (size_right w) >>= λ _. ask 2 (counts_right w) >>= λ _. parts_answer w) ≡ verdict (read_task w)
+unfolding read_task size_right counts_right parts_answer lists_answer
+read_asks w =
+    sym
+    (verdict_asked 1 (size_right w) _
+    ∙ ap (λ (a : Answer (Unit {0})). ask 1 (size_right w) >>= λ _. a)
+    (verdict_asked 2 (counts_right w) _
+    ∙ ap (λ (a : Answer (Unit {0})). ask 2 (counts_right w) >>= λ _. a)
+    (verdict_asked 3 (directory w (get_or w 1 0 + 2)) _
+    ∙ ap (λ (a : Answer (Unit {0})). ask 3 (directory w (get_or w 1 0 + 2)) >>= λ _. a)
+    (verdict_asked 4 (ascending (part w 0) && all_below (get_or w 0 0) (part w 0)) _
+    ∙ ap (λ (a : Answer (Unit {0})). ask 4 (ascending (part w 0) && all_below (get_or w 0 0) (part w 0)) >>= λ _. a)
+    (verdict_asked 5 (literal_list (get_or w 0 0) (part w 1)) _
+    ∙ ap (λ (a : Answer (Unit {0})). ask 5 (literal_list (get_or w 0 0) (part w 1)) >>= λ _. a)
+    (verdict_bind (read_operators (get_or w 0 0) w 0 (get_or w 1 0))
+    (λ os. record { atoms = get_or w 0 0; initial = part w 0; goal = part w 1; operators = os })))))))
 
 -- ---- an image that reads as a task
 found_is : (a : Answer Task) → verdict a ≡ finding tt → a ≡ finding (task_in a)

@@ -7,27 +7,18 @@ ghost use Rattle.answer.specs.Answer.{verdict_answer};
 ghost use Rattle.task.specs.Walk.{row, rows_verdict, block_parses, operator_in, parses_at};
 ghost use Rattle.task.specs.Post.{RowRead, BlockRead};
 
-use answer::{Refusal, Verdict};
+use answer::{Question, Refusal, ask_at};
 
 // The kinds of effect rows, for walks over the rows of one kind.
 pub const ADDS: bool = true;
 
 pub const DELETES: bool = false;
 
-fn both(a: bool, b: bool) -> bool
-    ensures { result ≡ (a && b) }
-{
-    if a { b } else { false }
-}
-
 fn is_row(effect: usize, conditions: &[u16], atoms: usize) -> bool
     requires { atoms ≤ most_atoms }
     ensures { result ≡ row_right atoms (row effect conditions.now) }
 {
-    if 2 * atoms <= effect {
-        return false;
-    }
-    literal::is_literal_list(conditions, atoms)
+    effect < 2 * atoms && literal::is_literal_list(conditions, atoms)
 }
 
 // Questions 6 and 7 of operator `i`, whose `rows` rows begin at `from`, where `precondition` says whether its precondition is right.
@@ -38,50 +29,44 @@ fn check_rows(
     precondition: bool,
     atoms: usize,
     i: usize,
-) -> Verdict
+) -> Result<(), Refusal>
     requires { (atoms ≤ most_atoms) × (from ≤ length block.now) }
     ensures { verdict_answer result ≡ rows_verdict atoms i precondition (rows_of rows (drop from block.now)) }
 {
     let mut at = from;
-    let mut left = rows;
     let mut right = precondition;
-    while 0 < left {
+    for _ in 0..rows {
         if block.len() - at < 2 {
-            return answer::refuse_at(Refusal::BLOCK_COUNTS, i);
+            return Err(Refusal::at(Question::BlockCounts, i));
         }
         let effect = literal::wide(block[at]);
         let count = literal::wide(block[at + 1]);
         let start = at + 2;
         if block.len() - start < count {
-            return answer::refuse_at(Refusal::BLOCK_COUNTS, i);
+            return Err(Refusal::at(Question::BlockCounts, i));
         }
         let end = start + count;
-        let ok = is_row(effect, &block[start..end], atoms);
-        right = both(right, ok);
+        right &= is_row(effect, &block[start..end], atoms);
         at = end;
-        left -= 1;
     }
     if at < block.len() {
-        return answer::refuse_at(Refusal::BLOCK_COUNTS, i);
+        return Err(Refusal::at(Question::BlockCounts, i));
     }
-    if !right {
-        return answer::refuse_at(Refusal::BLOCK_LITERALS, i);
-    }
-    Verdict::Fine
+    ask_at(Question::BlockLiterals, i, right)
 }
 
 // Questions 6 and 7 of operator `i`, by its block, in a task of `atoms` atoms.
-pub fn check(block: &[u16], atoms: usize, i: usize) -> Verdict
+pub fn check(block: &[u16], atoms: usize, i: usize) -> Result<(), Refusal>
     requires { atoms ≤ most_atoms }
     ensures { verdict_answer result ≡ verdict (read_operator atoms i block.now) }
 {
-    if block.len() < 1 {
-        return answer::refuse_at(Refusal::BLOCK_COUNTS, i);
+    if block.is_empty() {
+        return Err(Refusal::at(Question::BlockCounts, i));
     }
     let count = literal::wide(block[0]);
     let end = count + 1;
     if block.len() <= end {
-        return answer::refuse_at(Refusal::BLOCK_COUNTS, i);
+        return Err(Refusal::at(Question::BlockCounts, i));
     }
     let precondition = literal::is_literal_list(&block[1..end], atoms);
     let rows = literal::wide(block[end]);
@@ -101,7 +86,7 @@ pub fn head(block: &[u16]) -> BlockHead
 {
     let end = literal::wide(block[0]) + 1;
     BlockHead {
-        end: end,
+        end,
         rows: literal::wide(block[end]),
     }
 }
@@ -122,7 +107,7 @@ pub fn row(block: &[u16], at: usize, left: usize) -> RowPart
     let from = at + 2;
     RowPart {
         effect: literal::wide(block[at]),
-        from: from,
+        from,
         end: from + literal::wide(block[at + 1]),
     }
 }

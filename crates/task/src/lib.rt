@@ -10,7 +10,7 @@ ghost use Rattle.task.specs.Reads.{task_of, Reads};
 ghost use Rattle.task.specs.Walk.{size_right, counts_right, lists_answer, parts_answer};
 ghost use Rattle.task.specs.Post.{Laid, BlockGiven};
 
-use answer::{Refusal, Verdict};
+use answer::{Question, Refusal, ask};
 
 pub mod block; // block.rt: the block of one operator
 
@@ -24,10 +24,7 @@ pub const MOST_OPERATORS: usize = directory::MOST_OPERATORS;
 fn is_size(image: &[u16]) -> bool
     ensures { result ≡ size_right image.now }
 {
-    if image.len() < 6 {
-        return false;
-    }
-    image.len() <= MOST_WORDS
+    6 <= image.len() && image.len() <= MOST_WORDS
 }
 
 // Question 2.
@@ -36,70 +33,50 @@ fn are_counts(image: &[u16]) -> bool
     ensures { result ≡ counts_right image.now }
 {
     let atoms = literal::wide(image[0]);
-    if atoms < 1 {
-        return false;
-    }
-    if literal::MOST_ATOMS < atoms {
-        return false;
-    }
-    literal::wide(image[1]) <= MOST_OPERATORS
+    let operators = literal::wide(image[1]);
+    1 <= atoms && atoms <= literal::MOST_ATOMS && operators <= MOST_OPERATORS
 }
 
 // Questions 6 and 7 of the operators of an image, one operator before the next.
-fn check_operators(image: &[u16], atoms: usize, operators: usize) -> Verdict
+fn check_operators(image: &[u16], atoms: usize, operators: usize) -> Result<(), Refusal>
     requires { Laid image.now atoms operators }
     ensures { verdict_answer result ≡ verdict (read_operators atoms image.now 0 operators) }
 {
-    let mut i: usize = 0;
-    while i < operators {
-        let checked = block::check(directory::part(image, i + 2), atoms, i);
-        match checked {
-            Verdict::Refused(f) => {
-                return Verdict::Refused(f);
-            }
-            Verdict::Fine => {}
-        }
-        i += 1;
+    for i in 0..operators {
+        block::check(directory::part(image, i + 2), atoms, i)?;
     }
-    Verdict::Fine
+    Ok(())
 }
 
 // Questions 4 to 7: the lists of an image, and its operators.
-fn read_lists(image: &[u16], atoms: usize, operators: usize) -> Verdict
+fn read_lists(image: &[u16], atoms: usize, operators: usize) -> Result<(), Refusal>
     requires { Laid image.now atoms operators }
     ensures { verdict_answer result ≡ lists_answer image.now atoms operators }
 {
-    if !literal::is_atom_list(directory::part(image, 0), atoms) {
-        return answer::refuse(Refusal::INITIAL);
-    }
-    if !literal::is_literal_list(directory::part(image, 1), atoms) {
-        return answer::refuse(Refusal::GOAL);
-    }
+    let initial = directory::part(image, 0);
+    ask(Question::Initial, literal::is_atom_list(initial, atoms))?;
+    let goal = directory::part(image, 1);
+    ask(Question::Goal, literal::is_literal_list(goal, atoms))?;
     check_operators(image, atoms, operators)
 }
 
 // Questions 3 to 7: the directory of an image, and its parts.
-fn read_parts(image: &[u16]) -> Verdict
+fn read_parts(image: &[u16]) -> Result<(), Refusal>
     requires { (6 ≤ length image.now) × (counts_right image.now ≡ true) }
     ensures { verdict_answer result ≡ parts_answer image.now }
 {
     let operators = literal::wide(image[1]);
-    if !directory::is_directory(image, operators + 2) {
-        return answer::refuse(Refusal::DIRECTORY);
-    }
+    let laid = directory::is_directory(image, operators + 2);
+    ask(Question::Directory, laid)?;
     read_lists(image, literal::wide(image[0]), operators)
 }
 
 // Reads an image: questions 1 to 7.
-pub fn read(image: &[u16]) -> Verdict
+pub fn read(image: &[u16]) -> Result<(), Refusal>
     ensures { verdict_answer result ≡ verdict (read_task image.now) }
 {
-    if !is_size(image) {
-        return answer::refuse(Refusal::IMAGE_SIZE);
-    }
-    if !are_counts(image) {
-        return answer::refuse(Refusal::COUNTS);
-    }
+    ask(Question::ImageSize, is_size(image))?;
+    ask(Question::Counts, are_counts(image))?;
     read_parts(image)
 }
 

@@ -2,7 +2,6 @@ use mathlib.Core.Path.{sym, ◌∙◌}
 use native.Mathlib.Omega.{arith}
 use Rattle.directory.proofs.Laws.{directory_lies}
 use Rattle.task.proofs.Questions.{task_read}
-use borrow.Author.Rules.{rules}
 use Rattle.task.proofs.goal.Statement.{statement}
 use Rattle.task.proofs.goal.Tie as tie
 

@@ -6,7 +6,6 @@ use Rattle.directory.proofs.Laws.{directory_lies}
 use Rattle.task.specs.Reads.{task_of}
 use Rattle.task.specs.Post.{BlockGiven}
 use Rattle.task.proofs.Questions.{task_read, block_given}
-use borrow.Author.Rules.{rules}
 use Rattle.task.proofs.operator_block.Statement.{statement}
 use Rattle.task.proofs.operator_block.Tie as tie
 
