@@ -32,9 +32,7 @@ fn precondition_holds(block: &[u16], state: &[u8]) -> bool
     requires { block_parses block.now ≡ true }
     ensures { result ≡ all_true state.now (operator_in block.now).precondition }
 {
-    let head = task::block::head(block);
-    let end = head.end;
-    literal::all_true(state, &block[1..end])
+    literal::all_true(state, task::rows::precondition(block))
 }
 
 // Whether an operator can be applied in a task's state: questions 19 and 20.
