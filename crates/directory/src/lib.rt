@@ -17,13 +17,11 @@ pub fn is_directory(image: &[u16], pairs: usize) -> bool
     if image.len() < at {
         return false;
     }
-    let mut i: usize = 0;
-    while i < pairs {
-        if literal::wide(image[2 + 2 * i]) != at {
+    for pair in image[2..at].chunks_exact(2) {
+        if literal::wide(pair[0]) != at {
             return false;
         }
-        at = at + literal::wide(image[3 + 2 * i]);
-        i += 1;
+        at += literal::wide(pair[1]);
     }
     at == image.len()
 }

@@ -3,10 +3,7 @@ use mathlib.Core.Path.{◌≡◌, refl, sym, ap, ◌∙◌}
 use mathlib.Core.List.{List, [], ◌∷◌, map}
 use mathlib.Core.Bool.{Bool, true, false, ◌&&◌, and-false}
 use Prim.Native.Nat.{ℕ, ◌+◌, ◌*◌, ◌/◌, ◌≤◌, ◌<◌, zero-le}
-use native.Mathlib.Numerals.{add-one}
 use native.Mathlib.Omega.{arith}
-use lib.ListN.{length, get_or, drop, drop_of_length-le}
-use lib.Seq.{drop-cons}
 use lib.Dec.{leb, ltb}
 use borrow.Author.Tests.{lt-leb, le-leb, lt-ltb, leb-true, leb-false, ltb-true}
 use Rattle.definitions.specs.Lists.{all, above, ascending}
@@ -25,22 +22,6 @@ next_atom a = a + 1
 
 abbrev pub next_literal : ℕ → ℕ
 next_literal l = l / 2 * 2 + 2
-
--- the walk: what is left at i, by the word x there
-module _ (next : ℕ → ℕ) (bound from : ℕ) (xs : List ℕ) (i x : ℕ) (at : x ≡ get_or xs i 0) (inside : i < length xs) where
-  ascends_here : ascends next bound from (drop i xs) ≡ (leb from x && ascends next bound (next x) (drop (i + 1) xs))
-  ascends_here = rw (add-one, at, drop-cons xs i 0)
-
-  pub ascends_low : x < from → ascends next bound from (drop i xs) ≡ false
-  ascends_low h = ascends_here ∙ rw (lt-leb from x h)
-
-  pub ascends_on : from ≤ x → ascends next bound from (drop i xs) ≡ ascends next bound (next x) (drop (i + 1) xs)
-  ascends_on l = ascends_here ∙ rw (le-leb from x l)
-
-pub ascends_end :
-    (next : ℕ → ℕ) (bound from : ℕ) (xs : List ℕ) (i : ℕ) → length xs ≤ i
-    → ascends next bound from (drop i xs) ≡ leb from bound
-ascends_end next bound from xs i h = rw (drop_of_length-le xs {i = i} h)
 
 -- ---- each word below the bound
 abbrev below : (ℕ → ℕ) → ℕ → ℕ → List ℕ → Bool

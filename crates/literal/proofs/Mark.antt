@@ -3,17 +3,14 @@ use mathlib.Core.Path.{◌≡◌, refl, sym, ◌∙◌, ap, subst}
 use mathlib.Core.Logic.{◌⊎◌, inl, inr}
 use mathlib.Core.List.{List, [], ◌∷◌}
 use mathlib.Core.Bool.{Bool, true, false, cond, ◌&&◌, ◌||◌}
-use Prim.Native.Nat.{ℕ, ◌≤◌, ◌<◌}
+use Prim.Native.Nat.{ℕ, ◌<◌}
 use lib.Dec.{ltb, eqb}
 use lib.ListN.{length, get_or, set, length-set}
-use lib.Seq.{set_out, get_or-set_same, get_or-set_other}
+use lib.Seq.{get_or-set_same, get_or-set_other}
 use borrow.Author.Tests.{ltb-true, eqb-true, eqb-false, eq-eqb, ne_eqb}
 use Rattle.definitions.specs.Lists.{any}
 use Rattle.definitions.proofs.ListLaws.{decide, and_left, and_right, set_if_length, any_agree}
 use Rattle.literal.specs.Mark.{mark_if, put_where}
-
-pub mark_out : (m : List ℕ) (l : ℕ) → length m ≤ l → m ≡ mark_if true m l
-mark_out m l h = sym (set_out m l 1 h)
 
 pub mark_length : (t : Bool) (m : List ℕ) (l : ℕ) → length (mark_if t m l) ≡ length m
 mark_length true m l = length-set m l 1

@@ -4,7 +4,7 @@ use mathlib.Core.List.{List}
 use mathlib.Core.Bool.{Bool, true, false}
 use Prim.Native.Nat.{ℕ}
 use lib.Dec.{ltb, eqb}
-use lib.ListN.{length, drop}
+use lib.ListN.{length}
 use borrow.Author.Tests.{eq-eqb, ne_eqb, eqb-true}
 use Rattle.definitions.specs.Lists.{all}
 use Rattle.definitions.specs.Literal.{all_below, is_state}
@@ -14,7 +14,7 @@ pub state_long : (n : ℕ) (s : List ℕ) → (length s ≡ n → ⊥) → false
 unfolding is_state
 state_long n s h = rw (ne_eqb (length s) n h)
 
-pub state_bytes : (n : ℕ) (s : List ℕ) → length s ≡ n → is_state n s ≡ all (λ x. ltb x 2) (drop 0 s)
+pub state_bytes : (n : ℕ) (s : List ℕ) → length s ≡ n → is_state n s ≡ all (λ x. ltb x 2) s
 unfolding is_state all_below
 state_bytes n s h = rw (eq-eqb (length s) n h)
 

@@ -7,29 +7,21 @@ ghost use Rattle.literal.specs.Mark.{mark_if};
 pub fn byte(b: bool) -> u8
     ensures { result ≡ bit b }
 {
-    if b { 1 } else { 0 }
+    u8::from(b)
 }
 
 // Whether `i` has its flag.
 pub fn has(flags: &[u8], i: usize) -> bool
     ensures { result ≡ has flags.now i }
 {
-    if i < flags.len() {
-        flags[i] == 1
-    } else {
-        false
-    }
+    flags.get(i) == Some(&1)
 }
 
 // Whether `i` has a place, and zero there.
 pub fn is_zero(flags: &[u8], i: usize) -> bool
     ensures { result ≡ (ltb i (length flags.now) && eqb (get_or flags.now i 0) 0) }
 {
-    if i < flags.len() {
-        flags[i] == 0
-    } else {
-        false
-    }
+    flags.get(i) == Some(&0)
 }
 
 // Gives `i` the byte `x`, if it has a place.
@@ -45,10 +37,8 @@ pub fn put(flags: &mut [u8], i: usize, x: u8)
 pub fn mark_if(fires: bool, marks: &mut [u8], l: usize)
     ensures { marks.new ≡ mark_if fires marks.old l }
 {
-    if fires {
-        if l < marks.len() {
-            marks[l] = 1;
-        }
+    if fires && l < marks.len() {
+        marks[l] = 1;
     }
 }
 
@@ -56,9 +46,5 @@ pub fn mark_if(fires: bool, marks: &mut [u8], l: usize)
 pub fn clear(flags: &mut [u8])
     ensures { flags.new ≡ replicate (length flags.old) 0 }
 {
-    let mut i: usize = 0;
-    while i < flags.len() {
-        flags[i] = 0;
-        i += 1;
-    }
+    flags.fill(0);
 }

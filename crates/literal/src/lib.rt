@@ -76,7 +76,7 @@ impl Literal {
 pub fn wide(x: u16) -> usize
     ensures { (result ≡ x) × (result < 65536) }
 {
-    x as usize
+    usize::from(x)
 }
 
 // Whether the words are strictly ascending atoms below `atoms`. As they ascend, only the last is compared with `atoms`.
@@ -84,14 +84,12 @@ pub fn is_atom_list(words: &[u16], atoms: usize) -> bool
     ensures { result ≡ (ascending words.now && all_below atoms words.now) }
 {
     let mut from: usize = 0;
-    let mut i: usize = 0;
-    while i < words.len() {
-        let x = wide(words[i]);
+    for word in words {
+        let x = wide(*word);
         if x < from {
             return false;
         }
         from = x + 1;
-        i += 1;
     }
     from <= atoms
 }
@@ -102,14 +100,12 @@ pub fn is_literal_list(words: &[u16], atoms: usize) -> bool
     ensures { result ≡ literal_list atoms words.now }
 {
     let mut from: usize = 0;
-    let mut i: usize = 0;
-    while i < words.len() {
-        let x = wide(words[i]);
+    for word in words {
+        let x = wide(*word);
         if x < from {
             return false;
         }
         from = x / 2 * 2 + 2;
-        i += 1;
     }
     from <= 2 * atoms
 }
@@ -118,24 +114,14 @@ pub fn is_literal_list(words: &[u16], atoms: usize) -> bool
 pub fn is_state(state: &[u8], atoms: usize) -> bool
     ensures { result ≡ is_state atoms state.now }
 {
-    if state.len() != atoms {
-        return false;
-    }
-    let mut a: usize = 0;
-    while a < state.len() {
-        if 2 <= state[a] {
-            return false;
-        }
-        a += 1;
-    }
-    true
+    state.len() == atoms && state.iter().all(|value| *value < 2)
 }
 
 // The byte of an atom in a state, zero for an atom outside it.
 fn value(state: &[u8], atom: usize) -> u8
     ensures { result ≡ get_or state.now atom 0 }
 {
-    if atom < state.len() { state[atom] } else { 0 }
+    state.get(atom).copied().unwrap_or(0)
 }
 
 // Whether a literal is true in a state.
@@ -150,13 +136,7 @@ pub fn is_true(state: &[u8], l: Literal) -> bool
 pub fn all_true(state: &[u8], literals: &[u16]) -> bool
     ensures { result ≡ all_true state.now literals.now }
 {
-    let mut i: usize = 0;
-    while i < literals.len() {
-        let l = literals[i];
-        if !is_true(state, Literal { code: l }) {
-            return false;
-        }
-        i += 1;
-    }
-    true
+    literals
+        .iter()
+        .all(|l| is_true(state, Literal { code: *l }))
 }

@@ -1,23 +1,26 @@
 -- The literals of a list are added to a set, one after the other. Assumes nothing.
-use mathlib.Core.Path.{◌≡◌, refl, sym, ◌∙◌, subst}
-use mathlib.Core.Bool.{Bool, true, false, false≢true, cond}
+use mathlib.Core.Path.{◌≡◌, refl, sym, ◌∙◌, ap, subst}
+use mathlib.Core.Bool.{Bool, true, false, false≢true, cond, ◌&&◌}
 use mathlib.Core.Logic.{◌⊎◌, inl, inr, ⊎_elim}
 use mathlib.Core.List.{List, [], ◌∷◌}
-use Prim.Native.Nat.{ℕ, ◌+◌, ◌*◌, ◌≤◌, ◌<◌}
+use Prim.Native.Nat.{ℕ, ◌+◌, ◌*◌, ◌/◌, ◌≤◌, ◌<◌}
 use native.Mathlib.Omega.{arith}
 use lib.Dec.{eqb}
 use lib.ListN.{length, get_or, drop, set}
 use borrow.Author.Tests.{eqb-true}
 use Rattle.definitions.specs.Lists.{any, member}
-use Rattle.definitions.specs.Literal.{complement}
+use Rattle.definitions.specs.Literal.{complement, all_below}
 use Rattle.definitions.specs.Closure.{has}
-use Rattle.definitions.proofs.ListLaws.{or_cases, member_in, get_or_mem}
+use Rattle.definitions.specs.Marks.{marked}
+use Rattle.definitions.proofs.MarkBits.{mark_inside}
+use Rattle.definitions.proofs.ListLaws.{or_cases, member_in, get_or_mem, and_left, and_right}
 use Rattle.definitions.proofs.Walks.{left_here, any_end}
 use Rattle.propagation.specs.declared.Pass.{Pass}
 use Rattle.propagation.specs.declared.Pass.TheVariants.{Same, Grown, Contradictory}
-use Rattle.propagation.specs.Walk.{set_of, In, Part, Lists, Sound, zeros, RestKept, Adds, Seeded}
-use Rattle.propagation.proofs.Sets.{set_same, set_in, set_least, set_sound, zeros_set}
-use Rattle.propagation.proofs.View.{view_has, view_zero, view_inside, view_more, rest_self, rest_more}
+use Rattle.propagation.specs.Walk.{set_of, In, Part, Lists, Sound, zeros, RestKept, Adds, Room, Seeded}
+use Rattle.propagation.proofs.Sets.{complement_below, set_same, set_in, set_least, set_sound, zeros_set}
+use Rattle.propagation.proofs.View.{view_has, view_zero, view_inside, view_more, rest_self, rest_on, rest_more}
+use Rattle.propagation.proofs.MarkedSets.{place_below}
 
 -- the set s₀ at the start, the set s now, and the answer so far
 abbrev pub Growth : List ℕ → List ℕ → Pass → Type 0
@@ -111,6 +114,44 @@ module _ (stops : Bool) (N : ℕ) (s₀ ls ms ms' : List ℕ) (i x : ℕ) (answe
   seed_adds false same =
       subst (λ (s : List ℕ). RestKept N ms s × Seeding stops s₀ ls (set_of N s) (i + 1) answer) (sym same.0)
       (rest_self N ms, seed_same stops s₀ ls (set_of N ms) i x answer k at inside (view_has N ms x low ∙ same.1))
+
+-- the literal at i of a list of literals of N atoms: ms₀ are the marks at the start, ms those now
+module _ (stops : Bool) (N : ℕ) (ms₀ ms ls : List ℕ) (i : ℕ) (room : Room stops N ms₀) (below : all_below (2 * N) ls ≡ true)
+    (rest : RestKept N ms₀ ms) (inside : i < length ls) where
+  seed_low : get_or ls i 0 < 2 * N
+  seed_low = place_below (2 * N) ls i (get_or ls i 0) below refl inside
+
+  seed_other : complement (get_or ls i 0) < 2 * N
+  seed_other = complement_below (get_or ls i 0) (2 * N) (omega arith) seed_low
+
+  byte_there : (l : ℕ) → l < 2 * N → l / 8 < length ms
+  byte_there l h = omega (arith, mark_inside N l h, room.room, rest.same_length)
+
+  pub seed_asks : (get_or ls i 0 < 65535) × (complement (get_or ls i 0) / 8 < length ms)
+  seed_asks = (omega (arith, seed_low, room.few), byte_there (complement (get_or ls i 0)) seed_other)
+
+  pub seed_inside : (x : ℕ) → x ≡ get_or ls i 0 → x / 8 < length ms
+  seed_inside x e = rw e (byte_there (get_or ls i 0) seed_low)
+
+  module _ (answer : Pass) (k : Seeding stops (set_of N ms₀) ls (set_of N ms) i answer) (b : Bool)
+      (test : b ≡ (stops && marked ms (complement (get_or ls i 0)))) where
+    -- it stops there
+    pub seed_met : b ≡ true → Seeded stops (set_of N ms₀) ls (set_of N ms) Contradictory
+    seed_met e =
+        let both : (stops && marked ms (complement (get_or ls i 0))) ≡ true = sym test ∙ e in
+        seed_clash stops (set_of N ms₀) ls (set_of N ms) i (get_or ls i 0) answer k refl inside (and_left stops (marked ms (complement (get_or ls i 0))) both)
+        (view_has N ms (complement (get_or ls i 0)) seed_other ∙ and_right stops (marked ms (complement (get_or ls i 0))) both)
+
+    off : b ≡ false → stops ≡ true → has (set_of N ms) (complement (get_or ls i 0)) ≡ false
+    off e s = view_has N ms (complement (get_or ls i 0)) seed_other ∙ sym (ap (λ (t : Bool). t && marked ms (complement (get_or ls i 0))) s) ∙ sym test ∙ e
+
+    -- it goes on
+    pub seed_on :
+        b ≡ false → (x : ℕ) (ms' : List ℕ) (new : Bool) → x ≡ get_or ls i 0 → Adds ms x ms' new
+        → RestKept N ms₀ ms' × Seeding stops (set_of N ms₀) ls (set_of N ms') (i + 1) (grown_if new answer)
+    seed_on e x ms' new at adds =
+        let r = seed_adds stops N (set_of N ms₀) ls ms ms' i (get_or ls i 0) answer k refl inside seed_low (off e) new (rw at at adds) in
+        (rest_on N ms₀ ms ms' rest r.0, r.1)
 
 -- a list of one literal
 pub one_added :

@@ -1,12 +1,12 @@
 -- The set that marks stand for, and how it changes with them. Assumes nothing.
 use mathlib.Core.Path.{◌≡◌, refl, sym, ◌∙◌, ap}
 use mathlib.Core.Bool.{false}
-use mathlib.Core.List.{List}
+use mathlib.Core.List.{List, ◌++◌}
 use Prim.Native.Nat.{ℕ, ◌-◌, ◌*◌, ◌/◌, ◌%◌, ◌^◌, ◌≤◌, ◌<◌}
 use native.Mathlib.Omega.{arith}
 use native.Mathlib.Decide.{ℕ_discrete}
-use lib.ListN.{length, get_or, set, length-set}
-use lib.Seq.{ext_get_or, get_or-set_same, get_or-set_other}
+use lib.ListN.{length, get_or, set, take, drop, replicate, length-set}
+use lib.Seq.{length-take-le, ext_get_or, get_or-set_same, get_or-set_other}
 use Rattle.definitions.specs.Closure.{has, bit}
 use Rattle.definitions.specs.Marks.{mark_bytes, marked}
 use Rattle.definitions.proofs.ListLaws.{table_at, table_length}
@@ -78,6 +78,19 @@ module _ (N : ℕ) (ms ms' : List ℕ) (x : ℕ) (low : x < 2 * N) (more : OneMo
           view_byte N ms' i h ∙ rw (e, more.here) (sym (get_or-set_same (set_of N ms) x 1 0 (view_inside N ms x low)))
       same i h (no ne) =
           view_byte N ms' i h ∙ ap bit (more.others i ne) ∙ sym (view_byte N ms i h) ∙ sym (get_or-set_other (set_of N ms) x i 1 0 ne)
+
+-- whole bytes of zeros in front
+module _ (N : ℕ) (ms front : List ℕ) (room : mark_bytes N ≤ length ms) (zeros : front ≡ replicate (length (take (N / 4) ms)) 0) where
+  pub zeros_front : front ++ drop (N / 4) ms ≡ whole_cleared N ms
+  unfolding whole_cleared mark_bytes
+  zeros_front =
+      let size : length (take (N / 4) ms) ≡ N / 4 = length-take-le (N / 4) ms (omega arith) in
+      rw (zeros, size)
+
+  -- where bits are left over, their byte is behind them
+  pub next_byte : (2 * (N % 4) ≡ 0 → ⊥) → N / 4 < length (front ++ drop (N / 4) ms)
+  unfolding mark_bytes
+  next_byte some = rw (zeros_front, whole_length N ms (omega arith)) (omega arith)
 
 -- the marks of N atoms cleared
 module _ (N : ℕ) (ms ms₁ : List ℕ) (room : mark_bytes N ≤ length ms) (whole : ms₁ ≡ whole_cleared N ms) where

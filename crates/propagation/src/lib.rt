@@ -63,10 +63,7 @@ fn is_open(marks: &[u8], word: u16) -> bool
     requires { ComplementInside marks.now word }
     ensures { result ≡ open_word marks.now word }
 {
-    if word == Literal::FILL {
-        return false;
-    }
-    !is_false(marks, word)
+    word != Literal::FILL && !is_false(marks, word)
 }
 
 // What `word` adds to the scan of a row whose first open literal is `first`, or fill if there is none.
@@ -90,10 +87,7 @@ fn second_is_open(clauses: &[u16], at: usize, marks: &[u8], known: u16) -> bool
     ensures { result ≡ (eqb (get_or clauses.now at 0) known
         && open_word marks.now (get_or clauses.now (at + 1) 0)) }
 {
-    if clauses[at] != known {
-        return false;
-    }
-    is_open(marks, clauses[at + 1])
+    clauses[at] == known && is_open(marks, clauses[at + 1])
 }
 
 // Whether propagation stops at literal `l`: if `stops`, and its complement is marked.
@@ -101,7 +95,7 @@ fn stops_at(marks: &[u8], l: u16, stops: bool) -> bool
     requires { (l < 65535) × (complement l / 8 < length marks.now) }
     ensures { result ≡ (stops && marked marks.now (complement l)) }
 {
-    if stops { is_false(marks, l) } else { false }
+    stops && is_false(marks, l)
 }
 
 // Marks the literals of a list. If `stops`, only up to one whose complement is marked.
@@ -111,16 +105,13 @@ fn seed(literals: &[u16], marks: &mut [u8], atoms: usize, stops: bool) -> Pass
         × Seeded stops (set_of atoms marks.old) literals.now (set_of atoms marks.new) result }
 {
     let mut pass = Pass::Same;
-    let mut i: usize = 0;
-    while i < literals.len() {
-        let l = literals[i];
-        if stops_at(marks, l, stops) {
+    for l in literals {
+        if stops_at(marks, *l, stops) {
             return Pass::Contradictory;
         }
-        if marks::add(marks, literal::wide(l)) {
+        if marks::add(marks, literal::wide(*l)) {
             pass = Pass::Grown;
         }
-        i += 1;
     }
     pass
 }

@@ -13,7 +13,7 @@ pub fn bytes(atoms: usize) -> usize
     requires { atoms ≤ most_atoms }
     ensures { result ≡ mark_bytes atoms }
 {
-    (atoms + 3) / 4
+    atoms.div_ceil(4)
 }
 
 // The most bytes of marks.
@@ -38,11 +38,7 @@ pub(crate) fn is_marked(marks: &[u8], l: usize) -> bool
 pub fn holds(marks: &[u8], l: usize) -> bool
     ensures { (atoms : ℕ) (S : List ℕ) → Marked atoms marks.now S → l < 2 * atoms → result ≡ has S l }
 {
-    if l / 8 < marks.len() {
-        is_marked(marks, l)
-    } else {
-        false
-    }
+    l / 8 < marks.len() && is_marked(marks, l)
 }
 
 // Whether all literals of a list are marked.
@@ -50,14 +46,7 @@ pub fn holds_all(marks: &[u8], literals: &[u16]) -> bool
     ensures { (atoms : ℕ) (S : List ℕ) → Marked atoms marks.now S → all_below (2 * atoms) literals.now ≡ true
         → result ≡ all_in S literals.now }
 {
-    let mut i: usize = 0;
-    while i < literals.len() {
-        if !holds(marks, literal::wide(literals[i])) {
-            return false;
-        }
-        i += 1;
-    }
-    true
+    literals.iter().all(|l| holds(marks, literal::wide(*l)))
 }
 
 // Copies the marks of so many atoms.
@@ -66,7 +55,7 @@ pub fn copy(from: &[u8], to: &mut [u8], atoms: usize)
     ensures { (S : List ℕ) → Marked atoms from.now S → Marked atoms to.new S }
 {
     let end = bytes(atoms);
-    writing::bytes(&from[..end], to, 0);
+    to[..end].copy_from_slice(&from[..end]);
 }
 
 // Marks literal `l`. Whether it was not marked.
@@ -78,7 +67,7 @@ pub(crate) fn add(marks: &mut [u8], l: usize) -> bool
         return false;
     }
     let i = l / 8;
-    marks[i] = marks[i] | (1 << (l % 8));
+    marks[i] |= 1 << (l % 8);
     true
 }
 
@@ -88,14 +77,10 @@ pub(crate) fn clear(marks: &mut [u8], atoms: usize)
     ensures { Cleared atoms marks.old marks.new }
 {
     let whole = atoms / 4;
-    let mut i: usize = 0;
-    while i < whole {
-        marks[i] = 0;
-        i += 1;
-    }
+    marks[..whole].fill(0);
     let left = 2 * (atoms % 4);
     if left != 0 {
-        marks[whole] = marks[whole] - marks[whole] % (1 << left);
+        marks[whole] -= marks[whole] % (1 << left);
     }
 }
 
@@ -109,7 +94,7 @@ fn count_last(marks: &[u8], atoms: usize) -> usize
     if bits == 0 {
         return 0;
     }
-    u8::count_ones(marks[atoms / 4] & ((1 << bits) - 1)) as usize
+    (marks[atoms / 4] & ((1 << bits) - 1)).count_ones() as usize
 }
 
 // The number of marked literals: the ones of each byte summed, the last byte masked.
@@ -117,12 +102,9 @@ pub fn count(marks: &[u8], atoms: usize) -> usize
     requires { (atoms ≤ most_atoms) × (mark_bytes atoms ≤ length marks.now) }
     ensures { result ≡ length (marked_literals atoms marks.now) }
 {
-    let last = atoms / 4;
     let mut number: usize = 0;
-    let mut i: usize = 0;
-    while i < last {
-        number += u8::count_ones(marks[i]) as usize;
-        i += 1;
+    for byte in &marks[..atoms / 4] {
+        number += byte.count_ones() as usize;
     }
     number + count_last(marks, atoms)
 }

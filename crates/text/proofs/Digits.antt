@@ -1,10 +1,10 @@
 -- Laws of the digits of a number, from the last to the first. Assumes nothing.
 use mathlib.Core.Path.{◌≡◌, refl, sym, ◌∙◌, ap}
 use mathlib.Core.List.{List, ◌∷◌}
-use Prim.Native.Nat.{ℕ, zero, suc, ◌+◌, ◌-◌, ◌/◌, ◌%◌, ◌≤◌, ◌<◌}
+use Prim.Native.Nat.{ℕ, zero, suc, ◌+◌, ◌/◌, ◌%◌, ◌≤◌, ◌<◌}
 use native.Mathlib.Omega.{arith}
-use lib.ListN.{length, set, take, drop, length-drop, length-set, drop_of_length-le}
-use lib.Seq.{take_all, drop-cons, get_or-set_same, drop-set-lt}
+use lib.ListN.{length, set, drop, length-set, drop_of_length-le}
+use lib.Seq.{drop-cons, get_or-set_same, drop-set-lt}
 use Rattle.definitions.specs.Text.{digits, decimal}
 
 pub digits_one : (k n : ℕ) (rest : List ℕ) → n / 10 ≡ 0 → digits (suc k) n rest ≡ (48 + n % 10) ∷ rest
@@ -42,14 +42,6 @@ pub digits_start : (room : List ℕ) (n : ℕ) → length room ≡ 20 → decima
 unfolding decimal
 digits_start room n e = let h : length room ≤ 20 = omega arith in rw (drop_of_length-le room {i = 20} h)
 
-pub digits_end : (room : List ℕ) (n i : ℕ) → i ≡ 0 → digits i n (drop i room) ≡ drop i room
+pub digits_end : (room : List ℕ) (n i : ℕ) → i ≡ 0 → digits i n (drop i room) ≡ room
 unfolding digits
 digits_end room n i e = rw e
-
--- the digits up to the room's end
-pub digits_cut : (room : List ℕ) (k n : ℕ) → length room ≡ 20 → drop k room ≡ decimal n → take (20 - k) (drop k room) ≡ decimal n
-digits_cut room k n e h = let d = length-drop k room in let q : length (drop k room) ≤ 20 - k = omega arith in take_all (20 - k) (drop k room) q ∙ h
-
--- their number
-pub digits_count : (room : List ℕ) (k n : ℕ) → length room ≡ 20 → drop k room ≡ decimal n → 20 - k ≡ length (decimal n)
-digits_count room k n e h = let d = length-drop k room in let q = ap length h in omega arith

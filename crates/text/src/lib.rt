@@ -21,7 +21,7 @@ pub fn separate(out: &mut [u8], at: usize, i: usize) -> usize
 fn digit(number: usize) -> u8
     ensures { result ≡ 48 + number % 10 }
 {
-    48 + (number % 10) as u8
+    b'0' + (number % 10) as u8
 }
 
 // Writes a number's digits at the end of `room`, and gives the place of the first.
@@ -30,16 +30,14 @@ fn fill_digits(room: &mut [u8], number: usize) -> usize
     ensures { (drop result room.new ≡ decimal number) × (result ≤ 20) }
 {
     let mut left = number;
-    let mut i: usize = 20;
-    while 0 < i {
-        i -= 1;
+    for i in (0..20).rev() {
         room[i] = digit(left);
-        left = left / 10;
+        left /= 10;
         if left == 0 {
             return i;
         }
     }
-    i
+    0
 }
 
 // The number of bytes of a number in decimal.
@@ -58,7 +56,7 @@ pub fn write_decimal(out: &mut [u8], at: usize, number: usize) -> usize
 {
     let mut room = [0u8; 20];
     let first = fill_digits(&mut room, number);
-    writing::bytes(&room[first..], out, at)
+    writing::write(&room[first..], out, at)
 }
 
 // Writes a number as a field after another.
@@ -75,6 +73,6 @@ pub fn write_named(out: &mut [u8], at: usize, word: &[u8], number: usize) -> usi
     requires { at + length (word.now ++ (32 ∷ decimal number)) ≤ length out.old }
     ensures { Wrote out.old at (word.now ++ (32 ∷ decimal number)) out.new result }
 {
-    let to = writing::bytes(word, out, at);
+    let to = writing::write(word, out, at);
     write_number(out, to, number)
 }

@@ -1,40 +1,51 @@
 -- Little-endian words of bytes, two bytes after two. Assumes nothing.
 use mathlib.Core.Path.{◌≡◌, refl}
-use mathlib.Core.List.{List, [], ◌∷◌}
-use Prim.Native.Nat.{ℕ, ◌+◌, ◌*◌, ◌≤◌, ◌<◌}
+use mathlib.Core.List.{List, [], ◌∷◌, ◌++◌}
+use Prim.Native.Nat.{ℕ, ◌+◌, ◌*◌, ◌/◌, ◌<◌}
 use native.Mathlib.Omega.{arith}
-use lib.ListN.{length, get_or, set, drop, length-drop}
+use lib.ListN.{length, get_or, set, length-append}
 use Rattle.definitions.specs.Card.{words_of}
-use Rattle.definitions.proofs.Walks.{left_here}
 use Rattle.writing.specs.Writing.{Wrote, Writing}
-use Rattle.writing.proofs.Writes.{write_same, write_word, write_end}
+use Rattle.writing.proofs.Writes.{write_start, write_same, write_word, write_end}
 
-module _ (bs : List ℕ) (i : ℕ) where
-  words_next :
-      (x : ℕ) → 2 * i + 1 < length bs → x ≡ get_or bs (2 * i) 0 + 256 * get_or bs (2 * i + 1) 0
-      → words_of (drop (2 * i) bs) ≡ x ∷ words_of (drop (2 * (i + 1)) bs)
-  unfolding words_of
-  words_next x h e =
-      let p : 2 * (i + 1) ≡ 2 * i + 1 + 1 = omega arith in
-      let low = left_here bs (2 * i) 0 (get_or bs (2 * i) 0) refl (omega arith) in
-      let high = left_here bs (2 * i + 1) 0 (get_or bs (2 * i + 1) 0) refl h in
-      rw (low, high, p, e)
+words_next : (pair rest : List ℕ) → length pair ≡ 2 → words_of (pair ++ rest) ≡ (get_or pair 0 0 + 256 * get_or pair 1 0) ∷ words_of rest
+unfolding words_of
+words_next [] rest h = absurd (omega arith)
+words_next (x ∷ []) rest h = absurd (omega arith)
+words_next (x ∷ (y ∷ [])) rest h = refl
+words_next (x ∷ (y ∷ (z ∷ l))) rest h = absurd (omega arith)
 
-  words_end : length bs ≤ 2 * i + 1 → words_of (drop (2 * i) bs) ≡ []
-  unfolding words_of
-  words_end h = go (drop (2 * i) bs) (let d = length-drop (2 * i) bs in omega arith)
-    where
-      go : (l : List ℕ) → length l ≤ 1 → words_of l ≡ []
-      go [] q = refl
-      go (x ∷ []) q = refl
-      go (x ∷ (y ∷ l)) q = absurd (omega arith)
+words_end : (rest : List ℕ) → length rest < 2 → words_of rest ≡ []
+unfolding words_of
+words_end [] h = refl
+words_end (x ∷ []) h = refl
+words_end (x ∷ (y ∷ l)) h = absurd (omega arith)
 
--- the words of the bytes from 2 i on are left
-module _ (bs : List ℕ) {old now' : List ℕ} {i : ℕ} (w : Writing old 0 (words_of bs) now' i (words_of (drop (2 * i) bs))) where
+-- the words of so many pairs of bytes are written, and those of the bytes in `rest` are left
+pub record Halved (bytes old now' rest : List ℕ) (count size : ℕ) : Type 0 where
+  pub pairs : size ≡ 2
+  pub place : 2 * count + length rest ≡ length bytes
+  pub left : Writing old 0 (words_of bytes) now' count (words_of rest)
+
+pub bytes_start : (bytes old rest : List ℕ) (count size : ℕ) → rest ≡ bytes → count ≡ 0 → size ≡ 2 → Halved bytes old old rest count size
+bytes_start bytes old rest count size e z s = record { pairs = s; place = rw (e, z) (omega arith); left = rw (e, z) write_start }
+
+module _ {bytes old now' rest : List ℕ} {count size : ℕ} (s : Halved bytes old now' rest count size) where
   pub bytes_next :
-      (x : ℕ) → 2 * i + 1 < length bs → x ≡ get_or bs (2 * i) 0 + 256 * get_or bs (2 * i + 1) 0
-      → Writing old 0 (words_of bs) (set now' i x) (i + 1) (words_of (drop (2 * (i + 1)) bs))
-  bytes_next x h e = write_word (write_same (words_next bs i x h e) w)
+      (pair after : List ℕ) (i more next x : ℕ) → rest ≡ pair ++ after → length pair ≡ size → i ≡ count → more ≡ size → next ≡ count + 1
+      → x ≡ get_or pair 0 0 + 256 * get_or pair 1 0 → Halved bytes old (set now' i x) after next more
+  bytes_next pair after i more next x e h at m n w =
+      let two : length pair ≡ 2 = omega (arith, s.pairs) in
+      let long : length rest ≡ length pair + length after = rw e (length-append pair after) in
+      record {
+        pairs = omega (arith, s.pairs);
+        place = omega (arith, s.place);
+        left = rw (n, at, w) (write_word (write_same (rw e (words_next pair after two)) s.left));
+      }
 
-  pub bytes_end : length bs ≤ 2 * i + 1 → Wrote old 0 (words_of bs) now' i
-  bytes_end h = write_end (write_same (words_end bs i h) w)
+  pub bytes_end : length rest < size → Wrote old 0 (words_of bytes) now' (length bytes / 2)
+  bytes_end h =
+      let p = s.place in
+      let t = s.pairs in
+      let e : length bytes / 2 ≡ count = omega arith in
+      rw e (write_end (write_same (words_end rest (omega arith)) s.left))

@@ -1,7 +1,9 @@
 -- Directories: what is written, by the parts themselves, and the walks over their lengths. Assumes nothing.
-use mathlib.Core.Path.{◌≡◌, refl, ap}
+use mathlib.Core.Path.{◌≡◌, refl, ap, ◌∙◌}
 use mathlib.Core.List.{List, [], ◌∷◌, ◌++◌, map}
-use Prim.Native.Nat.{ℕ, ◌+◌, ◌*◌, ◌≤◌, ◌<◌}
+use Rattle.std.specs.List as lists
+use Rattle.std.proofs.lemmas.List.Sums.{sum_by-cons}
+use Prim.Native.Nat.{ℕ, suc, ◌+◌, ◌*◌, ◌≤◌, ◌<◌}
 use native.Mathlib.Omega.{arith}
 use lib.ListN.{length, get_or, drop, length-append, length-map, drop_of_length-le}
 use Rattle.definitions.specs.Lists.{each}
@@ -12,6 +14,20 @@ use Rattle.writing.specs.Directory.{sum, pairs_of, directory_of, size_of}
 use Rattle.writing.proofs.Writes.{write_start, write_same, write_part, write_end, write_room}
 
 -- ---- lengths
+-- as the sum of an iterator gives it
+pub words_sum : (ls : List ℕ) → lists.sum (map (λ x. x) ls) ≡ sum ls
+unfolding sum
+words_sum [] = refl
+words_sum (l ∷ ls) = sum_by-cons (λ x. x) l (map (λ x. x) ls) ∙ ap (λ (n : ℕ). l + n) (words_sum ls)
+
+pub sum_most : (ls : List ℕ) → ((k : ℕ) → get_or ls k 0 < 65536) → sum ls ≤ 65535 * length ls
+unfolding sum
+sum_most [] h = omega arith
+sum_most (l ∷ ls) h =
+    let first = h 0 in
+    let rest = sum_most ls (λ k. h (suc k)) in
+    omega arith
+
 pub pairs_length : (at : ℕ) (ls : List ℕ) → length (pairs_of at ls) ≡ 2 * length ls
 unfolding pairs_of
 pairs_length at [] = refl

@@ -1,5 +1,4 @@
 pub mod Writes
-pub mod Copies
 pub mod ByteWords
 pub mod Ranges
 pub mod Target

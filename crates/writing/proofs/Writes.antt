@@ -1,11 +1,13 @@
 -- Laws of writing word after word, and part after part. Assumes nothing.
+use borrow.Rule.Slice.PartMut.{put_mid}
+use Rattle.std.proofs.lemmas.Slice.{put_mid-paste}
 use mathlib.Core.Path.{◌≡◌, refl, sym, ◌∙◌, ap}
 use mathlib.Core.List.{List, [], ◌∷◌, ◌++◌, append-nil}
-use Prim.Native.Nat.{ℕ, suc, ◌+◌, ◌≤◌, ◌<◌}
+use Prim.Native.Nat.{ℕ, suc, ◌+◌, ◌-◌, ◌≤◌, ◌<◌}
 use native.Mathlib.Numerals.{add-one}
 use native.Mathlib.Omega.{arith}
 use lib.ListN.{length, set, take, drop, length-append, length-set, drop_of_length-le}
-use lib.Seq.{sets, length-sets, sets-eq, take-append_seam}
+use lib.Seq.{sets, length-sets, sets-eq, take_all, take-append_seam}
 use Rattle.writing.specs.Writing.{Wrote, Writing}
 
 -- words after words
@@ -16,6 +18,18 @@ sets_append t at (x ∷ xs) ys =
     rw e (sets_append (set t at x) (suc at) xs ys)
 
 -- ---- what is written, and its place
+-- a part of the target holds the items
+pub part_wrote :
+    {A : Type 0} (t items part : List A) (at : ℕ) → part ≡ items → at + length items ≤ length t
+    → Wrote t at items (put_mid at (at + length items - at) t part) (at + length items)
+part_wrote t items part at e room =
+    record {
+      target =
+          put_mid-paste at (at + length items - at) t part items (length items) e (omega arith) refl
+          ∙ rw (take_all (length items) items (omega arith)) (sym (sets-eq items t at room));
+      next = refl;
+    }
+
 module _ {t : List ℕ} {at : ℕ} {words new : List ℕ} {end : ℕ} where
   pub wrote_size : Wrote t at words new end → length new ≡ length t
   wrote_size w = ap length w.target ∙ length-sets t at words

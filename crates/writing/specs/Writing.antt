@@ -1,9 +1,9 @@
--- Words or bytes written into a target from a place on. Assumes nothing.
+-- Words, bytes or other items written into a target from a place on. Assumes nothing.
 use Rattle.std.specs.Prelude.{◌≡◌, List, ℕ, ◌+◌, length}
 use Rattle.std.proofs.lemmas.List.Edits.{sets}
 
 -- the words stand in the target from `at` on, and end at `end`
-pub record Wrote (old : List ℕ) (at : ℕ) (words new : List ℕ) (end : ℕ) : Type 0 where
+pub record Wrote {A : Type 0} (old : List A) (at : ℕ) (words new : List A) (end : ℕ) : Type 0 where
   pub target : new ≡ sets old at words
   pub next : end ≡ at + length words
 

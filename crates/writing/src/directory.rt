@@ -18,13 +18,8 @@ pub fn size(lengths: &[u16]) -> usize
     requires { length lengths.now < 65536 }
     ensures { result ≡ size_of lengths.now }
 {
-    let mut size = 2 + 2 * lengths.len();
-    let mut i: usize = 0;
-    while i < lengths.len() {
-        size += lengths[i] as usize;
-        i += 1;
-    }
-    size
+    let words: usize = lengths.iter().map(|length| usize::from(*length)).sum();
+    2 + 2 * lengths.len() + words
 }
 
 // Writes the pairs of parts of these lengths, the first of which begins at `start`.
@@ -34,12 +29,10 @@ fn pairs(lengths: &[u16], start: usize, target: &mut [u16], at: usize) -> usize
 {
     let mut offset = start;
     let mut to = at;
-    let mut i: usize = 0;
-    while i < lengths.len() {
-        let size = lengths[i] as usize;
+    for length in lengths {
+        let size = usize::from(*length);
         to = pair(offset, size, target, to);
         offset += size;
-        i += 1;
     }
     to
 }

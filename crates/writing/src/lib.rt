@@ -7,32 +7,28 @@ ghost use Rattle.writing.specs.Writing.{Wrote};
 
 pub mod directory; // directory.rt: pairs and directories of images
 
+// Writes items of any kind.
+pub fn write<T: Copy>(items: &[T], target: &mut [T], at: usize) -> usize
+    requires { at + length items.now ≤ length target.old }
+    ensures { Wrote target.old at items.now target.new result }
+{
+    let end = at + items.len();
+    target[at..end].copy_from_slice(items);
+    end
+}
+
 pub fn words(words: &[u16], target: &mut [u16], at: usize) -> usize
     requires { at + length words.now ≤ length target.old }
     ensures { Wrote target.old at words.now target.new result }
 {
-    let mut to = at;
-    let mut i: usize = 0;
-    while i < words.len() {
-        target[to] = words[i];
-        to += 1;
-        i += 1;
-    }
-    to
+    write(words, target, at)
 }
 
 pub fn bytes(bytes: &[u8], target: &mut [u8], at: usize) -> usize
     requires { at + length bytes.now ≤ length target.old }
     ensures { Wrote target.old at bytes.now target.new result }
 {
-    let mut to = at;
-    let mut i: usize = 0;
-    while i < bytes.len() {
-        target[to] = bytes[i];
-        to += 1;
-        i += 1;
-    }
-    to
+    write(bytes, target, at)
 }
 
 pub fn byte(byte: u8, target: &mut [u8], at: usize) -> usize
@@ -47,7 +43,7 @@ pub fn byte(byte: u8, target: &mut [u8], at: usize) -> usize
 fn word(low: u8, high: u8) -> u16
     ensures { result ≡ low + 256 * high }
 {
-    (low as u16) + 256 * (high as u16)
+    u16::from_le_bytes([low, high])
 }
 
 // Writes the little-endian words of bytes at the start of `target`. An odd byte at the end is left out.
@@ -55,10 +51,8 @@ pub fn words_of(bytes: &[u8], target: &mut [u16]) -> usize
     requires { length bytes.now ≤ 2 * length target.old + 1 }
     ensures { Wrote target.old 0 (words_of bytes.now) target.new result }
 {
-    let mut i: usize = 0;
-    while 2 * i + 1 < bytes.len() {
-        target[i] = word(bytes[2 * i], bytes[2 * i + 1]);
-        i += 1;
+    for (i, pair) in bytes.chunks_exact(2).enumerate() {
+        target[i] = word(pair[0], pair[1]);
     }
-    i
+    bytes.len() / 2
 }

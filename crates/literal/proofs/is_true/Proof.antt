@@ -1,6 +1,5 @@
 -- `literal::is_true`: the byte of the atom, by the literal's sign.
 use mathlib.Core.Path.{sym, ◌∙◌}
-use borrow.Author.Tests.{not-true}
 use Rattle.literal.proofs.Truth.{true_positive, true_negative}
 use borrow.Author.Rules.{rules}
 use Rattle.literal.proofs.is_true.Statement.{statement}

@@ -1,7 +1,6 @@
 -- `propagation::scan_word`: a word is an open literal or not, and the first of its row or another.
 use mathlib.Core.Path.{◌≡◌, sym, ◌∙◌}
 use mathlib.Core.Bool.{false}
-use borrow.Author.Tests.{not-true, not-false}
 use Rattle.definitions.specs.Literal.{fill, complement}
 use Rattle.definitions.specs.Marks.{marked}
 use Rattle.propagation.proofs.Scans.{open_word_lem, shut_word}

@@ -1,6 +1,5 @@
 -- `literal::Literal::complement`: the code with its last bit exchanged. Assumes nothing.
 use Rattle.literal.proofs.LastBit.{flipped}
-use borrow.Author.Rules.{rules}
 use Rattle.literal.proofs.Literal.complement.Statement.{statement}
 use Rattle.literal.proofs.Literal.complement.Tie as tie
 
