@@ -8,7 +8,7 @@ use Prim.Native.Nat.{ℕ, zero, suc, ◌+◌, ◌-◌, ◌*◌, ◌≤◌, ◌<�
 use native.Mathlib.Omega.{arith}
 use native.Mathlib.Decide.{dec_lt}
 use lib.ListN.{length}
-use Rattle.definitions.specs.Lists.{any, ascending, compare_words, is_same, Distinct, nothing, another}
+use Rattle.definitions.specs.Lists.{any, compare_words, is_same, Distinct, nothing, another}
 use Rattle.definitions.specs.Literal.{most_atoms, all_below}
 use Rattle.definitions.specs.Clauses.{width, row_of, clause_of, clause_right, row_less, row_at}
 use Rattle.definitions.specs.Groups.{has_clause}
@@ -23,9 +23,9 @@ use Rattle.definitions.proofs.RowsRead.{right_row}
 use Rattle.definitions.proofs.RowsRead as rows_read
 use Rattle.definitions.proofs.Accepts.{clause_back}
 use Rattle.clause.specs.Rows.{row_count, clauses_in, clauses_of, RightRows}
-use Rattle.clause.specs.Search.{Sought, is_there}
-use Rattle.clause.specs.declared.Found.{Found}
-use Rattle.clause.specs.declared.Found.TheVariants.{At, Missing}
+use Rattle.clause.specs.Search.{Sought}
+use Rattle.std.specs.Prelude.{Result, Ok, Err}
+use Rattle.std.specs.Result.{is_ok}
 use Rattle.clause.proofs.RowLaws.{in_none, in_step, row_length, RowOf, clause_in, clause_of_lem}
 use Rattle.clause.proofs.RowOrder.{row_trans, row_irrefl}
 
@@ -73,12 +73,12 @@ module _ (N : ℕ) (w : List ℕ) (rows : RightRows N w) where
 
   -- whether a clause is there, as the search for its row tells
   pub sought_clause :
-      (f : List ℕ) (r : Found) → N ≤ most_atoms → all_below (2 * N) f ≡ true → Sought w (row_of f) r → has_clause (clauses_of w) f ≡ is_there r
+      (f : List ℕ) (r : Result ℕ ℕ) → N ≤ most_atoms → all_below (2 * N) f ≡ true → Sought w (row_of f) r → has_clause (clauses_of w) f ≡ is_ok r
   unfolding has_clause
-  sought_clause f (At i) few low s =
+  sought_clause f (Ok i) few low s =
       let e : clause_of (row_at w i) ≡ f = ap clause_of s.same ∙ row_back N f few low in
       any_in (λ g. is_same (compare_words f g)) (rw e at (clause_in w i s.inside)) (same_self f)
-  sought_clause f (Missing i) few low s = go (decide (any (λ g. is_same (compare_words f g)) (clauses_of w)))
+  sought_clause f (Err i) few low s = go (decide (any (λ g. is_same (compare_words f g)) (clauses_of w)))
     where
       apart : (p : RowOf w f) → Dec (p.row < i) → ⊥
       apart p (yes l) = row_irrefl (row_of f) (rw (placed_row f p) at (s.before p.row l))

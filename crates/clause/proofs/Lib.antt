@@ -8,4 +8,5 @@ pub mod ReadLaws
 pub mod ClauseLaws
 pub mod WordLaws
 pub mod Rest
+pub mod RowWalks
 pub mod Insert

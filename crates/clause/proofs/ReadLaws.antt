@@ -8,7 +8,6 @@ use native.Mathlib.Decide.{dec_lt}
 use lib.Dec.{eqb, leb}
 use lib.ListN.{length}
 use borrow.Author.Tests.{eqb-true, leb-true}
-use Rattle.definitions.specs.Lists.{ascending}
 use Rattle.definitions.specs.Answer.{finding, verdict, ask, ask_at, ◌>>=◌}
 use Rattle.definitions.specs.Clauses.{width, most_rows, clause_of, clause_right, row_at, above_last, read_rows, read_clauses}
 use Rattle.definitions.proofs.ListLaws.{and_left, and_right, and_both}

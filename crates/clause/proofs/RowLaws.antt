@@ -127,7 +127,7 @@ none_whole : (v : List ℕ) → length v < width → row_count v ≡ 0
 unfolding row_count width
 none_whole v h = omega arith
 
-width_some : 0 < width
+pub width_some : 0 < width
 unfolding width
 width_some = omega arith
 

@@ -56,8 +56,6 @@ impl RowPlace {
         requires { AtRow clauses.now self }
         ensures { result.now ≡ row_at clauses.now self.number }
     {
-        let start = self.at;
-        let end = start + WIDTH;
-        &clauses[start..end]
+        &clauses[self.at..self.at + WIDTH]
     }
 }

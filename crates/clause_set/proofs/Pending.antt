@@ -1,12 +1,11 @@
 -- A loop that puts in clauses: those of W are left. Assumes nothing.
-use mathlib.Core.Path.{◌≡◌, refl, sym, ◌∙◌, ap, subst}
+use mathlib.Core.Path.{◌≡◌, refl, ◌∙◌, ap, subst}
 use mathlib.Core.Option.{Option, none, some}
 use mathlib.Core.List.{List, [], ◌++◌}
 use Prim.Native.Nat.{ℕ}
 use Rattle.clause_set.specs.Put.{put_all}
 use Rattle.clause_set.specs.Held.{held, Room, Holds}
-use Rattle.clause_set.specs.declared.Built.{Built}
-use Rattle.clause_set.specs.declared.Built.TheVariants.{Rows, Full}
+use Rattle.std.specs.Prelude as std
 use Rattle.clause_set.proofs.Insertion.{puts_append, puts_none}
 
 -- the buffer w holds k rows, and putting in the clauses of W as well gives the goal
@@ -22,19 +21,19 @@ pub pending_same : (rows : ℕ) (W W' : List (List ℕ)) (k : ℕ) (w : List ℕ
 pending_same rows W W' k w r e = record { room = r; rest = ap (λ (z : List (List ℕ)). put_all rows z (some (held k w))) e }
 
 module _ (rows : ℕ) (W : List (List ℕ)) (goal : Option (List (List ℕ))) (k : ℕ) (w : List ℕ) (p : Pending rows W goal k w) where
-  module _ (A B : List (List ℕ)) (split : W ≡ A ++ B) (w' : List ℕ) (r : Built) (built : Holds rows r w' (put_all rows A (some (held k w)))) where
+  module _ (A B : List (List ℕ)) (split : W ≡ A ++ B) (w' : List ℕ) (r : std.Option ℕ) (built : Holds rows r w' (put_all rows A (some (held k w)))) where
     after : goal ≡ put_all rows B (put_all rows A (some (held k w)))
     after = p.rest ∙ rw (split, puts_append rows A B (some (held k w)))
 
     -- the clauses of A are put in
-    pub pending_on : (k' : ℕ) → r ≡ Rows k' → Pending rows B goal k' w'
+    pub pending_on : (k' : ℕ) → r ≡ std.Some k' → Pending rows B goal k' w'
     pending_on k' e =
-        let h = subst (λ (z : Built). Holds rows z w' (put_all rows A (some (held k w)))) e built in
+        let h = subst (λ (z : std.Option ℕ). Holds rows z w' (put_all rows A (some (held k w)))) e built in
         record { room = h.0; rest = after ∙ ap (put_all rows B) h.1 }
 
     -- one of A does not fit
-    pub pending_full : r ≡ Full → goal ≡ none
-    pending_full e = after ∙ ap (put_all rows B) (subst (λ (z : Built). Holds rows z w' (put_all rows A (some (held k w)))) e built) ∙ puts_none rows B
+    pub pending_full : r ≡ std.None → goal ≡ none
+    pending_full e = after ∙ ap (put_all rows B) (subst (λ (z : std.Option ℕ). Holds rows z w' (put_all rows A (some (held k w)))) e built) ∙ puts_none rows B
 
   pub pending_end : W ≡ [] → goal ≡ some (held k w)
   unfolding put_all

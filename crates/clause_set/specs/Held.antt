@@ -4,7 +4,7 @@ use Rattle.std.proofs.Math.Option.{Option, none, some}
 use Rattle.definitions.specs.Literal.{most_atoms}
 use Rattle.definitions.specs.Clauses.{width, most_rows, clause_right, GoodClause}
 use Rattle.clause.specs.Rows.{clauses_of, RightRows}
-use Rattle.clause_set.specs.declared.Built as builts
+use Rattle.std.specs.Prelude as std
 
 -- the clauses of the first k rows
 unfoldable pub held : ℕ → List ℕ → List (List ℕ)
@@ -28,6 +28,6 @@ pub record Extensible (f : List ℕ) : Type 0 where
   pub short : length f < width
 
 -- what the buffer holds is the set that is to be built, if that fits
-abbrev pub Holds : ℕ → builts.Built → List ℕ → Option (List (List ℕ)) → Type 0
-Holds rows (builts.TheVariants.Rows k) w s = Room rows k w × (s ≡ some (held k w))
-Holds rows builts.TheVariants.Full w s = s ≡ none
+abbrev pub Holds : ℕ → std.Option ℕ → List ℕ → Option (List (List ℕ)) → Type 0
+Holds rows (std.Some k) w s = Room rows k w × (s ≡ some (held k w))
+Holds rows std.None w s = s ≡ none

@@ -1,7 +1,7 @@
 -- A clause put into a set, unless it or a part of it is there. Assumes nothing.
-use Rattle.std.specs.Prelude.{Bool, true, false, not, ◌||◌, cond, List, [], ◌∷◌, map, ℕ, zero, suc, ◌-◌, ◌*◌, ◌/◌, ◌%◌, eqb, ltb, length}
+use Rattle.std.specs.Prelude.{Bool, true, false, ◌||◌, cond, List, [], ◌∷◌, map, ℕ, zero, suc, ◌-◌, ◌*◌, ◌/◌, ◌%◌, eqb, ltb, length}
 use Rattle.std.proofs.Math.Option.{Option, none, some}
-use Rattle.definitions.specs.Lists.{any, each, range, member}
+use Rattle.definitions.specs.Lists.{any, range, member}
 use Rattle.definitions.specs.Literal.{atom}
 use Rattle.definitions.specs.Groups.{has_clause}
 use Rattle.definitions.specs.Synthesis.{insert_literal, insert_clause}
