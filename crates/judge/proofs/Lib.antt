@@ -1,4 +1,3 @@
-pub mod Parts
 pub mod Closures
 pub mod BlockRows
 pub mod Guaranteed

@@ -21,24 +21,16 @@ use task::block::{BlockHead, RowPart};
 fn some_flagged(literals: &[u16], flags: &[u8]) -> bool
     ensures { result ≡ any (has flags.now) literals.now }
 {
-    let mut i: usize = 0;
-    while i < literals.len() {
-        if literal::flags::has(flags, literal::wide(literals[i])) {
-            return true;
-        }
-        i += 1;
-    }
-    false
+    literals
+        .iter()
+        .any(|l| literal::flags::has(flags, literal::wide(*l)))
 }
 
 // Whether the clause of a row holds `l` and no literal that has its flag.
 fn lacks_flag(row: &[u16], l: u16, flags: &[u8]) -> bool
     ensures { result ≡ lacks_flag l flags.now (clause_of row.now) }
 {
-    if !clause::has_literal(row, l) {
-        return false;
-    }
-    !some_flagged(clause::literals(row), flags)
+    clause::has_literal(row, l) && !some_flagged(clause::literals(row), flags)
 }
 
 // Whether some judged clause holds `l`.
@@ -122,12 +114,8 @@ fn judge_row(
         return;
     }
     propagation::marks::copy(base, marks, atoms);
-    let closed = propagation::extend(clauses, conditions, marks, atoms);
-    match closed {
-        Closing::Contradictory => {}
-        Closing::Consistent => {
-            flag_violated(clauses, judged, block, l, marks, atoms, fails);
-        }
+    if let Closing::Consistent = propagation::extend(clauses, conditions, marks, atoms) {
+        flag_violated(clauses, judged, block, l, marks, atoms, fails);
     }
 }
 
@@ -252,10 +240,8 @@ pub fn judge_guaranteed(
         × Guarantees atoms (clauses_of clauses.now) (operator_in block.now) flags.new result }
 {
     literal::flags::clear(fails);
-    let head = task::block::head(block);
-    let end = head.end;
-    let closed = propagation::close(clauses, &block[1..end], marks, atoms);
-    match closed {
+    let BlockHead { end, .. } = task::block::head(block);
+    match propagation::close(clauses, &block[1..end], marks, atoms) {
         Closing::Contradictory => false,
         Closing::Consistent => {
             judge_consistent(clauses, judged, block, marks, atoms, fails, flags);

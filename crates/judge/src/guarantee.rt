@@ -19,9 +19,9 @@ pub fn complement(effect: usize) -> u16
     requires { effect < 65535 }
     ensures { result ≡ complement effect }
 {
-    (Literal {
+    Literal {
         code: effect as u16,
-    })
+    }
     .complement()
     .code
 }
@@ -31,11 +31,8 @@ fn flag_marked(marks: &[u8], atoms: usize, flags: &mut [u8])
     requires { (atoms ≤ most_atoms) × (length flags.old ≡ 2 * atoms) }
     ensures { (K : List ℕ) → Marked atoms marks.now K → flags.new ≡ flags_of atoms K }
 {
-    let end = 2 * atoms;
-    let mut l: usize = 0;
-    while l < end {
-        flags[l] = literal::flags::byte(propagation::marks::holds(marks, l));
-        l += 1;
+    for (l, flag) in flags.iter_mut().enumerate() {
+        *flag = u8::from(propagation::marks::holds(marks, l));
     }
 }
 
@@ -55,11 +52,10 @@ fn can_fire(
         return true;
     }
     propagation::marks::copy(marks, work, atoms);
-    let closed = propagation::extend(clauses, conditions, work, atoms);
-    match closed {
-        Closing::Consistent => true,
-        Closing::Contradictory => false,
-    }
+    matches!(
+        propagation::extend(clauses, conditions, work, atoms),
+        Closing::Consistent
+    )
 }
 
 // Takes their flags from the complements of the effects of the rows that can fire.

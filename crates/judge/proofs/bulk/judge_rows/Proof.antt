@@ -2,7 +2,6 @@
 use mathlib.Core.Path.{◌≡◌, refl, sym, ◌∙◌}
 use native.Mathlib.Omega.{arith}
 use lib.ListN.{length}
-use borrow.Author.Tests.{not-true}
 use Rattle.clause.specs.Rows.{clauses_of}
 use Rattle.task.specs.Walk.{operator_in, rows_at}
 use Rattle.task.proofs.Blocks.{rows_none}

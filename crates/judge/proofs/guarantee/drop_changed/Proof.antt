@@ -4,7 +4,6 @@ use mathlib.Core.Path.{◌≡◌, refl, sym, ◌∙◌}
 use mathlib.Core.List.{List}
 use native.Mathlib.Omega.{arith}
 use lib.ListN.{length}
-use borrow.Author.Tests.{not-true, not-false}
 use Rattle.literal.proofs.Mark.{zero_place}
 use Rattle.clause.specs.Rows.{clauses_of}
 use Rattle.task.specs.Walk.{operator_in, rows_at}
