@@ -6,3 +6,4 @@ pub mod Violations
 pub mod Flagged
 pub mod RowWalk
 pub mod Keeping
+pub mod Parts
