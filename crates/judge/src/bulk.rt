@@ -12,6 +12,7 @@ ghost use Rattle.judge.specs.Promise.{Given, BulkGiven, ConsistentClosure, Close
 ghost use Rattle.propagation.specs.Marks.{Asked, ConsistentMarks};
 ghost use Rattle.task.specs.Walk.{row, operator_in};
 
+use super::under::{Closed, Under};
 use clause::place::RowPlace;
 use propagation::Closing;
 use propagation::marks::MOST_BYTES;
@@ -64,162 +65,114 @@ fn flag_lacking(judged: &[u16], l: u16, flags: &[u8], fails: &mut [u8])
     }
 }
 
-// Flags the judged clauses that hold `l` and no literal that the operator guarantees, where the marks are those of a closure.
-fn flag_violated(
-    clauses: &[u16],
-    judged: &[u16],
-    block: &[u16],
-    l: u16,
-    marks: &[u8],
-    atoms: usize,
-    fails: &mut [u8],
-)
-    requires { Given atoms clauses.now block.now × ConsistentMarks atoms marks.now × (length fails.old ≡ row_count judged.now) }
-    ensures { (ls : List ℕ) → ConsistentClosure atoms clauses.now ls marks.now → fails.new
-        ≡ flag_more (lacks_flag l (guaranteed_flags atoms (clauses_of clauses.now) (operator_in block.now) ls))
-        (clauses_of judged.now) fails.old }
-{
-    let mut flags = literal::room::literal_flags();
-    let size = 2 * atoms;
-    super::guarantee::flag_guaranteed(clauses, block, marks, atoms, &mut flags[..size]);
-    flag_lacking(judged, l, &flags[..size], fails);
-}
-
-// Flags the judged clauses that a row of the block with these conditions violates, where `l` is the complement of its effect and
-// `base` has the marks of the clauses' and the precondition's closure and `flags` the literals guaranteed by it. Conditions that are
-// marked add nothing to that closure. Since the row can fire, `l` itself is guaranteed only if an add row of it surely fires.
-fn judge_row(
-    clauses: &[u16],
-    judged: &[u16],
-    block: &[u16],
-    conditions: &[u16],
-    l: u16,
-    base: &[u8],
-    flags: &[u8],
-    marks: &mut [u8],
-    atoms: usize,
-    fails: &mut [u8],
-)
-    requires { ClosedGiven atoms clauses.now judged.now block.now base.now fails.old
-        × Asked atoms clauses.now conditions.now marks.old
-        × FlagsGuaranteed atoms clauses.now block.now base.now flags.now }
-    ensures { (e : ℕ) → l ≡ complement e
-        → Memᴰ (row e conditions.now) (operator_in block.now).rows → fails.new
-        ≡ flag_more
-        (violates atoms (clauses_of clauses.now) (operator_in block.now) (row e conditions.now))
-        (clauses_of judged.now) fails.old }
-{
-    if propagation::marks::holds_all(base, conditions) {
-        flag_lacking(judged, l, flags, fails);
-        return;
-    }
-    propagation::marks::copy(base, marks, atoms);
-    if let Closing::Consistent = propagation::extend(clauses, conditions, marks, atoms) {
-        flag_violated(clauses, judged, block, l, marks, atoms, fails);
-    }
-}
-
-// Flags the judged clauses that some row violates, where `base` has the marks of the clauses' and the precondition's closure and
-// `flags` the literals guaranteed by it.
-fn judge_rows(
-    clauses: &[u16],
-    judged: &[u16],
-    block: &[u16],
-    base: &[u8],
-    flags: &[u8],
-    marks: &mut [u8],
-    atoms: usize,
-    fails: &mut [u8],
-)
-    requires { ClosedGiven atoms clauses.now judged.now block.now base.now fails.old
-        × FlagsGuaranteed atoms clauses.now block.now base.now flags.now × (mark_bytes atoms ≤ length marks.old) }
-    ensures { fails.new
-        ≡ flag_more
-        (some_violates atoms (clauses_of clauses.now) (operator_in block.now) (operator_in block.now).rows)
-        (clauses_of judged.now) fails.old }
-{
-    let BlockHead { end, rows } = task::block::head(block);
-    let mut at = end + 1;
-    let mut left = rows;
-    while 0 < left {
-        let RowPart { effect, from, end } = task::block::row(block, at, left);
-        at = end;
-        left -= 1;
-        let l = super::guarantee::complement(effect);
-        if !some_holds(judged, l) {
-            continue;
-        }
-        judge_row(
+impl Closed<'_> {
+    // Flags the judged clauses that a row with these conditions violates, where `l` is the complement of its effect. Conditions that
+    // are marked add nothing to the closure. Since the row can fire, `l` itself is guaranteed only if an add row of it surely fires.
+    fn judge_row(&self, conditions: &[u16], l: u16, marks: &mut [u8], fails: &mut [u8])
+        requires { Asked self.now.under.atoms self.now.under.clauses.now conditions.now marks.old
+            × (length fails.old ≡ row_count self.now.under.judged.now) }
+        ensures { (e : ℕ) → l ≡ complement e
+            → Memᴰ (row e conditions.now) (operator_in self.now.under.block.now).rows → fails.new
+            ≡ flag_more
+            (violates self.now.under.atoms (clauses_of self.now.under.clauses.now) (operator_in self.now.under.block.now) (row e conditions.now))
+            (clauses_of self.now.under.judged.now) fails.old }
+    {
+        let Under {
             clauses,
             judged,
-            block,
-            &block[from..end],
-            l,
-            base,
-            flags,
-            marks,
             atoms,
-            fails,
-        );
+            ..
+        } = self.under;
+        if propagation::marks::holds_all(self.base, conditions) {
+            flag_lacking(judged, l, self.guaranteed, fails);
+            return;
+        }
+        propagation::marks::copy(self.base, marks, atoms);
+        if let Closing::Consistent = propagation::extend(clauses, conditions, marks, atoms) {
+            self.under.flag_violated(l, marks, fails);
+        }
+    }
+
+    // Flags the judged clauses that some row violates.
+    fn judge_rows(&self, marks: &mut [u8], fails: &mut [u8])
+        requires { (mark_bytes self.now.under.atoms ≤ length marks.old) × (length fails.old ≡ row_count self.now.under.judged.now) }
+        ensures { fails.new
+            ≡ flag_more
+            (some_violates self.now.under.atoms (clauses_of self.now.under.clauses.now) (operator_in self.now.under.block.now)
+            (operator_in self.now.under.block.now).rows)
+            (clauses_of self.now.under.judged.now) fails.old }
+    {
+        let Under { judged, block, .. } = self.under;
+        let BlockHead { end, rows } = task::block::head(block);
+        let mut at = end + 1;
+        let mut left = rows;
+        while 0 < left {
+            let RowPart { effect, from, end } = task::block::row(block, at, left);
+            at = end;
+            left -= 1;
+            let l = super::guarantee::complement(effect);
+            if !some_holds(judged, l) {
+                continue;
+            }
+            self.judge_row(&block[from..end], l, marks, fails);
+        }
     }
 }
 
-// Flags the judged clauses that some row violates, and the literals that the operator guarantees, where `base` has the marks of the
-// clauses' and the precondition's closure.
-fn judge_closed(
-    clauses: &[u16],
-    judged: &[u16],
-    block: &[u16],
-    base: &[u8],
-    marks: &mut [u8],
-    atoms: usize,
-    fails: &mut [u8],
-    flags: &mut [u8],
-)
-    requires { ClosedGiven atoms clauses.now judged.now block.now base.now fails.old × (mark_bytes atoms ≤ length marks.old)
-        × (length flags.old ≡ 2 * atoms) }
-    ensures { (fails.new
-        ≡ flag_more
-        (some_violates atoms (clauses_of clauses.now) (operator_in block.now) (operator_in block.now).rows)
-        (clauses_of judged.now) fails.old)
-        × (flags.new
-        ≡ guaranteed_flags atoms (clauses_of clauses.now) (operator_in block.now) (operator_in block.now).precondition) }
-{
-    super::guarantee::flag_guaranteed(clauses, block, base, atoms, flags);
-    judge_rows(clauses, judged, block, base, flags, marks, atoms, fails);
-}
+impl Under<'_> {
+    // Flags the judged clauses that hold `l` and no literal that the operator guarantees, where the marks are those of a closure.
+    fn flag_violated(&self, l: u16, marks: &[u8], fails: &mut [u8])
+        requires { ConsistentMarks self.now.atoms marks.now × (length fails.old ≡ row_count self.now.judged.now) }
+        ensures { (ls : List ℕ) → ConsistentClosure self.now.atoms self.now.clauses.now ls marks.now → fails.new
+            ≡ flag_more
+            (lacks_flag l (guaranteed_flags self.now.atoms (clauses_of self.now.clauses.now) (operator_in self.now.block.now) ls))
+            (clauses_of self.now.judged.now) fails.old }
+    {
+        let mut flags = literal::room::literal_flags();
+        let size = 2 * self.atoms;
+        self.flag_guaranteed(marks, &mut flags[..size]);
+        flag_lacking(self.judged, l, &flags[..size], fails);
+    }
 
-// Flags the judged clauses that some row violates, and the literals that the operator guarantees, where the marks are those of the
-// clauses' and the precondition's closure.
-fn judge_consistent(
-    clauses: &[u16],
-    judged: &[u16],
-    block: &[u16],
-    marks: &mut [u8],
-    atoms: usize,
-    fails: &mut [u8],
-    flags: &mut [u8],
-)
-    requires { ClosedGiven atoms clauses.now judged.now block.now marks.old fails.old × (length flags.old ≡ 2 * atoms) }
-    ensures { (fails.new
-        ≡ flag_more
-        (some_violates atoms (clauses_of clauses.now) (operator_in block.now) (operator_in block.now).rows)
-        (clauses_of judged.now) fails.old)
-        × (flags.new
-        ≡ guaranteed_flags atoms (clauses_of clauses.now) (operator_in block.now) (operator_in block.now).precondition) }
-{
-    let mut base = propagation::marks::room();
-    propagation::marks::copy(marks, &mut base[..MOST_BYTES], atoms);
-    judge_closed(
-        clauses,
-        judged,
-        block,
-        &base[..MOST_BYTES],
-        marks,
-        atoms,
-        fails,
-        flags,
-    );
+    // Flags the judged clauses that some row violates, and the literals that the operator guarantees, where `base` has the marks of the
+    // clauses' and the precondition's closure.
+    fn judge_closed(&self, base: &[u8], marks: &mut [u8], fails: &mut [u8], flags: &mut [u8])
+        requires { ConsistentClosure self.now.atoms self.now.clauses.now (operator_in self.now.block.now).precondition base.now
+            × (mark_bytes self.now.atoms ≤ length marks.old) × (length fails.old ≡ row_count self.now.judged.now)
+            × (length flags.old ≡ 2 * self.now.atoms) }
+        ensures { (fails.new
+            ≡ flag_more
+            (some_violates self.now.atoms (clauses_of self.now.clauses.now) (operator_in self.now.block.now) (operator_in self.now.block.now).rows)
+            (clauses_of self.now.judged.now) fails.old)
+            × (flags.new
+            ≡ guaranteed_flags self.now.atoms (clauses_of self.now.clauses.now) (operator_in self.now.block.now)
+            (operator_in self.now.block.now).precondition) }
+    {
+        self.flag_guaranteed(base, flags);
+        let closed = Closed {
+            under: *self,
+            base,
+            guaranteed: flags,
+        };
+        closed.judge_rows(marks, fails);
+    }
+
+    // The same, where the marks are those of the closure.
+    fn judge_consistent(&self, marks: &mut [u8], fails: &mut [u8], flags: &mut [u8])
+        requires { ConsistentClosure self.now.atoms self.now.clauses.now (operator_in self.now.block.now).precondition marks.old
+            × (length fails.old ≡ row_count self.now.judged.now) × (length flags.old ≡ 2 * self.now.atoms) }
+        ensures { (fails.new
+            ≡ flag_more
+            (some_violates self.now.atoms (clauses_of self.now.clauses.now) (operator_in self.now.block.now) (operator_in self.now.block.now).rows)
+            (clauses_of self.now.judged.now) fails.old)
+            × (flags.new
+            ≡ guaranteed_flags self.now.atoms (clauses_of self.now.clauses.now) (operator_in self.now.block.now)
+            (operator_in self.now.block.now).precondition) }
+    {
+        let mut base = propagation::marks::room();
+        propagation::marks::copy(marks, &mut base[..MOST_BYTES], self.atoms);
+        self.judge_closed(&base[..MOST_BYTES], marks, fails, flags);
+    }
 }
 
 // Flags the judged clauses that the clauses do not keep under the operator of a block, and the literals that it guarantees. It
@@ -244,7 +197,13 @@ pub fn judge_guaranteed(
     match propagation::close(clauses, &block[1..end], marks, atoms) {
         Closing::Contradictory => false,
         Closing::Consistent => {
-            judge_consistent(clauses, judged, block, marks, atoms, fails, flags);
+            let under = Under {
+                clauses,
+                judged,
+                block,
+                atoms,
+            };
+            under.judge_consistent(marks, fails, flags);
             true
         }
     }

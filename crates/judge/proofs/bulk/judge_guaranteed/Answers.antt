@@ -12,15 +12,8 @@ close-requires c =
 
 pub judge_consistent-requires : goal.judge_consistent-requires
 judge_consistent-requires c =
-    let g = c.requires.0 in (
-      record {
-        given = g.given;
-        judged = g.judged;
-        closed = closure_start _ _ _ _ _ c.head-end.ensures.precondition (closure_says _ _ _ _ c.in-Consistent.ensures);
-        flagged = c.clear.auto.flags ∙ g.flagged;
-      },
-      c.requires.1,
-    )
+    let closed = closure_start _ _ _ _ _ c.head-end.ensures.precondition (closure_says _ _ _ _ c.in-Consistent.ensures) in
+    (closed, c.clear.auto.flags ∙ c.requires.0.flagged, c.requires.1)
 
 pub returns-in-Contradictory : goal.returns-in-Contradictory
 returns-in-Contradictory c =

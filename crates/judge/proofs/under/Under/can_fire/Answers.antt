@@ -1,8 +1,8 @@
--- `judge::guarantee::can_fire`: conditions that lie in the closure add nothing to it; for others the closure with them decides.
+-- `Under::can_fire`: conditions that lie in the closure add nothing to it; for others the closure with them decides.
 use Rattle.std.proofs.Common.{sym, arith}
 use Rattle.judge.proofs.Closures.{closure_fires, consistent_copied}
 use Rattle.judge.proofs.Firing.{fires_consistent, fires_not}
-use Rattle.judge.proofs.guarantee.can_fire.Goals as goal
+use Rattle.judge.proofs.under.Under.can_fire.Goals as goal
 
 pub returns-then-holds_all : goal.returns-then-holds_all
 returns-then-holds_all c = λ ls closed.

@@ -1,0 +1,15 @@
+-- `Under::judge_consistent`: the marks are kept in a local array, by which the rows are judged. Assumes nothing.
+use Rattle.std.proofs.Common.{arith}
+use Rattle.propagation.proofs.MarkedSets.{marked_room, room_size, most_bytes_lem}
+use Rattle.judge.proofs.Closures.{closure_copied}
+use Rattle.judge.proofs.under.Under.judge_consistent.Goals as goal
+
+pub copy-requires : goal.copy-requires
+copy-requires c =
+    let u = c.args.self.now in
+    (u.given.few, marked_room _ _ _ c.requires.0.marked, omega (arith, c.room-base.ensures, room_size, most_bytes_lem u.atoms u.given.few))
+
+pub judge_closed-requires : goal.judge_closed-requires
+judge_closed-requires c =
+    let p = c.requires in
+    (closure_copied _ _ _ _ _ p.0 c.copy.ensures, marked_room _ _ _ p.0.marked, p.1, p.2)
