@@ -7,8 +7,9 @@ ghost use Rattle.definitions.specs.Closure.{has};
 ghost use Rattle.definitions.specs.Clauses.{clause_of};
 ghost use Rattle.definitions.specs.Marks.{mark_bytes};
 ghost use Rattle.clause.specs.Rows.{row_count, clauses_of};
-ghost use Rattle.judge.specs.Judging.{lacks_flag, flag_more, guaranteed_flags, violates, some_violates, fail_flags, Guarantees};
-ghost use Rattle.judge.specs.Promise.{Given, BulkGiven, ConsistentClosure, ClosedGiven, FlagsGuaranteed};
+ghost use Rattle.judge.specs.Judging.{lacks_flag, flag_more, fail_flags, Guarantees};
+ghost use Rattle.judge.specs.Promise.{BulkGiven};
+ghost use Rattle.judge.specs.Under.{operator_under, IsClosure, guaranteed_under, flag_by_row, flag_by_rows};
 ghost use Rattle.propagation.specs.Marks.{Asked, ConsistentMarks};
 ghost use Rattle.task.specs.Walk.{row, operator_in};
 
@@ -71,11 +72,8 @@ impl Closed<'_> {
     fn judge_row(&self, conditions: &[u16], l: u16, marks: &mut [u8], fails: &mut [u8])
         requires { Asked self.now.under.atoms self.now.under.clauses.now conditions.now marks.old
             × (length fails.old ≡ row_count self.now.under.judged.now) }
-        ensures { (e : ℕ) → l ≡ complement e
-            → Memᴰ (row e conditions.now) (operator_in self.now.under.block.now).rows → fails.new
-            ≡ flag_more
-            (violates self.now.under.atoms (clauses_of self.now.under.clauses.now) (operator_in self.now.under.block.now) (row e conditions.now))
-            (clauses_of self.now.under.judged.now) fails.old }
+        ensures { (e : ℕ) → l ≡ complement e → Memᴰ (row e conditions.now) (operator_under self.now.under).rows → fails.new
+            ≡ flag_by_row self.now.under (row e conditions.now) fails.old }
     {
         let Under {
             clauses,
@@ -96,11 +94,7 @@ impl Closed<'_> {
     // Flags the judged clauses that some row violates.
     fn judge_rows(&self, marks: &mut [u8], fails: &mut [u8])
         requires { (mark_bytes self.now.under.atoms ≤ length marks.old) × (length fails.old ≡ row_count self.now.under.judged.now) }
-        ensures { fails.new
-            ≡ flag_more
-            (some_violates self.now.under.atoms (clauses_of self.now.under.clauses.now) (operator_in self.now.under.block.now)
-            (operator_in self.now.under.block.now).rows)
-            (clauses_of self.now.under.judged.now) fails.old }
+        ensures { fails.new ≡ flag_by_rows self.now.under (operator_under self.now.under).rows fails.old }
     {
         let Under { judged, block, .. } = self.under;
         let BlockHead { end, rows } = task::block::head(block);
@@ -123,10 +117,8 @@ impl Under<'_> {
     // Flags the judged clauses that hold `l` and no literal that the operator guarantees, where the marks are those of a closure.
     fn flag_violated(&self, l: u16, marks: &[u8], fails: &mut [u8])
         requires { ConsistentMarks self.now.atoms marks.now × (length fails.old ≡ row_count self.now.judged.now) }
-        ensures { (ls : List ℕ) → ConsistentClosure self.now.atoms self.now.clauses.now ls marks.now → fails.new
-            ≡ flag_more
-            (lacks_flag l (guaranteed_flags self.now.atoms (clauses_of self.now.clauses.now) (operator_in self.now.block.now) ls))
-            (clauses_of self.now.judged.now) fails.old }
+        ensures { (ls : List ℕ) → IsClosure self.now ls marks.now → fails.new
+            ≡ flag_more (lacks_flag l (guaranteed_under self.now ls)) (clauses_of self.now.judged.now) fails.old }
     {
         let mut flags = literal::room::literal_flags();
         let size = 2 * self.atoms;
@@ -137,16 +129,11 @@ impl Under<'_> {
     // Flags the judged clauses that some row violates, and the literals that the operator guarantees, where `base` has the marks of the
     // clauses' and the precondition's closure.
     fn judge_closed(&self, base: &[u8], marks: &mut [u8], fails: &mut [u8], flags: &mut [u8])
-        requires { ConsistentClosure self.now.atoms self.now.clauses.now (operator_in self.now.block.now).precondition base.now
+        requires { IsClosure self.now (operator_under self.now).precondition base.now
             × (mark_bytes self.now.atoms ≤ length marks.old) × (length fails.old ≡ row_count self.now.judged.now)
             × (length flags.old ≡ 2 * self.now.atoms) }
-        ensures { (fails.new
-            ≡ flag_more
-            (some_violates self.now.atoms (clauses_of self.now.clauses.now) (operator_in self.now.block.now) (operator_in self.now.block.now).rows)
-            (clauses_of self.now.judged.now) fails.old)
-            × (flags.new
-            ≡ guaranteed_flags self.now.atoms (clauses_of self.now.clauses.now) (operator_in self.now.block.now)
-            (operator_in self.now.block.now).precondition) }
+        ensures { (fails.new ≡ flag_by_rows self.now (operator_under self.now).rows fails.old)
+            × (flags.new ≡ guaranteed_under self.now (operator_under self.now).precondition) }
     {
         self.flag_guaranteed(base, flags);
         let closed = Closed {
@@ -159,15 +146,10 @@ impl Under<'_> {
 
     // The same, where the marks are those of the closure.
     fn judge_consistent(&self, marks: &mut [u8], fails: &mut [u8], flags: &mut [u8])
-        requires { ConsistentClosure self.now.atoms self.now.clauses.now (operator_in self.now.block.now).precondition marks.old
+        requires { IsClosure self.now (operator_under self.now).precondition marks.old
             × (length fails.old ≡ row_count self.now.judged.now) × (length flags.old ≡ 2 * self.now.atoms) }
-        ensures { (fails.new
-            ≡ flag_more
-            (some_violates self.now.atoms (clauses_of self.now.clauses.now) (operator_in self.now.block.now) (operator_in self.now.block.now).rows)
-            (clauses_of self.now.judged.now) fails.old)
-            × (flags.new
-            ≡ guaranteed_flags self.now.atoms (clauses_of self.now.clauses.now) (operator_in self.now.block.now)
-            (operator_in self.now.block.now).precondition) }
+        ensures { (fails.new ≡ flag_by_rows self.now (operator_under self.now).rows fails.old)
+            × (flags.new ≡ guaranteed_under self.now (operator_under self.now).precondition) }
     {
         let mut base = propagation::marks::room();
         propagation::marks::copy(marks, &mut base[..MOST_BYTES], self.atoms);

@@ -6,8 +6,8 @@ ghost use Rattle.definitions.specs.Marks.{mark_bytes};
 ghost use Rattle.clause.specs.Rows.{clauses_of};
 ghost use Rattle.task.specs.Walk.{block_parses, operator_in};
 ghost use Rattle.propagation.specs.Marks.{Marked, ConsistentMarks, Asked};
-ghost use Rattle.judge.specs.Promise.{Given, ConsistentClosure, FlagsGuaranteed};
 ghost use Rattle.judge.specs.Judging.{flags_of, can_fire, flag_effects, drop_changed};
+ghost use Rattle.judge.specs.Under.{operator_under, IsClosure, guaranteed_under};
 
 use super::under::Under;
 use literal::Literal;
@@ -68,8 +68,7 @@ impl Under<'_> {
     // Whether a row with these conditions can fire, where the marks are those of a closure.
     fn can_fire(&self, conditions: &[u16], marks: &[u8], work: &mut [u8]) -> bool
         requires { Asked self.now.atoms self.now.clauses.now conditions.now work.old × ConsistentMarks self.now.atoms marks.now }
-        ensures { (ls : List ℕ) → ConsistentClosure self.now.atoms self.now.clauses.now ls marks.now → result
-            ≡ can_fire self.now.atoms (clauses_of self.now.clauses.now) ls conditions.now }
+        ensures { (ls : List ℕ) → IsClosure self.now ls marks.now → result ≡ can_fire self.now.atoms (clauses_of self.now.clauses.now) ls conditions.now }
     {
         if propagation::marks::holds_all(marks, conditions) {
             return true;
@@ -84,8 +83,8 @@ impl Under<'_> {
     // Takes their flags from the complements of the effects of the rows that can fire.
     fn drop_changed(&self, marks: &[u8], work: &mut [u8], flags: &mut [u8])
         requires { ConsistentMarks self.now.atoms marks.now × (mark_bytes self.now.atoms ≤ length work.old) }
-        ensures { (ls : List ℕ) → ConsistentClosure self.now.atoms self.now.clauses.now ls marks.now → flags.new
-            ≡ drop_changed self.now.atoms (clauses_of self.now.clauses.now) ls (operator_in self.now.block.now).rows flags.old }
+        ensures { (ls : List ℕ) → IsClosure self.now ls marks.now → flags.new
+            ≡ drop_changed self.now.atoms (clauses_of self.now.clauses.now) ls (operator_under self.now).rows flags.old }
     {
         let BlockHead { end, rows } = task::block::head(self.block);
         let mut at = end + 1;
@@ -110,7 +109,7 @@ impl Under<'_> {
     // deleted.
     pub fn flag_guaranteed(&self, marks: &[u8], flags: &mut [u8])
         requires { ConsistentMarks self.now.atoms marks.now × (length flags.old ≡ 2 * self.now.atoms) }
-        ensures { FlagsGuaranteed self.now.atoms self.now.clauses.now self.now.block.now marks.now flags.new }
+        ensures { (ls : List ℕ) → IsClosure self.now ls marks.now → flags.new ≡ guaranteed_under self.now ls }
     {
         let mut work = propagation::marks::room();
         flag_marked(marks, self.atoms, flags);
