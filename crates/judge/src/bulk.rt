@@ -16,7 +16,6 @@ ghost use Rattle.task.specs.Walk.{row, operator_in};
 use super::under::{Closed, Under};
 use clause::place::RowPlace;
 use propagation::Closing;
-use propagation::marks::MOST_BYTES;
 use task::block::{BlockHead, RowPart};
 
 // Whether some literal of a list has its flag.
@@ -75,19 +74,19 @@ impl Closed<'_> {
         ensures { (e : ℕ) → l ≡ complement e → Memᴰ (row e conditions.now) (operator_under self.now.under).rows → fails.new
             ≡ flag_by_row self.now.under (row e conditions.now) fails.old }
     {
-        let Under {
-            clauses,
-            judged,
-            atoms,
-            ..
-        } = self.under;
+        let under = &self.under;
         if propagation::marks::holds_all(self.base, conditions) {
-            flag_lacking(judged, l, self.guaranteed, fails);
+            flag_lacking(under.judged, l, self.guaranteed, fails);
             return;
         }
-        propagation::marks::copy(self.base, marks, atoms);
-        if let Closing::Consistent = propagation::extend(clauses, conditions, marks, atoms) {
-            self.under.flag_violated(l, marks, fails);
+        propagation::marks::copy(self.base, marks, under.atoms);
+        if let Closing::Consistent = propagation::extend(
+            under.clauses,
+            conditions,
+            marks,
+            under.atoms,
+        ) {
+            under.flag_violated(l, marks, fails);
         }
     }
 
@@ -120,31 +119,14 @@ impl Under<'_> {
         ensures { (ls : List ℕ) → IsClosure self.now ls marks.now → fails.new
             ≡ flag_more (lacks_flag l (guaranteed_under self.now ls)) (clauses_of self.now.judged.now) fails.old }
     {
-        let mut flags = literal::room::literal_flags();
-        let size = 2 * self.atoms;
-        self.flag_guaranteed(marks, &mut flags[..size]);
-        flag_lacking(self.judged, l, &flags[..size], fails);
+        let mut room = literal::room::literal_flags();
+        let flags = &mut room[..2 * self.atoms];
+        self.flag_guaranteed(marks, flags);
+        flag_lacking(self.judged, l, flags, fails);
     }
 
-    // Flags the judged clauses that some row violates, and the literals that the operator guarantees, where `base` has the marks of the
+    // Flags the judged clauses that some row violates, and the literals that the operator guarantees, where the marks are those of the
     // clauses' and the precondition's closure.
-    fn judge_closed(&self, base: &[u8], marks: &mut [u8], fails: &mut [u8], flags: &mut [u8])
-        requires { IsClosure self.now (operator_under self.now).precondition base.now
-            × (mark_bytes self.now.atoms ≤ length marks.old) × (length fails.old ≡ row_count self.now.judged.now)
-            × (length flags.old ≡ 2 * self.now.atoms) }
-        ensures { (fails.new ≡ flag_by_rows self.now (operator_under self.now).rows fails.old)
-            × (flags.new ≡ guaranteed_under self.now (operator_under self.now).precondition) }
-    {
-        self.flag_guaranteed(base, flags);
-        let closed = Closed {
-            under: *self,
-            base,
-            guaranteed: flags,
-        };
-        closed.judge_rows(marks, fails);
-    }
-
-    // The same, where the marks are those of the closure.
     fn judge_consistent(&self, marks: &mut [u8], fails: &mut [u8], flags: &mut [u8])
         requires { IsClosure self.now (operator_under self.now).precondition marks.old
             × (length fails.old ≡ row_count self.now.judged.now) × (length flags.old ≡ 2 * self.now.atoms) }
@@ -152,8 +134,14 @@ impl Under<'_> {
             × (flags.new ≡ guaranteed_under self.now (operator_under self.now).precondition) }
     {
         let mut base = propagation::marks::room();
-        propagation::marks::copy(marks, &mut base[..MOST_BYTES], self.atoms);
-        self.judge_closed(&base[..MOST_BYTES], marks, fails, flags);
+        propagation::marks::copy(marks, &mut base, self.atoms);
+        self.flag_guaranteed(&base, flags);
+        let closed = Closed {
+            under: *self,
+            base: &base,
+            guaranteed: flags,
+        };
+        closed.judge_rows(marks, fails);
     }
 }
 
@@ -204,15 +192,7 @@ pub fn judge(
     ensures { fails.new
         ≡ fail_flags atoms (clauses_of clauses.now) (operator_in block.now) (clauses_of judged.now) }
 {
-    let mut flags = literal::room::literal_flags();
-    let size = 2 * atoms;
-    judge_guaranteed(
-        clauses,
-        judged,
-        block,
-        marks,
-        atoms,
-        fails,
-        &mut flags[..size],
-    );
+    let mut room = literal::room::literal_flags();
+    let flags = &mut room[..2 * atoms];
+    judge_guaranteed(clauses, judged, block, marks, atoms, fails, flags);
 }

@@ -12,7 +12,6 @@ ghost use Rattle.judge.specs.Under.{operator_under, IsClosure, guaranteed_under}
 use super::under::Under;
 use literal::Literal;
 use propagation::Closing;
-use propagation::marks::MOST_BYTES;
 use task::block::{BlockHead, RowPart};
 
 // The complement of a row's effect.
@@ -114,7 +113,7 @@ impl Under<'_> {
         let mut work = propagation::marks::room();
         flag_marked(marks, self.atoms, flags);
         flag_effects(self.block, marks, task::block::DELETES, flags);
-        self.drop_changed(marks, &mut work[..MOST_BYTES], flags);
+        self.drop_changed(marks, &mut work, flags);
         flag_effects(self.block, marks, task::block::ADDS, flags);
     }
 }
