@@ -47,14 +47,10 @@ fn check_initial(image: &[u16], clauses: &[u16], atoms: usize) -> Verdict
 fn first_flag(flags: &[u8]) -> usize
     ensures { FirstFlag flags.now result }
 {
-    let mut i: usize = 0;
-    while i < flags.len() {
-        if flags[i] == 1 {
-            return i;
-        }
-        i += 1;
-    }
-    i
+    flags
+        .iter()
+        .position(|flag| *flag == 1)
+        .unwrap_or(flags.len())
 }
 
 // The lowest of the first clauses, one for each flag, that is not kept under an operator, or their number where all are.

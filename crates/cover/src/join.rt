@@ -12,12 +12,10 @@ fn mark_apart(clauses: &[u16], alone: &[u8], places: &[u16], a: usize, apart: &m
     requires { (Lookup clauses.now alone.now places.now a) × (Low places.now a) × (apart.old ≡ replicate most_atoms 0) }
     ensures { Apart (clauses_of clauses.now) places.now a a apart.new }
 {
-    let mut b: usize = 0;
-    while b < a {
+    for b in 0..a {
         let mutex = super::mutex::is_mutex(clauses, alone, a, b);
         let group = literal::wide(places[2 * b]);
         literal::flags::mark_if(!mutex, apart, group);
-        b += 1;
     }
 }
 
@@ -26,14 +24,10 @@ fn lowest(apart: &[u8], count: usize) -> usize
     requires { count ≤ length apart.now }
     ensures { Lowest apart.now count result }
 {
-    let mut group: usize = 0;
-    while group < count {
-        if apart[group] == 0 {
-            return group;
-        }
-        group += 1;
-    }
-    group
+    apart[..count]
+        .iter()
+        .position(|mark| *mark == 0)
+        .unwrap_or(count)
 }
 
 // The group that atom `a` joins, where the atoms below it have joined `count` groups.
@@ -57,26 +51,16 @@ fn enter(places: &mut [u16], sizes: &mut [u16], a: usize, group: usize)
     sizes[group] = size + 1;
 }
 
-// The number of groups after an atom joined one of them, or opened the next.
-fn opened(count: usize, group: usize) -> usize
-    requires { (group ≤ count) × (count < 65536) }
-    ensures { result ≡ max count (group + 1) }
-{
-    if group < count { count } else { count + 1 }
-}
-
 // Groups all atoms, and gives the number of groups.
 pub fn join_all(clauses: &[u16], alone: &[u8], places: &mut [u16], sizes: &mut [u16]) -> usize
     requires { (Known clauses.now alone.now) × (2 * length alone.now ≤ length places.old) × (sizes.old ≡ replicate most_atoms 0) }
     ensures { Grouped (clauses_of clauses.now) (length alone.now) places.new sizes.new result }
 {
-    let mut count: usize = 0;
-    let mut a: usize = 0;
-    while a < alone.len() {
+    let mut count = 0;
+    for a in 0..alone.len() {
         let group = choose(clauses, alone, places, a, count);
         enter(places, sizes, a, group);
-        count = opened(count, group);
-        a += 1;
+        count = count.max(group + 1);
     }
     count
 }

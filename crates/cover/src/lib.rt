@@ -51,13 +51,11 @@ fn domains(sizes: &[u16], none: &[u16], count: usize, target: &mut [u16], at: us
     ensures { Wrote target.old at (each (domain_by sizes.now none.now) (below count)) target.new result }
 {
     let mut to = at;
-    let mut v: usize = 0;
-    while v < count {
+    for v in 0..count {
         let one = none[v];
         target[to] = sizes[v] + one;
         target[to + 1] = one;
         to += 2;
-        v += 1;
     }
     to
 }

@@ -41,10 +41,8 @@ pub fn mark_alone(clauses: &[u16], alone: &mut [u8])
     requires { (RightRows most_atoms clauses.now) × (length alone.old ≤ most_atoms) }
     ensures { (Alone (clauses_of clauses.now) alone.new) × (length alone.new ≡ length alone.old) }
 {
-    let mut a: usize = 0;
-    while a < alone.len() {
-        alone[a] = literal::flags::byte(has_one(clauses, negative(a)));
-        a += 1;
+    for (a, mark) in alone.iter_mut().enumerate() {
+        *mark = u8::from(has_one(clauses, negative(a)));
     }
 }
 
@@ -53,11 +51,5 @@ pub fn is_mutex(clauses: &[u16], alone: &[u8], a: usize, b: usize) -> bool
     requires { (Known clauses.now alone.now) × (a < length alone.now) × (b < a) }
     ensures { result ≡ mutex (clauses_of clauses.now) a b }
 {
-    if alone[a] == 1 {
-        return true;
-    }
-    if alone[b] == 1 {
-        return true;
-    }
-    has_two(clauses, negative(b), negative(a))
+    alone[a] == 1 || alone[b] == 1 || has_two(clauses, negative(b), negative(a))
 }

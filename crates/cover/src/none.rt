@@ -13,11 +13,7 @@ fn is_in(places: &[u16], group: usize, l: Literal) -> bool
     requires { l.code < length places.now }
     ensures { result ≡ in_group places.now group l.code }
 {
-    if !l.is_positive() {
-        return false;
-    }
-    let i = l.index();
-    literal::wide(places[i]) == group
+    l.is_positive() && literal::wide(places[l.index()]) == group
 }
 
 // Whether all literals are positive, with their atoms in a group.
@@ -25,15 +21,9 @@ fn lies_in(literals: &[u16], places: &[u16], group: usize) -> bool
     requires { all_below (length places.now) literals.now ≡ true }
     ensures { result ≡ lies_in places.now group literals.now }
 {
-    let mut i: usize = 0;
-    while i < literals.len() {
-        let l = literals[i];
-        if !is_in(places, group, Literal { code: l }) {
-            return false;
-        }
-        i += 1;
-    }
-    true
+    literals
+        .iter()
+        .all(|l| is_in(places, group, Literal { code: *l }))
 }
 
 // Omits none of the group in which all atoms of a clause of positive literals lie, if there is one.

@@ -2,16 +2,14 @@
 use mathlib.Core.Path.{◌≡◌, sym, subst}
 use mathlib.Core.Bool.{true, false}
 use mathlib.Core.List.{List, ◌++◌, Memᴰ}
-use Prim.Native.Nat.{ℕ, ◌*◌, ◌≤◌, ◌<◌}
-use lib.ListN.{length}
+use Prim.Native.Nat.{ℕ, ◌*◌, ◌<◌}
 use Rattle.definitions.specs.Closure.{closure, contradictory}
 use Rattle.definitions.specs.Kept.{all_in}
-use Rattle.definitions.specs.Marks.{mark_bytes}
 use Rattle.clause.specs.Rows.{clauses_of, ClausesRead}
 use Rattle.clause.proofs.ReadLaws.{read_right}
 use Rattle.clause.proofs.ClauseLaws.{clause_below}
 use Rattle.propagation.specs.Marks.{Marked, ConsistentMarks}
-use Rattle.propagation.proofs.MarkedSets.{consistent_by, marked_room}
+use Rattle.propagation.proofs.MarkedSets.{consistent_by}
 use Rattle.judge.specs.Judging.{can_fire}
 use Rattle.judge.specs.Promise.{ConsistentClosure}
 use Rattle.judge.proofs.Firing.{closure_held, held_fires}
@@ -66,6 +64,3 @@ pub consistent_copied :
     ℕ) (ms ms' : List ℕ) → ConsistentMarks atoms ms → ((S : List ℕ) → Marked atoms ms S
     → Marked atoms ms' S) → ConsistentMarks atoms ms'
 consistent_copied atoms ms ms' c copied = consistent_by atoms ms' c.set (copied c.set c.marked) c.consistent
-
-pub consistent_room : (atoms : ℕ) (ms : List ℕ) → ConsistentMarks atoms ms → mark_bytes atoms ≤ length ms
-consistent_room atoms ms c = marked_room atoms ms c.set c.marked

@@ -1,4 +1,3 @@
-pub mod Parts
 pub mod Closures
 pub mod BlockRows
 pub mod Guaranteed
@@ -7,3 +6,4 @@ pub mod Violations
 pub mod Flagged
 pub mod RowWalk
 pub mod Keeping
+pub mod Parts

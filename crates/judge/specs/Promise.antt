@@ -38,13 +38,6 @@ pub record ConsistentClosure (atoms : ℕ) (ws ls ms : List ℕ) : Type 0 where
   pub consistent : contradictory atoms (closure atoms (clauses_of ws) ls) ≡ false
   pub marked : Marked atoms ms (closure atoms (clauses_of ws) ls)
 
--- the same, where the closure of the clauses and the precondition is in the marks
-pub record ClosedGiven (atoms : ℕ) (ws js b marks fails : List ℕ) : Type 0 where
-  pub given : Given atoms ws b
-  pub judged : Judged atoms js
-  pub closed : ConsistentClosure atoms ws (operator_in b).precondition marks
-  pub flagged : length fails ≡ row_count js
-
 -- the flags are those of the literals that the operator guarantees, of whatever literals the marks are the closure
 abbrev pub FlagsGuaranteed : ℕ → List ℕ → List ℕ → List ℕ → List ℕ → Type 0
 FlagsGuaranteed atoms ws b marks flags =

@@ -7,38 +7,31 @@ ghost use Rattle.definitions.specs.Closure.{has};
 ghost use Rattle.definitions.specs.Clauses.{clause_of};
 ghost use Rattle.definitions.specs.Marks.{mark_bytes};
 ghost use Rattle.clause.specs.Rows.{row_count, clauses_of};
-ghost use Rattle.judge.specs.Judging.{lacks_flag, flag_more, guaranteed_flags, violates, some_violates, fail_flags, Guarantees};
-ghost use Rattle.judge.specs.Promise.{Given, BulkGiven, ConsistentClosure, ClosedGiven, FlagsGuaranteed};
+ghost use Rattle.judge.specs.Judging.{lacks_flag, flag_more, fail_flags, Guarantees};
+ghost use Rattle.judge.specs.Promise.{BulkGiven};
+ghost use Rattle.judge.specs.Under.{operator_under, IsClosure, guaranteed_under, flag_by_row, flag_by_rows};
 ghost use Rattle.propagation.specs.Marks.{Asked, ConsistentMarks};
 ghost use Rattle.task.specs.Walk.{row, operator_in};
 
+use super::under::{Closed, Under};
 use clause::place::RowPlace;
 use propagation::Closing;
-use propagation::marks::MOST_BYTES;
 use task::block::{BlockHead, RowPart};
 
 // Whether some literal of a list has its flag.
 fn some_flagged(literals: &[u16], flags: &[u8]) -> bool
     ensures { result ≡ any (has flags.now) literals.now }
 {
-    let mut i: usize = 0;
-    while i < literals.len() {
-        if literal::flags::has(flags, literal::wide(literals[i])) {
-            return true;
-        }
-        i += 1;
-    }
-    false
+    literals
+        .iter()
+        .any(|l| literal::flags::has(flags, literal::wide(*l)))
 }
 
 // Whether the clause of a row holds `l` and no literal that has its flag.
 fn lacks_flag(row: &[u16], l: u16, flags: &[u8]) -> bool
     ensures { result ≡ lacks_flag l flags.now (clause_of row.now) }
 {
-    if !clause::has_literal(row, l) {
-        return false;
-    }
-    !some_flagged(clause::literals(row), flags)
+    clause::has_literal(row, l) && !some_flagged(clause::literals(row), flags)
 }
 
 // Whether some judged clause holds `l`.
@@ -72,166 +65,84 @@ fn flag_lacking(judged: &[u16], l: u16, flags: &[u8], fails: &mut [u8])
     }
 }
 
-// Flags the judged clauses that hold `l` and no literal that the operator guarantees, where the marks are those of a closure.
-fn flag_violated(
-    clauses: &[u16],
-    judged: &[u16],
-    block: &[u16],
-    l: u16,
-    marks: &[u8],
-    atoms: usize,
-    fails: &mut [u8],
-)
-    requires { Given atoms clauses.now block.now × ConsistentMarks atoms marks.now × (length fails.old ≡ row_count judged.now) }
-    ensures { (ls : List ℕ) → ConsistentClosure atoms clauses.now ls marks.now → fails.new
-        ≡ flag_more (lacks_flag l (guaranteed_flags atoms (clauses_of clauses.now) (operator_in block.now) ls))
-        (clauses_of judged.now) fails.old }
-{
-    let mut flags = literal::room::literal_flags();
-    let size = 2 * atoms;
-    super::guarantee::flag_guaranteed(clauses, block, marks, atoms, &mut flags[..size]);
-    flag_lacking(judged, l, &flags[..size], fails);
-}
-
-// Flags the judged clauses that a row of the block with these conditions violates, where `l` is the complement of its effect and
-// `base` has the marks of the clauses' and the precondition's closure and `flags` the literals guaranteed by it. Conditions that are
-// marked add nothing to that closure. Since the row can fire, `l` itself is guaranteed only if an add row of it surely fires.
-fn judge_row(
-    clauses: &[u16],
-    judged: &[u16],
-    block: &[u16],
-    conditions: &[u16],
-    l: u16,
-    base: &[u8],
-    flags: &[u8],
-    marks: &mut [u8],
-    atoms: usize,
-    fails: &mut [u8],
-)
-    requires { ClosedGiven atoms clauses.now judged.now block.now base.now fails.old
-        × Asked atoms clauses.now conditions.now marks.old
-        × FlagsGuaranteed atoms clauses.now block.now base.now flags.now }
-    ensures { (e : ℕ) → l ≡ complement e
-        → Memᴰ (row e conditions.now) (operator_in block.now).rows → fails.new
-        ≡ flag_more
-        (violates atoms (clauses_of clauses.now) (operator_in block.now) (row e conditions.now))
-        (clauses_of judged.now) fails.old }
-{
-    if propagation::marks::holds_all(base, conditions) {
-        flag_lacking(judged, l, flags, fails);
-        return;
-    }
-    propagation::marks::copy(base, marks, atoms);
-    let closed = propagation::extend(clauses, conditions, marks, atoms);
-    match closed {
-        Closing::Contradictory => {}
-        Closing::Consistent => {
-            flag_violated(clauses, judged, block, l, marks, atoms, fails);
+impl Closed<'_> {
+    // Flags the judged clauses that a row with these conditions violates, where `l` is the complement of its effect. Conditions that
+    // are marked add nothing to the closure. Since the row can fire, `l` itself is guaranteed only if an add row of it surely fires.
+    fn judge_row(&self, conditions: &[u16], l: u16, marks: &mut [u8], fails: &mut [u8])
+        requires { Asked self.now.under.atoms self.now.under.clauses.now conditions.now marks.old
+            × (length fails.old ≡ row_count self.now.under.judged.now) }
+        ensures { (e : ℕ) → l ≡ complement e → Memᴰ (row e conditions.now) (operator_under self.now.under).rows → fails.new
+            ≡ flag_by_row self.now.under (row e conditions.now) fails.old }
+    {
+        let under = &self.under;
+        if propagation::marks::holds_all(self.base, conditions) {
+            flag_lacking(under.judged, l, self.guaranteed, fails);
+            return;
         }
-    }
-}
-
-// Flags the judged clauses that some row violates, where `base` has the marks of the clauses' and the precondition's closure and
-// `flags` the literals guaranteed by it.
-fn judge_rows(
-    clauses: &[u16],
-    judged: &[u16],
-    block: &[u16],
-    base: &[u8],
-    flags: &[u8],
-    marks: &mut [u8],
-    atoms: usize,
-    fails: &mut [u8],
-)
-    requires { ClosedGiven atoms clauses.now judged.now block.now base.now fails.old
-        × FlagsGuaranteed atoms clauses.now block.now base.now flags.now × (mark_bytes atoms ≤ length marks.old) }
-    ensures { fails.new
-        ≡ flag_more
-        (some_violates atoms (clauses_of clauses.now) (operator_in block.now) (operator_in block.now).rows)
-        (clauses_of judged.now) fails.old }
-{
-    let BlockHead { end, rows } = task::block::head(block);
-    let mut at = end + 1;
-    let mut left = rows;
-    while 0 < left {
-        let RowPart { effect, from, end } = task::block::row(block, at, left);
-        at = end;
-        left -= 1;
-        let l = super::guarantee::complement(effect);
-        if !some_holds(judged, l) {
-            continue;
-        }
-        judge_row(
-            clauses,
-            judged,
-            block,
-            &block[from..end],
-            l,
-            base,
-            flags,
+        propagation::marks::copy(self.base, marks, under.atoms);
+        if let Closing::Consistent = propagation::extend(
+            under.clauses,
+            conditions,
             marks,
-            atoms,
-            fails,
-        );
+            under.atoms,
+        ) {
+            under.flag_violated(l, marks, fails);
+        }
+    }
+
+    // Flags the judged clauses that some row violates.
+    fn judge_rows(&self, marks: &mut [u8], fails: &mut [u8])
+        requires { (mark_bytes self.now.under.atoms ≤ length marks.old) × (length fails.old ≡ row_count self.now.under.judged.now) }
+        ensures { fails.new ≡ flag_by_rows self.now.under (operator_under self.now.under).rows fails.old }
+    {
+        let Under { judged, block, .. } = self.under;
+        let BlockHead { end, rows } = task::block::head(block);
+        let mut at = end + 1;
+        let mut left = rows;
+        while 0 < left {
+            let RowPart { effect, from, end } = task::block::row(block, at, left);
+            at = end;
+            left -= 1;
+            let l = super::guarantee::complement(effect);
+            if !some_holds(judged, l) {
+                continue;
+            }
+            self.judge_row(&block[from..end], l, marks, fails);
+        }
     }
 }
 
-// Flags the judged clauses that some row violates, and the literals that the operator guarantees, where `base` has the marks of the
-// clauses' and the precondition's closure.
-fn judge_closed(
-    clauses: &[u16],
-    judged: &[u16],
-    block: &[u16],
-    base: &[u8],
-    marks: &mut [u8],
-    atoms: usize,
-    fails: &mut [u8],
-    flags: &mut [u8],
-)
-    requires { ClosedGiven atoms clauses.now judged.now block.now base.now fails.old × (mark_bytes atoms ≤ length marks.old)
-        × (length flags.old ≡ 2 * atoms) }
-    ensures { (fails.new
-        ≡ flag_more
-        (some_violates atoms (clauses_of clauses.now) (operator_in block.now) (operator_in block.now).rows)
-        (clauses_of judged.now) fails.old)
-        × (flags.new
-        ≡ guaranteed_flags atoms (clauses_of clauses.now) (operator_in block.now) (operator_in block.now).precondition) }
-{
-    super::guarantee::flag_guaranteed(clauses, block, base, atoms, flags);
-    judge_rows(clauses, judged, block, base, flags, marks, atoms, fails);
-}
+impl Under<'_> {
+    // Flags the judged clauses that hold `l` and no literal that the operator guarantees, where the marks are those of a closure.
+    fn flag_violated(&self, l: u16, marks: &[u8], fails: &mut [u8])
+        requires { ConsistentMarks self.now.atoms marks.now × (length fails.old ≡ row_count self.now.judged.now) }
+        ensures { (ls : List ℕ) → IsClosure self.now ls marks.now → fails.new
+            ≡ flag_more (lacks_flag l (guaranteed_under self.now ls)) (clauses_of self.now.judged.now) fails.old }
+    {
+        let mut room = literal::room::literal_flags();
+        let flags = &mut room[..2 * self.atoms];
+        self.flag_guaranteed(marks, flags);
+        flag_lacking(self.judged, l, flags, fails);
+    }
 
-// Flags the judged clauses that some row violates, and the literals that the operator guarantees, where the marks are those of the
-// clauses' and the precondition's closure.
-fn judge_consistent(
-    clauses: &[u16],
-    judged: &[u16],
-    block: &[u16],
-    marks: &mut [u8],
-    atoms: usize,
-    fails: &mut [u8],
-    flags: &mut [u8],
-)
-    requires { ClosedGiven atoms clauses.now judged.now block.now marks.old fails.old × (length flags.old ≡ 2 * atoms) }
-    ensures { (fails.new
-        ≡ flag_more
-        (some_violates atoms (clauses_of clauses.now) (operator_in block.now) (operator_in block.now).rows)
-        (clauses_of judged.now) fails.old)
-        × (flags.new
-        ≡ guaranteed_flags atoms (clauses_of clauses.now) (operator_in block.now) (operator_in block.now).precondition) }
-{
-    let mut base = propagation::marks::room();
-    propagation::marks::copy(marks, &mut base[..MOST_BYTES], atoms);
-    judge_closed(
-        clauses,
-        judged,
-        block,
-        &base[..MOST_BYTES],
-        marks,
-        atoms,
-        fails,
-        flags,
-    );
+    // Flags the judged clauses that some row violates, and the literals that the operator guarantees, where the marks are those of the
+    // clauses' and the precondition's closure.
+    fn judge_consistent(&self, marks: &mut [u8], fails: &mut [u8], flags: &mut [u8])
+        requires { IsClosure self.now (operator_under self.now).precondition marks.old
+            × (length fails.old ≡ row_count self.now.judged.now) × (length flags.old ≡ 2 * self.now.atoms) }
+        ensures { (fails.new ≡ flag_by_rows self.now (operator_under self.now).rows fails.old)
+            × (flags.new ≡ guaranteed_under self.now (operator_under self.now).precondition) }
+    {
+        let mut base = propagation::marks::room();
+        propagation::marks::copy(marks, &mut base, self.atoms);
+        self.flag_guaranteed(&base, flags);
+        let closed = Closed {
+            under: *self,
+            base: &base,
+            guaranteed: flags,
+        };
+        closed.judge_rows(marks, fails);
+    }
 }
 
 // Flags the judged clauses that the clauses do not keep under the operator of a block, and the literals that it guarantees. It
@@ -252,13 +163,17 @@ pub fn judge_guaranteed(
         × Guarantees atoms (clauses_of clauses.now) (operator_in block.now) flags.new result }
 {
     literal::flags::clear(fails);
-    let head = task::block::head(block);
-    let end = head.end;
-    let closed = propagation::close(clauses, &block[1..end], marks, atoms);
-    match closed {
+    let BlockHead { end, .. } = task::block::head(block);
+    match propagation::close(clauses, &block[1..end], marks, atoms) {
         Closing::Contradictory => false,
         Closing::Consistent => {
-            judge_consistent(clauses, judged, block, marks, atoms, fails, flags);
+            let under = Under {
+                clauses,
+                judged,
+                block,
+                atoms,
+            };
+            under.judge_consistent(marks, fails, flags);
             true
         }
     }
@@ -277,15 +192,7 @@ pub fn judge(
     ensures { fails.new
         ≡ fail_flags atoms (clauses_of clauses.now) (operator_in block.now) (clauses_of judged.now) }
 {
-    let mut flags = literal::room::literal_flags();
-    let size = 2 * atoms;
-    judge_guaranteed(
-        clauses,
-        judged,
-        block,
-        marks,
-        atoms,
-        fails,
-        &mut flags[..size],
-    );
+    let mut room = literal::room::literal_flags();
+    let flags = &mut room[..2 * atoms];
+    judge_guaranteed(clauses, judged, block, marks, atoms, fails, flags);
 }

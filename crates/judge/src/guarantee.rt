@@ -6,12 +6,12 @@ ghost use Rattle.definitions.specs.Marks.{mark_bytes};
 ghost use Rattle.clause.specs.Rows.{clauses_of};
 ghost use Rattle.task.specs.Walk.{block_parses, operator_in};
 ghost use Rattle.propagation.specs.Marks.{Marked, ConsistentMarks, Asked};
-ghost use Rattle.judge.specs.Promise.{Given, ConsistentClosure, FlagsGuaranteed};
 ghost use Rattle.judge.specs.Judging.{flags_of, can_fire, flag_effects, drop_changed};
+ghost use Rattle.judge.specs.Under.{operator_under, IsClosure, guaranteed_under};
 
+use super::under::Under;
 use literal::Literal;
 use propagation::Closing;
-use propagation::marks::MOST_BYTES;
 use task::block::{BlockHead, RowPart};
 
 // The complement of a row's effect.
@@ -19,9 +19,9 @@ pub fn complement(effect: usize) -> u16
     requires { effect < 65535 }
     ensures { result ≡ complement effect }
 {
-    (Literal {
+    Literal {
         code: effect as u16,
-    })
+    }
     .complement()
     .code
 }
@@ -31,65 +31,8 @@ fn flag_marked(marks: &[u8], atoms: usize, flags: &mut [u8])
     requires { (atoms ≤ most_atoms) × (length flags.old ≡ 2 * atoms) }
     ensures { (K : List ℕ) → Marked atoms marks.now K → flags.new ≡ flags_of atoms K }
 {
-    let end = 2 * atoms;
-    let mut l: usize = 0;
-    while l < end {
-        flags[l] = literal::flags::byte(propagation::marks::holds(marks, l));
-        l += 1;
-    }
-}
-
-// Whether a row with these conditions can fire, where the marks are those of a closure.
-fn can_fire(
-    clauses: &[u16],
-    conditions: &[u16],
-    marks: &[u8],
-    atoms: usize,
-    work: &mut [u8],
-) -> bool
-    requires { Asked atoms clauses.now conditions.now work.old × ConsistentMarks atoms marks.now }
-    ensures { (ls : List ℕ) → ConsistentClosure atoms clauses.now ls marks.now → result
-        ≡ can_fire atoms (clauses_of clauses.now) ls conditions.now }
-{
-    if propagation::marks::holds_all(marks, conditions) {
-        return true;
-    }
-    propagation::marks::copy(marks, work, atoms);
-    let closed = propagation::extend(clauses, conditions, work, atoms);
-    match closed {
-        Closing::Consistent => true,
-        Closing::Contradictory => false,
-    }
-}
-
-// Takes their flags from the complements of the effects of the rows that can fire.
-fn drop_changed(
-    clauses: &[u16],
-    block: &[u16],
-    marks: &[u8],
-    atoms: usize,
-    work: &mut [u8],
-    flags: &mut [u8],
-)
-    requires { Given atoms clauses.now block.now × ConsistentMarks atoms marks.now × (mark_bytes atoms ≤ length work.old) }
-    ensures { (ls : List ℕ) → ConsistentClosure atoms clauses.now ls marks.now → flags.new
-        ≡ drop_changed atoms (clauses_of clauses.now) ls (operator_in block.now).rows flags.old }
-{
-    let BlockHead { end, rows } = task::block::head(block);
-    let mut at = end + 1;
-    let mut left = rows;
-    while 0 < left {
-        let RowPart { effect, from, end } = task::block::row(block, at, left);
-        at = end;
-        left -= 1;
-        let l = literal::wide(complement(effect));
-        if literal::flags::is_zero(flags, l) {
-            continue;
-        }
-        if !can_fire(clauses, &block[from..end], marks, atoms, work) {
-            continue;
-        }
-        literal::flags::put(flags, l, 0);
+    for (l, flag) in flags.iter_mut().enumerate() {
+        *flag = u8::from(propagation::marks::holds(marks, l));
     }
 }
 
@@ -120,15 +63,57 @@ fn flag_effects(block: &[u16], marks: &[u8], adds: bool, flags: &mut [u8])
     }
 }
 
-// Flags the literals that an operator guarantees, where the marks are those of the closure of the clauses and literals that hold before it.
-// A delete that surely fires makes its literal true only if no add row of the atom can fire; an add does so whatever is deleted.
-pub fn flag_guaranteed(clauses: &[u16], block: &[u16], marks: &[u8], atoms: usize, flags: &mut [u8])
-    requires { Given atoms clauses.now block.now × ConsistentMarks atoms marks.now × (length flags.old ≡ 2 * atoms) }
-    ensures { FlagsGuaranteed atoms clauses.now block.now marks.now flags.new }
-{
-    let mut work = propagation::marks::room();
-    flag_marked(marks, atoms, flags);
-    flag_effects(block, marks, task::block::DELETES, flags);
-    drop_changed(clauses, block, marks, atoms, &mut work[..MOST_BYTES], flags);
-    flag_effects(block, marks, task::block::ADDS, flags);
+impl Under<'_> {
+    // Whether a row with these conditions can fire, where the marks are those of a closure.
+    fn can_fire(&self, conditions: &[u16], marks: &[u8], work: &mut [u8]) -> bool
+        requires { Asked self.now.atoms self.now.clauses.now conditions.now work.old × ConsistentMarks self.now.atoms marks.now }
+        ensures { (ls : List ℕ) → IsClosure self.now ls marks.now → result ≡ can_fire self.now.atoms (clauses_of self.now.clauses.now) ls conditions.now }
+    {
+        if propagation::marks::holds_all(marks, conditions) {
+            return true;
+        }
+        propagation::marks::copy(marks, work, self.atoms);
+        matches!(
+            propagation::extend(self.clauses, conditions, work, self.atoms),
+            Closing::Consistent
+        )
+    }
+
+    // Takes their flags from the complements of the effects of the rows that can fire.
+    fn drop_changed(&self, marks: &[u8], work: &mut [u8], flags: &mut [u8])
+        requires { ConsistentMarks self.now.atoms marks.now × (mark_bytes self.now.atoms ≤ length work.old) }
+        ensures { (ls : List ℕ) → IsClosure self.now ls marks.now → flags.new
+            ≡ drop_changed self.now.atoms (clauses_of self.now.clauses.now) ls (operator_under self.now).rows flags.old }
+    {
+        let BlockHead { end, rows } = task::block::head(self.block);
+        let mut at = end + 1;
+        let mut left = rows;
+        while 0 < left {
+            let RowPart { effect, from, end } = task::block::row(self.block, at, left);
+            at = end;
+            left -= 1;
+            let l = literal::wide(complement(effect));
+            if literal::flags::is_zero(flags, l) {
+                continue;
+            }
+            if !self.can_fire(&self.block[from..end], marks, work) {
+                continue;
+            }
+            literal::flags::put(flags, l, 0);
+        }
+    }
+
+    // Flags the literals that the operator guarantees, where the marks are those of the closure of the clauses and literals that hold
+    // before it. A delete that surely fires makes its literal true only if no add row of the atom can fire; an add does so whatever is
+    // deleted.
+    pub fn flag_guaranteed(&self, marks: &[u8], flags: &mut [u8])
+        requires { ConsistentMarks self.now.atoms marks.now × (length flags.old ≡ 2 * self.now.atoms) }
+        ensures { (ls : List ℕ) → IsClosure self.now ls marks.now → flags.new ≡ guaranteed_under self.now ls }
+    {
+        let mut work = propagation::marks::room();
+        flag_marked(marks, self.atoms, flags);
+        flag_effects(self.block, marks, task::block::DELETES, flags);
+        self.drop_changed(marks, &mut work, flags);
+        flag_effects(self.block, marks, task::block::ADDS, flags);
+    }
 }

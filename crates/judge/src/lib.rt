@@ -10,6 +10,7 @@ use answer::{Refusal, Tested, Verdict};
 
 pub mod bulk; // bulk.rt: all judged clauses under one operator
 pub mod guarantee; // guarantee.rt: the literals that an operator guarantees
+mod under; // under.rt: what judging under one operator is given
 
 // Room for the flag of one clause.
 fn one() -> [u8; 1]

@@ -4,3 +4,4 @@ pub mod Mark
 pub mod Sign
 pub mod State
 pub mod Truth
+pub mod Bits

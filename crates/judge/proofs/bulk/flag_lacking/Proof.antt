@@ -4,7 +4,6 @@ use mathlib.Core.Path.{◌≡◌, refl, sym, ◌∙◌}
 use mathlib.Core.List.{List, [], ◌++◌}
 use native.Mathlib.Omega.{arith}
 use lib.ListN.{length, get_or, take, drop, length-set}
-use borrow.Author.Tests.{not-true, not-false}
 use Rattle.definitions.specs.Clauses.{clause_of}
 use Rattle.clause.specs.Rows.{row_count, clauses_of}
 use Rattle.clause.specs.Place.{Placed, AtRow}

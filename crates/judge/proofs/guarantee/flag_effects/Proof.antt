@@ -5,7 +5,6 @@ use mathlib.Core.Bool.{true}
 use mathlib.Core.List.{List}
 use native.Mathlib.Omega.{arith}
 use lib.ListN.{length}
-use borrow.Author.Tests.{not-true, not-false}
 use Rattle.definitions.specs.Image.{operator_right}
 use Rattle.task.specs.Walk.{operator_in, parses_at, rows_at}
 use Rattle.task.proofs.Blocks.{rows_none}
