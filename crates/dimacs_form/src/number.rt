@@ -56,8 +56,7 @@ fn read_digits(word: &[u8]) -> Option<usize>
 fn signed(minus: bool, digits: Option<usize>, next: usize) -> Option<Number>
     ensures { result ≡ signed_of minus digits next }
 {
-    let size = digits?;
-    Some(Number { minus, size, next })
+    digits.map(|size| Number { minus, size, next })
 }
 
 // Whether a word is 0.
