@@ -32,7 +32,7 @@ fn with_digit(size: usize, b: u8) -> usize
 fn begins(word: &[u8]) -> bool
     ensures { result ≡ begins word.now }
 {
-    matches!(word, [b'1'..=b'9', ..])
+    !word.is_empty() && (b'1'..=b'9').contains(&word[0])
 }
 
 // The size of digits, if a word is digits, the first of them not 0.
