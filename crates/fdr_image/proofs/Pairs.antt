@@ -2,7 +2,7 @@
 use mathlib.Core.Path.{◌≡◌, refl}
 use mathlib.Core.List.{List, [], ◌∷◌}
 use mathlib.Core.Bool.{Bool, true, false}
-use Prim.Native.Nat.{ℕ, zero, suc, ◌+◌, ◌-◌, ◌*◌, ◌/◌, ◌≤◌, ◌<◌}
+use Prim.Native.Nat.{ℕ, zero, suc, ◌+◌, ◌*◌, ◌/◌, ◌≤◌, ◌<◌}
 use native.Mathlib.Omega.{arith}
 use lib.ListN.{length, get_or, drop}
 use Rattle.definitions.specs.Lists.{all}
@@ -79,19 +79,6 @@ module _ (w : List ℕ) (i : ℕ) (inside : i < length (places_in w)) where
   place_value = rw (places_at w i (place 0 0) (omega (arith, places_length w)))
 
 -- ---- the walks
-module _ (p : Place → Bool) (w : List ℕ) (i x y : ℕ) (inside : i < length w / 2) (ex : x ≡ get_or w (2 * i) 0) (ey : y ≡ get_or w (2 * i + 1) 0) where
-  pub places_off : p (place x y) ≡ false → all p (drop i (places_in w)) ≡ false
-  unfolding places_in
-  places_off = pairs_off places_in place refl (λ x. refl) (λ x y xs. refl) p w i x y inside ex ey
-
-  pub places_on : p (place x y) ≡ true → all p (drop i (places_in w)) ≡ all p (drop (i + 1) (places_in w))
-  unfolding places_in
-  places_on = pairs_on places_in place refl (λ x. refl) (λ x y xs. refl) p w i x y inside ex ey
-
-pub places_end : (p : Place → Bool) (w : List ℕ) (i : ℕ) → length w / 2 ≤ i → all p (drop i (places_in w)) ≡ true
-unfolding places_in
-places_end = pairs_end places_in place refl (λ x. refl) (λ x y xs. refl)
-
 module _ (p : FdrLiteral → Bool) (w : List ℕ) (i x y : ℕ) (inside : i < length w / 2) (ex : x ≡ get_or w (2 * i) 0) (ey : y ≡ get_or w (2 * i + 1) 0) where
   pub literals_off : p (literal x y) ≡ false → all p (drop i (literals_in w)) ≡ false
   unfolding literals_in
