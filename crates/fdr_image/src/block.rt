@@ -9,27 +9,16 @@ ghost use Rattle.fdr_image.specs.Post.{RowAt, RowRead, BlockRead};
 pub enum Kind {
     Set,
     Clear,
-    Other,
 }
 
-pub fn kind_of(word: u16) -> Kind
+// The kind that a word stands for, if any.
+pub fn kind_of(word: u16) -> Option<Kind>
     ensures { result ≡ kind_of word }
 {
     match word {
-        0 => Kind::Set,
-        1 => Kind::Clear,
-        _ => Kind::Other,
-    }
-}
-
-fn is_kind(word: u16) -> bool
-    ensures { result ≡ leb word 1 }
-{
-    let kind = kind_of(word);
-    match kind {
-        Kind::Set => true,
-        Kind::Clear => true,
-        Kind::Other => false,
+        0 => Some(Kind::Set),
+        1 => Some(Kind::Clear),
+        _ => None,
     }
 }
 
@@ -37,7 +26,7 @@ fn is_kind(word: u16) -> bool
 fn is_row(domains: &[u16], kind: u16, variable: usize, value: usize, conditions: &[u16]) -> bool
     ensures { result ≡ fdr_row_right (domains_in domains.now) (row kind variable value (literals_in conditions.now)) }
 {
-    is_kind(kind)
+    kind_of(kind).is_some()
         && super::domain::is_atom_value(domains, variable, value)
         && super::domain::are_literals(domains, conditions)
 }

@@ -1,4 +1,5 @@
 use mathlib.Core.Path.{sym, ◌∙◌}
+use borrow.Author.Tests.{not-true, not-false}
 use Rattle.fdr_image.proofs.Reading.{read_fine, read_17}
 use borrow.Author.Rules.{rules}
 use Rattle.fdr_image.proofs.read.Statement.{statement}
