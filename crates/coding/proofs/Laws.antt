@@ -1,22 +1,23 @@
 -- Laws of the walks: the true values that are noted, and the tables that are written. Assumes nothing.
 use mathlib.Core.Path.{◌≡◌, refl, sym, ap, ◌∙◌}
 use mathlib.Core.List.{List, [], ◌∷◌, ◌++◌, map, append-nil}
-use mathlib.Core.Bool.{Bool, true, false, ◌&&◌}
+use mathlib.Core.Bool.{Bool, true, false, cond, ◌&&◌}
 use Prim.Native.Nat.{ℕ, zero, suc, ◌+◌, ◌-◌, ◌≤◌, ◌<◌}
 use native.Mathlib.Numerals.{add-one}
 use native.Mathlib.Omega.{arith}
+use mir.Val.{bool_byte}
 use lib.Dec.{eqb}
 use lib.ListN.{length, get_or, drop, set, length-set, length-map, length-replicate, drop_of_length-le}
 use lib.Seq.{get_or-set_same, get_or-set_other, ext_get_or}
 use borrow.Author.Tests.{eq-eqb, ne_eqb, eqb-true, eqb-false}
 use Rattle.definitions.specs.Literal.{most_atoms}
-use Rattle.definitions.specs.Lists.{all, range, below}
+use Rattle.definitions.specs.Lists.{all, below}
 use Rattle.definitions.specs.Groups.{Place}
 use Rattle.definitions.specs.Fdr.{FdrTask, domain_at}
 use Rattle.definitions.specs.Coding.{to_atoms, true_values, codable, value_from}
 use Rattle.definitions.proofs.ListLaws.{never, all_at, table_at, table_length}
 use Rattle.definitions.proofs.ListLaws.{get_or_map_low}
-use Rattle.definitions.proofs.Walks.{left_here, below_left, below_in, zero_at}
+use Rattle.definitions.proofs.Walks.{left_here, below_in, zero_at}
 use Rattle.fdr_image.specs.Walk.{place}
 use Rattle.coding.specs.Found.{none_found, values_of, with_atom, codable_at, value_at, byte_of}
 use Rattle.coding.specs.Post.{Noted, Found}
@@ -25,22 +26,11 @@ use Rattle.coding.specs.Post.{Noted, Found}
 pub record Written (f : ℕ → ℕ) (xs : List ℕ) (i : ℕ) : Type 0 where
   pub at : (k : ℕ) → k < i → get_or xs k 0 ≡ f k
 
-module _ {f : ℕ → ℕ} {xs : List ℕ} where
-  pub written_none : Written f xs 0
-  written_none = record { at = λ k h. absurd (omega arith) }
-
-  module _ (i : ℕ) (w : Written f xs i) where
-    pub written_on : (x : ℕ) → i < length xs → x ≡ f i → Written f (set xs i x) (i + 1)
-    written_on x low e = record { at = λ k h. go k h (eqb k i) refl }
-      where
-        go : (k : ℕ) → k < i + 1 → (b : Bool) → eqb k i ≡ b → get_or (set xs i x) k 0 ≡ f k
-        go k h true p = rw (eqb-true k i p) (get_or-set_same xs i x 0 low ∙ e)
-        go k h false p = let q = eqb-false k i p in get_or-set_other xs i k x 0 q ∙ w.at k (omega arith)
-
-    pub written_all : (n : ℕ) → length xs ≤ i → length xs ≡ n → xs ≡ map f (below n)
-    written_all n past size =
-        ext_get_or 0 xs (map f (below n)) (size ∙ sym (table_length f n))
-        (λ k h. w.at k (omega arith) ∙ sym (table_at f n k (omega arith)))
+module _ {f : ℕ → ℕ} {xs : List ℕ} (i : ℕ) (w : Written f xs i) where
+  pub written_all : (n : ℕ) → length xs ≤ i → length xs ≡ n → xs ≡ map f (below n)
+  written_all n past size =
+      ext_get_or 0 xs (map f (below n)) (size ∙ sym (table_length f n))
+      (λ k h. w.at k (omega arith) ∙ sym (table_at f n k (omega arith)))
 
 -- ---- atoms coded back
 abbrev pub atom_at : FdrTask → List ℕ → ℕ → ℕ
@@ -56,14 +46,14 @@ atoms_are t s =
     let low : k < n = omega (arith, table_length (atom_at t s) n) in
     table_at (atom_at t s) n k low ∙ sym (get_or_map_low (byte_of s) t.atoms k (place 0 0) 0 low))
 
-module _ (s : List ℕ) (p : Place) (v x y : ℕ) (ev : v ≡ p.variable) (ex : x ≡ p.value) (ey : y ≡ get_or s v 0) where
-  pub byte_yes : y ≡ x → 1 ≡ byte_of s p
-  unfolding byte_of
-  byte_yes h = rw (← ev, ← ex, ← ey, eq-eqb y x h)
-
-  pub byte_no : (y ≡ x → ⊥) → 0 ≡ byte_of s p
-  unfolding byte_of
-  byte_no h = rw (← ev, ← ex, ← ey, ne_eqb y x h)
+pub byte_tested :
+    (s : List ℕ) (p : Place) (v x y : ℕ) → v ≡ p.variable → x ≡ p.value → y ≡ get_or s v 0 → bool_byte (eqb y x) ≡ byte_of s p
+unfolding byte_of
+byte_tested s p v x y ev ex ey = rw (ey, ev, ex) (go (eqb (get_or s p.variable 0) p.value))
+  where
+    go : (b : Bool) → bool_byte b ≡ cond b 1 0
+    go true = refl
+    go false = refl
 
 -- ---- one atom
 module _ (u v x b : ℕ) (xs : List ℕ) where
@@ -238,9 +228,6 @@ codable_by t m v = codable_at t (get_or m v 0) v
 
 abbrev pub value_by : FdrTask → List ℕ → ℕ → ℕ
 value_by t m v = value_at t (get_or m v 0) v
-
-pub codable_start : (p : ℕ → Bool) (n k : ℕ) → k ≡ n → all p (below n) ≡ all p (range 0 (k - 0))
-codable_start p n k e = rw (← e) (below_left (all p) k)
 
 pub codable_yes : (t : FdrTask) (n v : ℕ) → (n ≡ 0 → ⊥) → true ≡ codable_at t n v
 unfolding codable_at

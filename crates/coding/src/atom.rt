@@ -13,11 +13,7 @@ fn byte_of(image: &[u16], state: &[u16], atom: usize) -> u8
 {
     let variable = fdr_image::atom_variable(image, atom);
     let value = fdr_image::atom_value(image, atom);
-    if literal::wide(state[variable]) == value {
-        1
-    } else {
-        0
-    }
+    u8::from(literal::wide(state[variable]) == value)
 }
 
 // Writes the byte of each atom.
@@ -25,9 +21,7 @@ pub fn write(image: &[u16], state: &[u16], target: &mut [u8])
     requires { Decodes image.now state.now (length target.old) }
     ensures { target.new ≡ to_atoms (fdr_of image.now) state.now }
 {
-    let mut a: usize = 0;
-    while a < target.len() {
-        target[a] = byte_of(image, state, a);
-        a += 1;
+    for (a, byte) in target.iter_mut().enumerate() {
+        *byte = byte_of(image, state, a);
     }
 }

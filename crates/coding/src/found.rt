@@ -26,14 +26,12 @@ pub fn find(image: &[u16], state: &[u8], values: &mut [usize]) -> bool
     requires { Finds image.now state.now values.old }
     ensures { Found (fdr_of image.now) state.now values.new result }
 {
-    let mut a: usize = 0;
-    while a < state.len() {
+    for (a, byte) in state.iter().enumerate() {
         let variable = fdr_image::atom_variable(image, a);
         let value = fdr_image::atom_value(image, a);
-        if !note(values, variable, value, state[a]) {
+        if !note(values, variable, value, *byte) {
             return false;
         }
-        a += 1;
     }
     true
 }
@@ -43,10 +41,7 @@ fn is_codable(image: &[u16], noted: usize, variable: usize) -> bool
     requires { ReadsFdr image.now × (variable < length (fdr_of image.now).domains) }
     ensures { result ≡ codable_at (fdr_of image.now) noted variable }
 {
-    if noted != 0 {
-        return true;
-    }
-    fdr_image::none_flag(image, variable) == 1
+    noted != 0 || fdr_image::none_flag(image, variable) == 1
 }
 
 // Whether all variables can be coded, where no two true atoms are of one variable.
@@ -54,15 +49,7 @@ pub fn are_codable(image: &[u16], values: &[usize]) -> bool
     requires { ReadsFdr image.now × (length values.now ≡ most_atoms) }
     ensures { result ≡ all (λ v. codable_at (fdr_of image.now) (get_or values.now v 0) v) (below (length (fdr_of image.now).domains)) }
 {
-    let variables = fdr_image::variables(image);
-    let mut v: usize = 0;
-    while v < variables {
-        if !is_codable(image, values[v], v) {
-            return false;
-        }
-        v += 1;
-    }
-    true
+    (0..fdr_image::variables(image)).all(|v| is_codable(image, values[v], v))
 }
 
 // The value of a variable: that of its true atom, else none, the last value.
@@ -70,10 +57,11 @@ fn value_at(image: &[u16], noted: usize, variable: usize) -> u16
     requires { Valued image.now noted variable }
     ensures { result ≡ value_at (fdr_of image.now) noted variable }
 {
-    if noted != 0 {
-        return (noted - 1) as u16;
+    if noted == 0 {
+        (fdr_image::domain_size(image, variable) - 1) as u16
+    } else {
+        (noted - 1) as u16
     }
-    (fdr_image::domain_size(image, variable) - 1) as u16
 }
 
 // Writes the value of each variable.
@@ -81,9 +69,7 @@ pub fn write(image: &[u16], values: &[usize], target: &mut [u16])
     requires { Writes image.now values.now (length target.old) }
     ensures { target.new ≡ map (λ v. value_at (fdr_of image.now) (get_or values.now v 0) v) (below (length (fdr_of image.now).domains)) }
 {
-    let mut v: usize = 0;
-    while v < target.len() {
-        target[v] = value_at(image, values[v], v);
-        v += 1;
+    for (v, value) in target.iter_mut().enumerate() {
+        *value = value_at(image, values[v], v);
     }
 }

@@ -62,13 +62,6 @@ module _ (d : Domain) (c x : ℕ) where
   pub become_value : (c ≡ 0 → ⊥) → (c ≡ 1 → ⊥) → c - 2 ≡ become d c x
   become_value = become_more d c x
 
--- ---- question 22, for one variable
-pub omitted_not : (c f : ℕ) → (c ≡ 1 → ⊥) → false ≡ (eqb c 1 && eqb f 0)
-omitted_not c f h = rw (ne_eqb c 1 h)
-
-pub omitted_none : (c f g : ℕ) → c ≡ 1 → f ≡ g → eqb f 0 ≡ (eqb c 1 && eqb g 0)
-omitted_none c f g h e = rw (eq-eqb c 1 h, e)
-
 -- nothing is noted at first
 pub blank : (v : ℕ) → get_or no_changes v 0 ≡ 0
 unfolding no_changes

@@ -8,12 +8,13 @@ use native.Mathlib.Omega.{arith}
 use lib.Dec.{eqb, ltb}
 use lib.ListN.{get_or, set}
 use borrow.Author.Tests.{eq-eqb, ne_eqb, lt-ltb, le-ltb, ltb-true}
+use Rattle.std.specs.Prelude as std
 use Rattle.definitions.specs.Lists.{all, keep}
 use Rattle.definitions.specs.Fdr.{FdrRow, fdr_true_in, fdr_all_true}
 use Rattle.definitions.proofs.ListLaws.{none_some, same_some, and_left, and_right}
 use Rattle.fdr_image.specs.Walk.{literal}
 use Rattle.fdr_image.specs.declared.block.Kind.{Kind}
-use Rattle.fdr_image.specs.declared.block.Kind.TheVariants.{Set, Clear, Other}
+use Rattle.fdr_image.specs.declared.block.Kind.TheVariants.{Set, Clear}
 use Rattle.fdr.specs.Change.{noted, note_set, note_clear, note_kind, note_if, note_row, note_fired}
 
 -- ---- the truth of a literal
@@ -52,16 +53,16 @@ module _ (s : List ℕ) (v x : ℕ) (m : List ℕ) where
     clear_present h e = rw (← ey, eq-eqb (get_or m v 0) 0 h, eq-eqb x y (sym e))
 
 -- ---- by the kind
-module _ (s : List ℕ) (k : Kind) (v x : ℕ) (m : List ℕ) where
-  pub kind_set : k ≡ Set → note_set v x m ≡ note_kind s k v x m
+module _ (s : List ℕ) (k : std.Option Kind) (v x : ℕ) (m : List ℕ) where
+  pub kind_set : k ≡ std.Some Set → note_set v x m ≡ note_kind s k v x m
   unfolding note_kind
   kind_set e = rw e
 
-  pub kind_clear : k ≡ Clear → (m' : List ℕ) → m' ≡ note_clear s v x m → noted true m' ≡ note_kind s k v x m
+  pub kind_clear : k ≡ std.Some Clear → (m' : List ℕ) → m' ≡ note_clear s v x m → noted true m' ≡ note_kind s k v x m
   unfolding note_kind noted
   kind_clear e m' em = rw (e, em)
 
-  pub kind_other : k ≡ Other → noted true m ≡ note_kind s k v x m
+  pub kind_other : k ≡ std.None → noted true m ≡ note_kind s k v x m
   unfolding note_kind noted
   kind_other e = rw e
 

@@ -1,5 +1,6 @@
 -- What a step makes of each variable, noted row by row. Assumes nothing.
 use Rattle.std.specs.Prelude.{ℕ, zero, suc, ◌+◌, ◌-◌, List, [], ◌∷◌, map, Bool, true, false, not, cond, ◌&&◌, eqb, ltb, length, get_or, set, replicate}
+use Rattle.std.specs.Prelude as std
 use Rattle.std.proofs.Math.Option.{Option, none, some}
 use Rattle.definitions.specs.Literal.{most_atoms}
 use Rattle.definitions.specs.Lists.{any, all, below}
@@ -10,7 +11,7 @@ use Rattle.definitions.specs.FdrStep.{fdr_fired, fdr_conflict, none_there, fdr_a
 use Rattle.literal.specs.Mark.{put_where}
 use Rattle.fdr_image.specs.Walk.{kind_of}
 use Rattle.fdr_image.specs.declared.block.Kind.{Kind}
-use Rattle.fdr_image.specs.declared.block.Kind.TheVariants.{Set, Clear, Other}
+use Rattle.fdr_image.specs.declared.block.Kind.TheVariants.{Set, Clear}
 
 -- of each variable, of which there are at most as many as atoms: 0 that it stays, 1 that it becomes none, x + 2 that it becomes x
 unfoldable pub no_changes : List ℕ
@@ -30,10 +31,10 @@ note_set v x m =
 unfoldable pub note_clear : List ℕ → ℕ → ℕ → List ℕ → List ℕ
 note_clear s v x m = cond (eqb (get_or m v 0) 0 && eqb x (get_or s v 0)) (set m v 1) m
 
-unfoldable pub note_kind : List ℕ → Kind → ℕ → ℕ → List ℕ → Option (List ℕ)
-note_kind s Set v x m = note_set v x m
-note_kind s Clear v x m = some (note_clear s v x m)
-note_kind s Other v x m = some m
+unfoldable pub note_kind : List ℕ → std.Option Kind → ℕ → ℕ → List ℕ → Option (List ℕ)
+note_kind s (std.Some Set) v x m = note_set v x m
+note_kind s (std.Some Clear) v x m = some (note_clear s v x m)
+note_kind s std.None v x m = some m
 
 unfoldable pub note_if : Bool → Option (List ℕ) → List ℕ → Option (List ℕ)
 note_if fires o m = elim fires [ true ↦ o | false ↦ some m ]

@@ -10,6 +10,9 @@ ghost use Rattle.fdr_image.specs.Walk.{kind_of, operator_in};
 ghost use Rattle.fdr.specs.Change.{noted, note_set, note_clear, note_kind, note_if, note_fired, become, nones_in, written, unnoted};
 ghost use Rattle.fdr.specs.Post.{LowBlock, Changed, Changes, Writes, NotedAt, NotedFor};
 
+use fdr_image::block::{self, Kind, RowPart};
+use fdr_image::domain;
+
 // What becomes of a variable: it stays, it becomes none, or it becomes the value x, noted as x more than `FIRST_VALUE`.
 const STAYS: usize = 0;
 
@@ -38,15 +41,9 @@ fn note_clear(changes: &mut [usize], state: &[u16], variable: usize, value: usiz
     ensures { (changes.new ≡ note_clear state.now variable value changes.old)
         × NotedAt variable changes.old changes.new }
 {
-    let change = changes[variable];
-    let present = super::truth::value(state, variable);
-    if change != STAYS {
-        return;
+    if changes[variable] == STAYS && super::truth::value(state, variable) == value {
+        changes[variable] = TO_NONE;
     }
-    if present != value {
-        return;
-    }
-    changes[variable] = TO_NONE;
 }
 
 fn note_kind(changes: &mut [usize], state: &[u16], word: u16, variable: usize, value: usize) -> bool
@@ -54,14 +51,13 @@ fn note_kind(changes: &mut [usize], state: &[u16], word: u16, variable: usize, v
     ensures { (noted result changes.new ≡ note_kind state.now (kind_of word) variable value changes.old)
         × NotedAt variable changes.old changes.new }
 {
-    let kind = fdr_image::block::kind_of(word);
-    match kind {
-        fdr_image::block::Kind::Set => note_set(changes, variable, value),
-        fdr_image::block::Kind::Clear => {
+    match block::kind_of(word) {
+        Some(Kind::Set) => note_set(changes, variable, value),
+        Some(Kind::Clear) => {
             note_clear(changes, state, variable, value);
             true
         }
-        fdr_image::block::Kind::Other => true,
+        None => true,
     }
 }
 
@@ -92,17 +88,17 @@ pub fn note(block: &[u16], state: &[u16], changes: &mut [usize]) -> bool
         (fdr_fired state.now (operator_in block.now)) changes.old)
         × NotedFor (operator_in block.now).rows changes.old changes.new }
 {
-    let head = fdr_image::block::head(block);
+    let head = block::head(block);
     let mut at = head.end + 1;
     let mut left = head.rows;
     while 0 < left {
-        let fdr_image::block::RowPart {
+        let RowPart {
             kind,
             variable,
             value,
             from,
             end,
-        } = fdr_image::block::row(block, at, left);
+        } = block::row(block, at, left);
         let conditions = &block[from..end];
         if !note_row(changes, state, conditions, kind, variable, value) {
             return false;
@@ -118,10 +114,7 @@ fn is_omitted(domains: &[u16], change: usize, variable: usize) -> bool
     requires { variable < length (domains_in domains.now) }
     ensures { result ≡ (eqb change 1 && eqb (get_or (domains_in domains.now) variable no_domain).none 0) }
 {
-    if change != TO_NONE {
-        return false;
-    }
-    fdr_image::domain::none_flag(domains, variable) == 0
+    change == TO_NONE && domain::none_flag(domains, variable) == 0
 }
 
 // Whether no variable that a row names becomes an omitted none.
@@ -129,11 +122,11 @@ pub fn are_nones_there(block: &[u16], domains: &[u16], changes: &[usize]) -> boo
     requires { LowBlock (length (domains_in domains.now)) block.now × Changes (domains_in domains.now) changes.now }
     ensures { result ≡ nones_in (domains_in domains.now) changes.now (operator_in block.now).rows }
 {
-    let head = fdr_image::block::head(block);
+    let head = block::head(block);
     let mut at = head.end + 1;
     let mut left = head.rows;
     while 0 < left {
-        let row = fdr_image::block::row(block, at, left);
+        let row = block::row(block, at, left);
         let variable = row.variable;
         let omitted = is_omitted(domains, changes[variable], variable);
         if omitted {
@@ -149,14 +142,11 @@ fn new_value(domains: &[u16], change: usize, variable: usize, old: u16) -> u16
     requires { Changed (domains_in domains.now) variable change }
     ensures { result ≡ become (get_or (domains_in domains.now) variable no_domain) change old }
 {
-    let size = fdr_image::domain::size(domains, variable);
-    if change == STAYS {
-        return old;
+    match change {
+        STAYS => old,
+        TO_NONE => (domain::size(domains, variable) - 1) as u16,
+        _ => (change - FIRST_VALUE) as u16,
     }
-    if change == TO_NONE {
-        return (size - 1) as u16;
-    }
-    (change - FIRST_VALUE) as u16
 }
 
 // Writes the change of the variables that the rows name into the state. A variable named twice is written twice, with the same value.
@@ -165,11 +155,11 @@ pub fn write(block: &[u16], domains: &[u16], changes: &[usize], state: &mut [u16
     ensures { state.new ≡ written (domains_in domains.now) changes.now
         (operator_in block.now).rows state.old }
 {
-    let head = fdr_image::block::head(block);
+    let head = block::head(block);
     let mut at = head.end + 1;
     let mut left = head.rows;
     while 0 < left {
-        let row = fdr_image::block::row(block, at, left);
+        let row = block::row(block, at, left);
         let variable = row.variable;
         state[variable] = new_value(domains, changes[variable], variable, state[variable]);
         at = row.end;
@@ -182,11 +172,11 @@ pub fn unnote(block: &[u16], changes: &mut [usize])
     requires { LowBlock most_atoms block.now × (length changes.old ≡ most_atoms) }
     ensures { changes.new ≡ unnoted (operator_in block.now).rows changes.old }
 {
-    let head = fdr_image::block::head(block);
+    let head = block::head(block);
     let mut at = head.end + 1;
     let mut left = head.rows;
     while 0 < left {
-        let row = fdr_image::block::row(block, at, left);
+        let row = block::row(block, at, left);
         let variable = row.variable;
         changes[variable] = STAYS;
         at = row.end;

@@ -8,11 +8,7 @@ ghost use Rattle.fdr_image.specs.Walk.{literal};
 pub fn value(state: &[u16], variable: usize) -> usize
     ensures { (result ≡ get_or state.now variable 0) × (result < 65536) }
 {
-    if variable < state.len() {
-        literal::wide(state[variable])
-    } else {
-        0
-    }
+    literal::wide(state.get(variable).copied().unwrap_or(0))
 }
 
 // Whether a literal is true: its variable has its value, or another if it is negated.
@@ -27,14 +23,9 @@ fn is_true(state: &[u16], variable: usize, code: usize) -> bool
 pub fn all_true(state: &[u16], literals: &[u16]) -> bool
     ensures { result ≡ fdr_all_true state.now (literals_in literals.now) }
 {
-    let mut i: usize = 0;
-    while i < literals.len() / 2 {
-        let variable = literal::wide(literals[2 * i]);
-        let code = literal::wide(literals[2 * i + 1]);
-        if !is_true(state, variable, code) {
-            return false;
-        }
-        i += 1;
-    }
-    true
+    literals.chunks_exact(2).all(|words| {
+        let variable = literal::wide(words[0]);
+        let code = literal::wide(words[1]);
+        is_true(state, variable, code)
+    })
 }

@@ -1,21 +1,20 @@
 -- Domains and values, for the walks over them. Assumes nothing.
-use mathlib.Core.Path.{◌≡◌, refl, sym, ap, ◌∙◌}
+use mathlib.Core.Path.{◌≡◌, refl, ap, ◌∙◌}
 use mathlib.Core.List.{List, [], ◌∷◌}
 use mathlib.Core.Bool.{Bool, true, false, ◌&&◌}
-use Prim.Native.Nat.{ℕ, zero, suc, ◌+◌, ◌-◌, ◌*◌, ◌/◌, ◌≤◌, ◌<◌}
+use Prim.Native.Nat.{ℕ, zero, suc, ◌+◌, ◌-◌, ◌*◌, ◌≤◌, ◌<◌}
 use native.Mathlib.Numerals.{add-one}
 use native.Mathlib.Omega.{arith}
 use lib.Dec.{leb, ltb}
 use lib.ListN.{length, get_or, drop, drop_of_length-le}
 use lib.Seq.{drop-cons}
-use borrow.Author.Tests.{lt-leb, le-leb, lt-ltb, le-ltb, ltb-true, eq-eqb, ne_eqb}
+use borrow.Author.Tests.{lt-ltb, le-ltb, ltb-true, eq-eqb, ne_eqb}
 use Rattle.definitions.specs.Lists.{all}
 use Rattle.definitions.specs.Groups.{Domain}
 use Rattle.definitions.specs.Fdr.{no_domain, atom_values}
-use Rattle.definitions.specs.FdrImage.{domains_in, is_atom_value, place_right, fdr_literal_right, values_right}
+use Rattle.definitions.specs.FdrImage.{domains_in, is_atom_value, values_right}
 use Rattle.definitions.proofs.ListLaws.{never, and_left, and_right}
-use Rattle.definitions.proofs.Walks.{all_off, all_on}
-use Rattle.fdr_image.specs.Walk.{place, literal, domains_right}
+use Rattle.fdr_image.specs.Walk.{domains_right}
 use Rattle.fdr_image.proofs.Pairs.{domains_length, domains_at}
 
 -- the words of variable v's domain
@@ -30,10 +29,6 @@ module _ (w : List ℕ) (v : ℕ) (inside : v < length (domains_in w)) where
   flag_at = rw (domains_at w v no_domain (omega (arith, domains_length w)))
 
 -- atom values
-pub atom_values_none : (d : Domain) (x n : ℕ) → x ≡ d.values → n ≡ d.none → x < n → 0 ≡ atom_values d
-unfolding atom_values
-atom_values_none d x n ex en h = rw (← ex, ← en) (omega arith)
-
 pub atom_values_rest : (d : Domain) (x n : ℕ) → x ≡ d.values → n ≡ d.none → x - n ≡ atom_values d
 unfolding atom_values
 atom_values_rest d x n ex en = rw (ex, en)
@@ -55,13 +50,6 @@ domains_off n w h = rw (ne_eqb (length w) (2 * n) h)
 pub domains_on : (n : ℕ) (w : List ℕ) → length w ≡ 2 * n → domains_right n w ≡ all (λ d. leb d.none 1) (domains_in w)
 unfolding domains_right
 domains_on n w h = rw (eq-eqb (length w) (2 * n) h)
-
-module _ (D : List Domain) (v r : ℕ) (inside : v < length D) (er : r ≡ (get_or D v no_domain).none) where
-  pub flags_off : 1 < r → all (λ d. leb d.none 1) (drop v D) ≡ false
-  flags_off h = all_off D v no_domain (get_or D v no_domain) refl inside (λ d. leb d.none 1) (rw (← er) (lt-leb r 1 h))
-
-  pub flags_on : r ≤ 1 → all (λ d. leb d.none 1) (drop v D) ≡ all (λ d. leb d.none 1) (drop (v + 1) D)
-  flags_on h = all_on D v no_domain (get_or D v no_domain) refl inside (λ d. leb d.none 1) (rw (← er) (le-leb r 1 h))
 
 -- the walk over values
 pub values_unlike : (D : List Domain) (xs : List ℕ) → (length xs ≡ length D → ⊥) → false ≡ values_right D xs
@@ -106,12 +94,3 @@ values_some [] s h v l = absurd (omega arith)
 values_some (d ∷ D) [] h v l = never h refl
 values_some (d ∷ D) (x ∷ s) h zero l = let z = ltb-true x d.values (and_left (ltb x d.values) (values_right D s) h) in omega arith
 values_some (d ∷ D) (x ∷ s) h (suc v) l = values_some D s (and_right (ltb x d.values) (values_right D s) h) v (omega arith)
-
--- a literal that names an atom value
-pub literal_right : (D : List Domain) (v c : ℕ) (r : Bool) → r ≡ is_atom_value D v (c / 2) → fdr_literal_right D (literal v c) ≡ r
-unfolding fdr_literal_right
-literal_right D v c r e = sym e
-
-pub place_right_lem : (D : List Domain) (v x : ℕ) (r : Bool) → r ≡ is_atom_value D v x → place_right D (place v x) ≡ r
-unfolding place_right
-place_right_lem D v x r e = sym e

@@ -4,5 +4,5 @@ pub mod DomainLaws
 pub mod RowLaws
 pub mod Counting
 pub mod Ranks
-pub mod AtomLaws
 pub mod Reading
+pub mod PairChains

@@ -3,11 +3,11 @@ use mathlib.Core.Path.{◌≡◌, refl, sym, ap, ◌∙◌, subst}
 use mathlib.Core.List.{List, ◌∷◌, map}
 use mathlib.Core.Bool.{Bool, true, false, ◌&&◌}
 use mathlib.Core.Option.{Option, none, some}
-use Prim.Native.Nat.{ℕ, zero, suc, ◌+◌, ◌-◌, ◌*◌, ◌%◌, ◌≤◌, ◌<◌}
+use Prim.Native.Nat.{ℕ, zero, suc, ◌+◌, ◌*◌, ◌%◌, ◌≤◌, ◌<◌}
 use native.Mathlib.Omega.{arith}
 use lib.Dec.{eqb, leb, ltb}
 use lib.ListN.{length, get_or, length-map}
-use borrow.Author.Tests.{lt-leb, le-leb, leb-true, ltb-true, eq-eqb, ne_eqb, eqb-true}
+use borrow.Author.Tests.{leb-true, ltb-true, eq-eqb, ne_eqb, eqb-true}
 use Rattle.definitions.specs.Lists.{all, range, below}
 use Rattle.definitions.specs.Answer.{Answer, finding, refused, refuse, verdict, ask, ask_at, ◌>>=◌}
 use Rattle.definitions.specs.Literal.{most_atoms}
@@ -19,7 +19,6 @@ use Rattle.definitions.specs.FdrImage.{fdr_literal_right, fdr_operator_right, ea
 use Rattle.definitions.specs.FdrStep.{no_fdr_operator}
 use Rattle.definitions.proofs.ListLaws.{never, and_left, and_right, all_at}
 use Rattle.definitions.proofs.ListLaws.{below_count, below_get_or, get_or_mem, get_or_map_low}
-use Rattle.definitions.proofs.Walks.{range_all_off, range_all_on}
 use Rattle.directory.specs.Directory.{Lies}
 use Rattle.directory.proofs.Laws.{directory_lies, directory_short}
 use Rattle.definitions.proofs.AnswerLaws.{not_finding}
@@ -305,24 +304,6 @@ module _ (w : List ℕ) (r : ReadsFdr w) where
       given b h e = let z = block_some (domains_in (part w 0)) b h in record { parses = z.0; operator = e; right = z.1 }
 
 -- ---- the tests by the code's own values
-module _ (w : List ℕ) where
-  pub counts_long : most_fdr_image < length w → false ≡ counts_right w
-  unfolding counts_right
-  counts_long h = rw (lt-leb (length w) most_fdr_image h)
-
-  module _ (short : length w ≤ most_fdr_image) where
-    pub counts_none : get_or w 0 0 < 1 → false ≡ counts_right w
-    unfolding counts_right
-    counts_none h = rw (le-leb (length w) most_fdr_image short, lt-leb 1 (get_or w 0 0) h)
-
-    pub counts_many : 1 ≤ get_or w 0 0 → most_atoms < get_or w 0 0 → false ≡ counts_right w
-    unfolding counts_right
-    counts_many l h = rw (le-leb (length w) most_fdr_image short, le-leb 1 (get_or w 0 0) l, lt-leb (get_or w 0 0) most_atoms h)
-
-    pub counts_rest : 1 ≤ get_or w 0 0 → get_or w 0 0 ≤ most_atoms → leb (get_or w 1 0) most_operators ≡ counts_right w
-    unfolding counts_right
-    counts_rest l h = rw (le-leb (length w) most_fdr_image short, le-leb 1 (get_or w 0 0) l, le-leb (get_or w 0 0) most_atoms h)
-
 pub goal_odd : (D : List Domain) (g : List ℕ) → (length g % 2 ≡ 0 → ⊥) → false ≡ goal_right D g
 unfolding goal_right
 goal_odd D g h = rw (ne_eqb (length g % 2) 0 h)
@@ -331,51 +312,8 @@ pub goal_even : (D : List Domain) (g : List ℕ) → length g % 2 ≡ 0 → all 
 unfolding goal_right
 goal_even D g h = rw (eq-eqb (length g % 2) 0 h)
 
--- the walk over the operators, with k' + 1 left at operator i
-module _ (D : List Domain) (w b : List ℕ) (i k k' : ℕ) (more : k ≡ suc k') (eb : b ≡ part w (i + 4)) (r : Bool)
-    (er : r ≡ block_right D (fdr_operator_of b)) where
-  pub operators_off : r ≡ false → all (block_there D w) (range i k) ≡ false
-  operators_off h = range_all_off (block_there D w) i k k' more (rw (← eb, ← er) h)
-
-  pub operators_on : r ≡ true → all (block_there D w) (range i k) ≡ all (block_there D w) (range (i + 1) k')
-  operators_on h = range_all_on (block_there D w) i k k' more (rw (← eb, ← er) h)
-
 pub domains_few : (w d : List ℕ) (n : ℕ) → Laid w → n ≡ get_or w 0 0 → domains_right n d ≡ true → length (domains_in d) ≤ most_atoms
 domains_few w d n l en h = let z = few_variables w l.counts in omega (arith, domains_count n d h)
-
--- the parts in order, by the tests of the code
-module _ (w d : List ℕ) (ed : d ≡ part w 0) (n : ℕ) (en : n ≡ get_or w 0 0) where
-  pub parts_domains : domains_right n d ≡ false → false ≡ parts_right w
-  unfolding parts_right
-  parts_domains h = rw (← ed, ← en, h)
-
-  pub parts_rest : domains_right n d ≡ true → rest_right (domains_in d) w ≡ parts_right w
-  unfolding parts_right
-  parts_rest h = rw (← ed, ← en, h)
-
-module _ (D : List Domain) (w : List ℕ) where
-  module _ (xs : List ℕ) (e : xs ≡ part w 2) where
-    pub rest_initial : values_right D xs ≡ false → false ≡ rest_right D w
-    unfolding rest_right
-    rest_initial h = rw (← e, h)
-
-    module _ (yes-initial : values_right D xs ≡ true) (ys : List ℕ) (e' : ys ≡ part w 1) where
-      pub rest_atoms : atoms_right D ys ≡ false → false ≡ rest_right D w
-      unfolding rest_right
-      rest_atoms h = rw (← e, ← e', yes-initial, h)
-
-      pub rest_rules : atoms_right D ys ≡ true → rules_right D w ≡ rest_right D w
-      unfolding rest_right
-      rest_rules h = rw (← e, ← e', yes-initial, h)
-
-  module _ (xs : List ℕ) (e : xs ≡ part w 3) where
-    pub rules_goal : goal_right D xs ≡ false → false ≡ rules_right D w
-    unfolding rules_right
-    rules_goal h = rw (← e, h)
-
-    pub rules_rest : goal_right D xs ≡ true → (m : ℕ) → m ≡ get_or w 1 0 → operators_right D w m ≡ rules_right D w
-    unfolding rules_right
-    rules_rest h m em = rw (← e, h, em)
 
 module _ (w : List ℕ) where
   -- the image in order
@@ -386,25 +324,6 @@ module _ (w : List ℕ) where
       go : (b : Bool) → false ≡ (b && false)
       go true = refl
       go false = refl
-
-  pub image_counts : counts_right w ≡ false → false ≡ fdr_right w
-  unfolding fdr_right
-  image_counts h = rw h
-
-  module _ (q₁ : counts_right w ≡ true) (m : ℕ) (em : m ≡ get_or w 1 0) (r : Bool) (er : r ≡ directory w (m + 4)) where
-    directory_test : r ≡ directory w (get_or w 1 0 + 4)
-    directory_test = rw (← em) er
-
-    pub image_directory : r ≡ false → false ≡ fdr_right w
-    unfolding fdr_right
-    image_directory h = rw (q₁, ← directory_test, h)
-
-    pub image_laid : r ≡ true → Laid w
-    image_laid h = record { counts = q₁; directory = sym directory_test ∙ h }
-
-    pub image_rest : r ≡ true → parts_right w ≡ fdr_right w
-    unfolding fdr_right
-    image_rest h = rw (q₁, ← directory_test, h)
 
   module _ (l : Laid w) where
     pub laid_lies : (i : ℕ) → i < get_or w 1 0 + 4 → Lies w i

@@ -20,28 +20,6 @@ use Rattle.definitions.proofs.ListLaws.{never}
 use Rattle.fdr_image.specs.Walk.{whole_row, kind_of, row, rows_right, block_right, some_rows, rows_or, parses_at, rows_at, some_operator}
 use Rattle.fdr_image.specs.Walk.{operator_or, block_parses, operator_in}
 use Rattle.fdr_image.specs.Post.{RowAt, RowRead, BlockRead}
-use Rattle.fdr_image.specs.declared.block.Kind.TheVariants.{Set, Clear, Other}
-
--- ---- kinds
-pub kind_other : (k : ℕ) → (k ≡ 0 → ⊥) → (k ≡ 1 → ⊥) → Other ≡ kind_of k
-kind_other zero p q = absurd (p refl)
-kind_other (suc zero) p q = absurd (q refl)
-kind_other (suc (suc k)) p q = refl
-
-pub kind_set : (k : ℕ) → kind_of k ≡ Set → k ≡ 0
-kind_set zero e = refl
-kind_set (suc zero) e = absurd (let z : ◌≡◌ {A = ℕ} 0 1 = cc in omega arith)
-kind_set (suc (suc k)) e = absurd (let z : ◌≡◌ {A = ℕ} 0 1 = cc in omega arith)
-
-pub kind_clear : (k : ℕ) → kind_of k ≡ Clear → k ≡ 1
-kind_clear zero e = absurd (let z : ◌≡◌ {A = ℕ} 0 1 = cc in omega arith)
-kind_clear (suc zero) e = refl
-kind_clear (suc (suc k)) e = absurd (let z : ◌≡◌ {A = ℕ} 0 1 = cc in omega arith)
-
-pub kind_none : (k : ℕ) → kind_of k ≡ Other → 1 < k
-kind_none zero e = absurd (let z : ◌≡◌ {A = ℕ} 0 1 = cc in omega arith)
-kind_none (suc zero) e = absurd (let z : ◌≡◌ {A = ℕ} 0 1 = cc in omega arith)
-kind_none (suc (suc k)) e = omega arith
 
 -- ---- one row
 module _ (D : List Domain) (k v x : ℕ) (cs : List FdrLiteral) where

@@ -1,5 +1,6 @@
 -- What the walks over a re-encoded image and over a block work out. Assumes nothing.
 use Rattle.std.specs.Prelude.{ℕ, zero, suc, ◌+◌, ◌*◌, ◌%◌, List, [], ◌∷◌, map, Bool, true, false, ◌&&◌, eqb, leb, length, get_or, drop, set, replicate}
+use Rattle.std.specs.Prelude as std
 use Rattle.std.proofs.Math.Option.{Option, none, some}
 use Rattle.definitions.specs.Literal.{most_atoms}
 use Rattle.definitions.specs.Lists.{all, below}
@@ -10,7 +11,7 @@ use Rattle.definitions.specs.FdrImage.{most_fdr_image, domains_in, places_in, li
 use Rattle.definitions.specs.FdrImage.{fdr_row_right, fdr_operator_right, each_given_once, values_right}
 use Rattle.definitions.specs.FdrStep.{no_fdr_operator}
 use Rattle.fdr_image.specs.declared.block.Kind.{Kind}
-use Rattle.fdr_image.specs.declared.block.Kind.TheVariants.{Set, Clear, Other}
+use Rattle.fdr_image.specs.declared.block.Kind.TheVariants.{Set, Clear}
 
 -- ---- pairs of words
 abbrev pub domain : ℕ → ℕ → Domain
@@ -26,11 +27,11 @@ literal v c = record { variable = v; code = c }
 abbrev pub row : ℕ → ℕ → ℕ → List FdrLiteral → FdrRow
 row k v x cs = record { kind = k; variable = v; value = x; conditions = cs }
 
--- kind (0 set, 1 clear)
-abbrev pub kind_of : ℕ → Kind
-kind_of zero = Set
-kind_of (suc zero) = Clear
-kind_of (suc (suc k)) = Other
+-- kind (0 set, 1 clear), and no kind of any other word
+abbrev pub kind_of : ℕ → std.Option Kind
+kind_of zero = std.Some Set
+kind_of (suc zero) = std.Some Clear
+kind_of (suc (suc k)) = std.None
 
 -- all words of a row that begins at p are in the block
 unfoldable pub whole_row : List ℕ → ℕ → Bool

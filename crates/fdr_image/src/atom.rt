@@ -13,14 +13,12 @@ fn put_starts(domains: &[u16], starts: &mut [u16], atoms: usize) -> bool
     ensures { Started (domains_in domains.now) atoms starts.new result }
 {
     let mut sum: usize = 0;
-    let mut v: usize = 0;
-    while v < domains.len() / 2 {
+    for v in 0..domains.len() / 2 {
         if atoms < sum {
             return false;
         }
         starts[v] = sum as u16;
         sum += super::domain::atom_values(domains, v);
-        v += 1;
     }
     sum == atoms
 }
@@ -30,9 +28,7 @@ fn rank_of(atoms: &[u16], starts: &[u16], atom: usize) -> usize
     requires { Ranked atoms.now starts.now × (atom < length atoms.now / 2) }
     ensures { (result ≡ get_or (ranks_in starts.now atoms.now) atom 0) × (result < most_atoms) }
 {
-    let variable = literal::wide(atoms[2 * atom]);
-    let value = literal::wide(atoms[2 * atom + 1]);
-    literal::wide(starts[variable]) + value
+    literal::wide(starts[variable(atoms, atom)]) + value(atoms, atom)
 }
 
 // Whether no two atoms have the same rank.
@@ -41,14 +37,12 @@ fn are_new(atoms: &[u16], starts: &[u16]) -> bool
     ensures { result ≡ all_new no_marks (ranks_in starts.now atoms.now) }
 {
     let mut marks = [0u8; literal::MOST_ATOMS];
-    let mut i: usize = 0;
-    while i < atoms.len() / 2 {
+    for i in 0..atoms.len() / 2 {
         let rank = rank_of(atoms, starts, i);
         if marks[rank] != 0 {
             return false;
         }
         marks[rank] = 1;
-        i += 1;
     }
     true
 }
@@ -59,26 +53,18 @@ fn are_given_once(domains: &[u16], atoms: &[u16]) -> bool
     ensures { result ≡ each_given_once (domains_in domains.now) (places_in atoms.now) }
 {
     let mut starts = literal::room::values();
-    if !put_starts(domains, &mut starts, atoms.len() / 2) {
-        return false;
-    }
-    are_new(atoms, &starts)
+    put_starts(domains, &mut starts, atoms.len() / 2) && are_new(atoms, &starts)
 }
 
 // Whether all atoms have atom values.
 fn are_placed(domains: &[u16], atoms: &[u16]) -> bool
     ensures { result ≡ all (place_right (domains_in domains.now)) (places_in atoms.now) }
 {
-    let mut i: usize = 0;
-    while i < atoms.len() / 2 {
-        let variable = literal::wide(atoms[2 * i]);
-        let value = literal::wide(atoms[2 * i + 1]);
-        if !super::domain::is_atom_value(domains, variable, value) {
-            return false;
-        }
-        i += 1;
-    }
-    true
+    atoms.chunks_exact(2).all(|words| {
+        let variable = literal::wide(words[0]);
+        let value = literal::wide(words[1]);
+        super::domain::is_atom_value(domains, variable, value)
+    })
 }
 
 // Whether the words are 1 to the most atoms, and each atom value of each variable belongs to exactly one of them.
@@ -86,19 +72,10 @@ pub fn are_atoms(domains: &[u16], atoms: &[u16]) -> bool
     requires { length (domains_in domains.now) ≤ most_atoms }
     ensures { result ≡ atoms_right (domains_in domains.now) atoms.now }
 {
-    if atoms.len() % 2 != 0 {
-        return false;
-    }
-    if atoms.len() / 2 < 1 {
-        return false;
-    }
-    if literal::MOST_ATOMS < atoms.len() / 2 {
-        return false;
-    }
-    if !are_placed(domains, atoms) {
-        return false;
-    }
-    are_given_once(domains, atoms)
+    atoms.len() % 2 == 0
+        && (1..=literal::MOST_ATOMS).contains(&(atoms.len() / 2))
+        && are_placed(domains, atoms)
+        && are_given_once(domains, atoms)
 }
 
 // The variable of an atom.

@@ -9,27 +9,16 @@ ghost use Rattle.fdr_image.specs.Post.{RowAt, RowRead, BlockRead};
 pub enum Kind {
     Set,
     Clear,
-    Other,
 }
 
-pub fn kind_of(word: u16) -> Kind
+// The kind that a word stands for, if any.
+pub fn kind_of(word: u16) -> Option<Kind>
     ensures { result ≡ kind_of word }
 {
     match word {
-        0 => Kind::Set,
-        1 => Kind::Clear,
-        _ => Kind::Other,
-    }
-}
-
-fn is_kind(word: u16) -> bool
-    ensures { result ≡ leb word 1 }
-{
-    let kind = kind_of(word);
-    match kind {
-        Kind::Set => true,
-        Kind::Clear => true,
-        Kind::Other => false,
+        0 => Some(Kind::Set),
+        1 => Some(Kind::Clear),
+        _ => None,
     }
 }
 
@@ -37,13 +26,9 @@ fn is_kind(word: u16) -> bool
 fn is_row(domains: &[u16], kind: u16, variable: usize, value: usize, conditions: &[u16]) -> bool
     ensures { result ≡ fdr_row_right (domains_in domains.now) (row kind variable value (literals_in conditions.now)) }
 {
-    if !is_kind(kind) {
-        return false;
-    }
-    if !super::domain::is_atom_value(domains, variable, value) {
-        return false;
-    }
-    super::domain::are_literals(domains, conditions)
+    kind_of(kind).is_some()
+        && super::domain::is_atom_value(domains, variable, value)
+        && super::domain::are_literals(domains, conditions)
 }
 
 // Whether all words of a row that begins at `at` are in the block.
@@ -51,11 +36,7 @@ fn is_whole(block: &[u16], at: usize) -> bool
     requires { at ≤ length block.now }
     ensures { result ≡ whole_row block.now at }
 {
-    if block.len() - at < 4 {
-        return false;
-    }
-    let count = literal::wide(block[at + 3]);
-    2 * count <= block.len() - (at + 4)
+    block.len() - at >= 4 && 2 * literal::wide(block[at + 3]) <= block.len() - (at + 4)
 }
 
 // A row of a block: its kind, variable and value, and where its conditions begin and end. The next row begins at their end.
@@ -78,7 +59,7 @@ fn row_at(block: &[u16], at: usize) -> RowPart
         kind: block[at],
         variable: literal::wide(block[at + 1]),
         value: literal::wide(block[at + 2]),
-        from: from,
+        from,
         end: from + 2 * literal::wide(block[at + 3]),
     }
 }
@@ -114,18 +95,15 @@ fn are_rows(domains: &[u16], block: &[u16], from: usize, rows: usize) -> bool
 pub fn is_block(domains: &[u16], block: &[u16]) -> bool
     ensures { result ≡ block_right (domains_in domains.now) (fdr_operator_of block.now) }
 {
-    if block.len() < 1 {
+    if block.is_empty() {
         return false;
     }
     let end = 2 * literal::wide(block[0]) + 1;
     if block.len() <= end {
         return false;
     }
-    if !super::domain::are_literals(domains, &block[1..end]) {
-        return false;
-    }
-    let rows = literal::wide(block[end]);
-    are_rows(domains, block, end + 1, rows)
+    super::domain::are_literals(domains, &block[1..end])
+        && are_rows(domains, block, end + 1, literal::wide(block[end]))
 }
 
 // Where the precondition of a block ends, and its number of rows, which begin after the word at that end.
@@ -141,7 +119,7 @@ pub fn head(block: &[u16]) -> BlockHead
 {
     let end = 2 * literal::wide(block[0]) + 1;
     BlockHead {
-        end: end,
+        end,
         rows: literal::wide(block[end]),
     }
 }

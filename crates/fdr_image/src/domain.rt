@@ -27,19 +27,14 @@ pub fn atom_values(domains: &[u16], variable: usize) -> usize
     requires { variable < length (domains_in domains.now) }
     ensures { (result ≡ atom_values (get_or (domains_in domains.now) variable no_domain)) × (result < 65536) }
 {
-    let values = size(domains, variable);
-    let none = none_flag(domains, variable);
-    if values < none { 0 } else { values - none }
+    size(domains, variable).saturating_sub(none_flag(domains, variable))
 }
 
 // Whether a value is an atom value of a variable.
 pub fn is_atom_value(domains: &[u16], variable: usize, value: usize) -> bool
     ensures { result ≡ is_atom_value (domains_in domains.now) variable value }
 {
-    if domains.len() / 2 <= variable {
-        return false;
-    }
-    value < atom_values(domains, variable)
+    variable < domains.len() / 2 && value < atom_values(domains, variable)
 }
 
 // Whether the words are the domains of `variables` variables.
@@ -47,17 +42,7 @@ pub fn are_domains(domains: &[u16], variables: usize) -> bool
     requires { variables ≤ most_atoms }
     ensures { result ≡ domains_right variables domains.now }
 {
-    if domains.len() != 2 * variables {
-        return false;
-    }
-    let mut v: usize = 0;
-    while v < variables {
-        if 1 < none_flag(domains, v) {
-            return false;
-        }
-        v += 1;
-    }
-    true
+    domains.len() == 2 * variables && domains.chunks_exact(2).all(|domain| domain[1] <= 1)
 }
 
 // Whether the words are a value for each variable.
@@ -67,12 +52,10 @@ pub fn are_values(domains: &[u16], values: &[u16]) -> bool
     if values.len() != domains.len() / 2 {
         return false;
     }
-    let mut v: usize = 0;
-    while v < values.len() {
-        if size(domains, v) <= literal::wide(values[v]) {
+    for (v, value) in values.iter().enumerate() {
+        if size(domains, v) <= literal::wide(*value) {
             return false;
         }
-        v += 1;
     }
     true
 }
@@ -81,14 +64,9 @@ pub fn are_values(domains: &[u16], values: &[u16]) -> bool
 pub fn are_literals(domains: &[u16], words: &[u16]) -> bool
     ensures { result ≡ all (fdr_literal_right (domains_in domains.now)) (literals_in words.now) }
 {
-    let mut i: usize = 0;
-    while i < words.len() / 2 {
-        let variable = literal::wide(words[2 * i]);
-        let code = literal::wide(words[2 * i + 1]);
-        if !is_atom_value(domains, variable, code / 2) {
-            return false;
-        }
-        i += 1;
-    }
-    true
+    words.chunks_exact(2).all(|words| {
+        let variable = literal::wide(words[0]);
+        let code = literal::wide(words[1]);
+        is_atom_value(domains, variable, code / 2)
+    })
 }

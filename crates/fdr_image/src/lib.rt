@@ -27,26 +27,15 @@ fn are_counts(image: &[u16]) -> bool
     requires { 2 ≤ length image.now }
     ensures { result ≡ counts_right image.now }
 {
-    if MOST_WORDS < image.len() {
-        return false;
-    }
-    let variables = literal::wide(image[0]);
-    if variables < 1 {
-        return false;
-    }
-    if literal::MOST_ATOMS < variables {
-        return false;
-    }
-    literal::wide(image[1]) <= directory::MOST_OPERATORS
+    image.len() <= MOST_WORDS
+        && (1..=literal::MOST_ATOMS).contains(&literal::wide(image[0]))
+        && literal::wide(image[1]) <= directory::MOST_OPERATORS
 }
 
 fn is_goal(domains: &[u16], goal: &[u16]) -> bool
     ensures { result ≡ goal_right (domains_in domains.now) goal.now }
 {
-    if goal.len() % 2 != 0 {
-        return false;
-    }
-    domain::are_literals(domains, goal)
+    goal.len() % 2 == 0 && domain::are_literals(domains, goal)
 }
 
 // Whether the blocks of the operators are right.
@@ -54,14 +43,7 @@ fn are_operators(image: &[u16], domains: &[u16], operators: usize) -> bool
     requires { (operators ≤ most_operators) × (directory image.now (operators + 4) ≡ true) }
     ensures { result ≡ operators_right (domains_in domains.now) image.now operators }
 {
-    let mut i: usize = 0;
-    while i < operators {
-        if !block::is_block(domains, directory::part(image, i + 4)) {
-            return false;
-        }
-        i += 1;
-    }
-    true
+    (0..operators).all(|i| block::is_block(domains, directory::part(image, i + 4)))
 }
 
 // Whether the goal and the operators are right over the domains.
@@ -69,10 +51,8 @@ fn are_rules(image: &[u16], domains: &[u16]) -> bool
     requires { LaidOver domains.now image.now }
     ensures { result ≡ rules_right (domains_in domains.now) image.now }
 {
-    if !is_goal(domains, directory::part(image, 3)) {
-        return false;
-    }
-    are_operators(image, domains, literal::wide(image[1]))
+    is_goal(domains, directory::part(image, 3))
+        && are_operators(image, domains, literal::wide(image[1]))
 }
 
 // Whether all parts but the domains are right over them.
@@ -80,13 +60,9 @@ fn is_rest(image: &[u16], domains: &[u16]) -> bool
     requires { LaidOver domains.now image.now }
     ensures { result ≡ rest_right (domains_in domains.now) image.now }
 {
-    if !domain::are_values(domains, directory::part(image, 2)) {
-        return false;
-    }
-    if !atom::are_atoms(domains, directory::part(image, 1)) {
-        return false;
-    }
-    are_rules(image, domains)
+    domain::are_values(domains, directory::part(image, 2))
+        && atom::are_atoms(domains, directory::part(image, 1))
+        && are_rules(image, domains)
 }
 
 // Whether the parts of an image with a right directory are right.
@@ -95,26 +71,17 @@ fn are_parts(image: &[u16]) -> bool
     ensures { result ≡ parts_right image.now }
 {
     let domains = directory::part(image, 0);
-    if !domain::are_domains(domains, literal::wide(image[0])) {
-        return false;
-    }
-    is_rest(image, domains)
+    domain::are_domains(domains, literal::wide(image[0])) && is_rest(image, domains)
 }
 
 // Whether the image is a re-encoded one.
 fn is_right(image: &[u16]) -> bool
     ensures { result ≡ fdr_right image.now }
 {
-    if image.len() < 2 {
-        return false;
-    }
-    if !are_counts(image) {
-        return false;
-    }
-    if !directory::is_directory(image, literal::wide(image[1]) + 4) {
-        return false;
-    }
-    are_parts(image)
+    image.len() >= 2
+        && are_counts(image)
+        && directory::is_directory(image, literal::wide(image[1]) + 4)
+        && are_parts(image)
 }
 
 // Reads an image: question 17.
@@ -188,8 +155,7 @@ pub fn atoms(image: &[u16]) -> usize
     requires { ReadsFdr image.now }
     ensures { (result ≡ length (fdr_of image.now).atoms) × (result ≤ most_atoms) }
 {
-    let words = places(image);
-    words.len() / 2
+    places(image).len() / 2
 }
 
 // The variable of an atom.

@@ -1,9 +1,8 @@
 -- `fdr_image::block::are_rows`: the test of all rows is the test of those that are left.
-use Prim.Native.Nat.{◌≤◌, ◌-◌}
+use Prim.Native.Nat.{◌≤◌}
 use mathlib.Core.Path.{◌≡◌, refl, sym, ◌∙◌}
 use native.Mathlib.Omega.{arith}
 use lib.ListN.{length, drop}
-use borrow.Author.Tests.{not-true, not-false}
 use Rattle.definitions.specs.FdrImage.{domains_in, fdr_rows_of}
 use Rattle.fdr_image.specs.Walk.{rows_right}
 use Rattle.fdr_image.proofs.RowLaws.{rows_cut, rows_wrong, rows_right_lem, rows_end}

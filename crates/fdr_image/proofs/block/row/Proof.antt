@@ -1,5 +1,4 @@
 use Rattle.fdr_image.proofs.RowLaws.{row_whole, row_read}
-use borrow.Author.Rules.{rules}
 use Rattle.fdr_image.proofs.block.row.Statement.{statement}
 use Rattle.fdr_image.proofs.block.row.Tie as tie
 
