@@ -6,47 +6,24 @@ use Prim.Native.Nat.{ℕ, ◌+◌, ◌≤◌, ◌<◌}
 use native.Mathlib.Omega.{arith}
 use lib.Dec.{eqb}
 use lib.ListN.{length, get_or, drop, drop_of_length-le, replicate, length-replicate}
-use Rattle.definitions.specs.Lists.{all}
 use Rattle.definitions.specs.Answer.{Refusal, finding, refused, verdict, becomes, ask, ◌>>=◌}
-use Rattle.definitions.specs.Literal.{holds_in}
 use Rattle.definitions.specs.Image.{initial_state, read_task}
-use Rattle.definitions.specs.Step.{step_task, goal_task, start_task, run_task}
+use Rattle.definitions.specs.Step.{step_task, start_task, run_task}
 use Rattle.definitions.specs.FdrImage.{read_fdr}
-use Rattle.definitions.specs.FdrStep.{step_fdr, goal_fdr, start_fdr, run_fdr}
-use Rattle.definitions.specs.Coding.{to_atoms_call, from_atoms_call}
+use Rattle.definitions.specs.FdrStep.{step_fdr, start_fdr, run_fdr}
 use Rattle.definitions.specs.Checker.{check}
 use Rattle.definitions.proofs.Walks.{left_here}
 use Rattle.answer.proofs.Laws.{verdict_refused, refused_first}
 use Rattle.task.specs.Reads.{task_of}
 use Rattle.fdr_image.specs.Reads.{fdr_of}
-use Rattle.clause.specs.Rows.{clauses_of}
-use Rattle.agreement.specs.Same.{same_answer, both_found, same_unit, same_bool, is_found, Both}
+use Rattle.agreement.specs.Same.{same_answer, both_found, same_unit, Both}
 use Rattle.agreement.specs.Compared.{left_by_steps, same_states, steps_same, runs_same, steps_from_start, runs_from_start, list_same}
 use Rattle.agreement.specs.Compared.{images_same, comparison, demanded, Small, SameLengths}
 use Rattle.agreement.proofs.SameLaws.{not_found, are_found}
 
 module _ (w e c s v : List ℕ) where
-  -- the four tests of two states, by the first that fails
-  pub clause_fails : all (holds_in s) (clauses_of c) ≡ false → false ≡ same_states w e c s v
-  unfolding same_states
-  clause_fails h = rw h
-
-  module _ (h1 : all (holds_in s) (clauses_of c) ≡ true) where
-    pub goals_differ : both_found same_bool (goal_task w s) (goal_fdr e v) ≡ false → false ≡ same_states w e c s v
-    unfolding same_states
-    goals_differ h = rw (h1, h)
-
-    module _ (h2 : both_found same_bool (goal_task w s) (goal_fdr e v) ≡ true) where
-      pub not_coded : is_found (from_atoms_call e s (length v)) v ≡ false → false ≡ same_states w e c s v
-      unfolding same_states
-      not_coded h = rw (h1, h2, h)
-
-      pub coded_back : is_found (from_atoms_call e s (length v)) v ≡ true → is_found (to_atoms_call e v (length s)) s ≡ same_states w e c s v
-      unfolding same_states
-      coded_back h = rw (h1, h2, h)
-
   -- both states are set: s and v become s' and v'
-  module _ (is s' v' : List ℕ) (fine : Bool)
+  module _ (is : List ℕ) {s' v' : List ℕ} {fine : Bool}
       (made : Both (both_found same_unit) (becomes s (start_task w s)) (becomes v (start_fdr e v)) s' v' fine) where
     pub steps_not_set : fine ≡ false → false ≡ steps_from_start w e c is s v
     unfolding steps_from_start
@@ -57,33 +34,20 @@ module _ (w e c s v : List ℕ) where
     runs_not_set h = not_found (start_task w s) (start_fdr e v) _ s v s' v' fine made h
 
     module _ (set : fine ≡ true) where
-      steps_set : (same_states w e c s' v' && steps_same w e c is s' v') ≡ steps_from_start w e c is s v
+      pub steps_set : (same_states w e c s' v' && steps_same w e c is s' v') ≡ steps_from_start w e c is s v
       unfolding steps_from_start
       steps_set = are_found (start_task w s) (start_fdr e v) (λ x y. same_states w e c x y && steps_same w e c is x y) s v s' v' fine made set
-
-      pub start_differs : same_states w e c s' v' ≡ false → false ≡ steps_from_start w e c is s v
-      start_differs h = rw (← steps_set, h)
-
-      pub start_on : same_states w e c s' v' ≡ true → steps_same w e c is s' v' ≡ steps_from_start w e c is s v
-      start_on h = rw (← steps_set, h)
 
       runs_set : runs_same w e c is s' v' ≡ runs_from_start w e c is s v
       unfolding runs_from_start
       runs_set = are_found (start_task w s) (start_fdr e v) (runs_same w e c is) s v s' v' fine made set
 
       -- then the list is run: s' and v' become s'' and v''
-      module _ (s'' v'' : List ℕ) (answers : Bool) (ran : Both (same_answer eqb) (run_task w s' is) (run_fdr e v' is) s'' v'' answers) where
-        pub runs_differ : answers ≡ false → false ≡ runs_from_start w e c is s v
-        unfolding runs_same
-        runs_differ h = rw (← runs_set, ← ran.answers, h)
-
-        pub ends_differ : answers ≡ true → same_states w e c s'' v'' ≡ false → false ≡ runs_from_start w e c is s v
-        unfolding runs_same
-        ends_differ h k = rw (← runs_set, ← ran.answers, h, ← ran.state, ← ran.values, k)
-
-        pub runs_on : answers ≡ true → same_states w e c s'' v'' ≡ true → left_by_steps w e is s'' v'' ≡ runs_from_start w e c is s v
-        unfolding runs_same
-        runs_on h k = rw (← runs_set, ← ran.answers, h, ← ran.state, ← ran.values, k)
+      pub runs_made :
+          {s'' v'' : List ℕ} {answers : Bool} → Both (same_answer eqb) (run_task w s' is) (run_fdr e v' is) s'' v'' answers
+          → (answers && (same_states w e c s'' v'' && left_by_steps w e is s'' v'')) ≡ runs_from_start w e c is s v
+      unfolding runs_same
+      runs_made ran = rw (ran.answers, ran.state, ran.values) runs_set
 
 -- ---- steps: of a list the numbers below i are done, from s₀ and v₀ to s and v
 pub record Stepping (w e c list s₀ v₀ s v : List ℕ) (i : ℕ) : Type 0 where

@@ -1,5 +1,5 @@
 -- For an accepted set every comparison passes: demand 3. Assumes nothing.
-use mathlib.Core.Bool.{Bool, true, ◌&&◌}
+use mathlib.Core.Bool.{true, ◌&&◌}
 use mathlib.Core.List.{List, [], ◌∷◌, ◌++◌}
 use mathlib.Core.Path.{◌≡◌, refl, sym, ◌∙◌, ap, ap₂}
 use Prim.Native.Nat.{ℕ, ◌≤◌}
@@ -8,7 +8,7 @@ use native.Mathlib.Omega.{arith}
 use lib.ListN.{length, get_or, take, drop, replicate, length-map, length-replicate, length-append}
 use lib.Seq.{take_at}
 use borrow.Author.Tests.{eq-eqb, leb-true}
-use Rattle.definitions.specs.Answer.{Refusal, Answer, finding, refused, Outcome, outcome, verdict, state_after, becomes, ask, ask_at, ◌>>=◌}
+use Rattle.definitions.specs.Answer.{Refusal, Answer, finding, refused, Outcome, outcome, state_after, becomes, ask, ask_at, ◌>>=◌}
 use Rattle.definitions.specs.Literal.{most_atoms, all_true}
 use Rattle.definitions.specs.Groups.{groups, written}
 use Rattle.definitions.specs.Fdr.{FdrTask}

@@ -1,16 +1,14 @@
 -- Laws of the comparisons of answers and lists. Assumes nothing.
-use mathlib.Core.Bool.{Bool, true, false, not, false≢true, true≢false}
+use mathlib.Core.Bool.{Bool, ◌&&◌, true, false, false≢true, true≢false}
 use mathlib.Core.List.{List, [], ◌∷◌}
 use mathlib.Core.Option.{Option, none, some}
 use mathlib.Core.Path.{◌≡◌, refl, sym, ◌∙◌, ap, ap₂}
-use Prim.Native.Nat.{ℕ, suc, ◌+◌, ◌≤◌, ◌<◌}
-use native.Mathlib.Omega.{arith}
+use Prim.Native.Nat.{ℕ}
 use lib.Dec.{eqb}
-use lib.ListN.{length, get_or, drop, drop_of_length-le}
-use borrow.Author.Tests.{eq-eqb, ne_eqb, not-true, not-false}
+use lib.Pointwise.{pointwise}
+use borrow.Author.Tests.{eq-eqb, ne_eqb}
 use Rattle.definitions.specs.Answer.{Refusal, Answer, finding, refused, refuse, verdict, Outcome, outcome, state_after, becomes}
-use Rattle.definitions.proofs.ListLaws.{and_both, and_right}
-use Rattle.definitions.proofs.Walks.{left_here}
+use Rattle.definitions.proofs.ListLaws.{and_both}
 use Rattle.definitions.specs.Lists.{all, first_fail}
 use Rattle.definitions.proofs.AnswerLaws.{not_finding}
 use Rattle.definitions.proofs.FirstFail.{none_all, all_none_lem}
@@ -25,6 +23,22 @@ module _ {r b : Bool} (said : r ≡ b) where
 
   pub said_yes : r ≡ true → b ≡ true
   said_yes h = sym said ∙ h
+
+-- ---- tests in a row: v is what the tests so far say, q is left, r all of them
+module _ (q : Bool) {v r : Bool} (so_far : (v && q) ≡ r) where
+  pub last_test : v ≡ true → q ≡ r
+  last_test h = rw h at so_far
+
+  pub test_fails : v ≡ false → v ≡ r
+  test_fails h = h ∙ (rw h at so_far)
+
+-- the next test p is made, if those before it hold
+module _ (p q : Bool) {b r v : Bool} (so_far : (b && (p && q)) ≡ r) where
+  pub test_made : b ≡ true → v ≡ p → (v && q) ≡ r
+  test_made h e = rw e (rw h at so_far)
+
+  pub test_left : b ≡ false → v ≡ false → (v && q) ≡ r
+  test_left h e = rw e (rw h at so_far)
 
 -- ---- no clause is the lowest that is false, or one is
 module _ (p : List ℕ → Bool) (C : List (List ℕ)) where
@@ -86,52 +100,13 @@ pub found_self : (m : Answer (List ℕ)) (x : List ℕ) → m ≡ finding x → 
 unfolding is_found
 found_self m x e = rw e (list_self x)
 
--- ---- two lists, by what is left of them
-same_lengths : (a b : List ℕ) → same_list a b ≡ true → length a ≡ length b
+-- ---- what `==` says of two lists
+pub list_compared : (a b : List ℕ) → pointwise eqb a b ≡ same_list a b
 unfolding same_list
-same_lengths [] [] h = refl
-same_lengths [] (y ∷ b) h = absurd (false≢true h)
-same_lengths (x ∷ a) [] h = absurd (false≢true h)
-same_lengths (x ∷ a) (y ∷ b) h = ap suc (same_lengths a b (and_right (eqb x y) (same_list a b) h))
-
-pub list_lengths_lem : (a b : List ℕ) → (length a ≡ length b → ⊥) → false ≡ same_list a b
-list_lengths_lem a b ne = go (same_list a b) refl
-  where
-    go : (r : Bool) → same_list a b ≡ r → false ≡ r
-    go true e = absurd (ne (same_lengths a b e))
-    go false e = refl
-
--- the words below i are the same, and the test is that of the words left
-pub record SoFar (a b : List ℕ) (i : ℕ) : Type 0 where
-  pub lengths : length a ≡ length b
-  pub inside : i ≤ length a
-  pub rest : same_list a b ≡ same_list (drop i a) (drop i b)
-
-pub far_start : (a b : List ℕ) → length a ≡ length b → SoFar a b 0
-far_start a b e = record { lengths = e; inside = omega arith; rest = refl }
-
-module _ (a b : List ℕ) (i : ℕ) (far : SoFar a b i) where
-  module _ (inside : i < length a) where
-    in_b : i < length b
-    in_b = omega (arith, far.lengths)
-
-    pub far_off : (get_or a i 0 ≡ get_or b i 0 → ⊥) → false ≡ same_list a b
-    unfolding same_list
-    far_off h =
-        rw (far.rest, left_here a i 0 (get_or a i 0) refl inside, left_here b i 0 (get_or b i 0) refl in_b, ne_eqb (get_or a i 0) (get_or b i 0) h)
-
-    rest_on : get_or a i 0 ≡ get_or b i 0 → same_list (drop i a) (drop i b) ≡ same_list (drop (i + 1) a) (drop (i + 1) b)
-    unfolding same_list
-    rest_on h = rw (left_here a i 0 (get_or a i 0) refl inside, left_here b i 0 (get_or b i 0) refl in_b, eq-eqb (get_or a i 0) (get_or b i 0) h)
-
-    pub far_on : get_or a i 0 ≡ get_or b i 0 → SoFar a b (i + 1)
-    far_on h = record { lengths = far.lengths; inside = omega arith; rest = far.rest ∙ rest_on h }
-
-  pub far_end : length a ≤ i → true ≡ same_list a b
-  unfolding same_list
-  far_end h =
-      let k : length b ≤ i = omega (arith, far.lengths) in
-      rw (far.rest, drop_of_length-le a {i = i} h, drop_of_length-le b {i = i} k)
+list_compared [] [] = refl
+list_compared [] (y ∷ b) = refl
+list_compared (x ∷ a) [] = refl
+list_compared (x ∷ a) (y ∷ b) = ap (λ r. eqb x y && r) (list_compared a b)
 
 -- ---- two calls whose answers are compared
 module _ {A : Type 0} (same : Answer A → Answer A → Bool) (a b : Answer A) (s v : List ℕ) (x y : Outcome A) (r : Bool) where

@@ -4,8 +4,8 @@ use mathlib.Core.List.{List, [], ◌∷◌}
 use mathlib.Core.Path.{◌≡◌, refl, sym, ◌∙◌, ap}
 use Prim.Native.Nat.{ℕ, ◌+◌, ◌≤◌, ◌<◌}
 use native.Mathlib.Omega.{arith}
-use lib.ListN.{length, get_or, take, drop, drop_of_length-le}
-use Rattle.definitions.specs.Answer.{Refusal, Answer, finding, refused, verdict, outcome, state_after, becomes}
+use lib.ListN.{length, get_or, drop, drop_of_length-le}
+use Rattle.definitions.specs.Answer.{Refusal, Answer, finding, refused, outcome, state_after, becomes}
 use Rattle.definitions.specs.StepLists.{walk, steps_before}
 use Rattle.definitions.specs.Step.{step_task, start_task}
 use Rattle.definitions.specs.FdrStep.{step_fdr, start_fdr}

@@ -10,7 +10,7 @@ ghost use Rattle.agreement.specs.Compared.{list_same, images_same, comparison, A
 
 use answer::{Counted, Tested, Verdict};
 
-mod same; // same.rt: comparisons of answers and of states
+mod same; // same.rt: comparisons of answers
 mod states; // states.rt: a state of the task and a finite-domain state
 mod steps; // steps.rt: a step for every number of a list
 mod list_run; // list_run.rt: the list runs
@@ -34,10 +34,8 @@ fn same_list(
     requires { Small state.old values.old }
     ensures { result ≡ list_same image.now encoded.now clauses.now list.now state.old values.old }
 {
-    if !steps::from_start(image, encoded, clauses, list, state, values) {
-        return false;
-    }
-    list_run::from_start(image, encoded, clauses, list, state, values)
+    steps::from_start(image, encoded, clauses, list, state, values)
+        && list_run::from_start(image, encoded, clauses, list, state, values)
 }
 
 // The list in local states, of as many atoms and variables as the two images have.

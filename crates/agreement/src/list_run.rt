@@ -57,10 +57,7 @@ fn leaves_in(
         return false;
     }
     walk_both(image, encoded, list, other, others);
-    if !crate::same::bytes(other, state) {
-        return false;
-    }
-    crate::same::words(others, values)
+    *other == *state && *others == *values
 }
 
 // Whether single steps, from the initial states, leave these.
@@ -95,14 +92,8 @@ pub fn from_start(
     requires { Small state.old values.old }
     ensures { result ≡ runs_from_start image.now encoded.now clauses.now list.now state.old values.old }
 {
-    if !crate::states::set_both(image, encoded, state, values) {
-        return false;
-    }
-    if !run_both(image, encoded, list, state, values) {
-        return false;
-    }
-    if !crate::states::same_states(image, encoded, clauses, state, values) {
-        return false;
-    }
-    leaves(image, encoded, list, state, values)
+    crate::states::set_both(image, encoded, state, values)
+        && run_both(image, encoded, list, state, values)
+        && crate::states::same_states(image, encoded, clauses, state, values)
+        && leaves(image, encoded, list, state, values)
 }

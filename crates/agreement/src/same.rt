@@ -1,7 +1,7 @@
-// Comparisons of what two calls answer, and of two states.
+// Comparisons of what two calls answer.
 ghost use Rattle.std.specs.Prelude.{◌≡◌, eqb};
 ghost use Rattle.answer.specs.Answer.{placed, verdict_answer, test_answer, count_answer};
-ghost use Rattle.agreement.specs.Same.{same_refusal, same_answer, both_found, same_unit, same_bool, same_list};
+ghost use Rattle.agreement.specs.Same.{same_refusal, same_answer, both_found, same_unit, same_bool};
 
 use answer::{Counted, Refusal, Tested, Verdict};
 
@@ -80,38 +80,4 @@ pub fn counts(a: Counted, b: Counted) -> bool
             Counted::Refused(g) => refusals(f, g),
         },
     }
-}
-
-// Two finite-domain states.
-pub fn words(a: &[u16], b: &[u16]) -> bool
-    ensures { result ≡ same_list a.now b.now }
-{
-    if a.len() != b.len() {
-        return false;
-    }
-    let mut i: usize = 0;
-    while i < a.len() {
-        if a[i] != b[i] {
-            return false;
-        }
-        i += 1;
-    }
-    true
-}
-
-// Two states of a task.
-pub fn bytes(a: &[u8], b: &[u8]) -> bool
-    ensures { result ≡ same_list a.now b.now }
-{
-    if a.len() != b.len() {
-        return false;
-    }
-    let mut i: usize = 0;
-    while i < a.len() {
-        if a[i] != b[i] {
-            return false;
-        }
-        i += 1;
-    }
-    true
 }

@@ -50,7 +50,7 @@ fn codes_in(encoded: &[u16], state: &[u8], values: &[u16], target: &mut [u16]) -
     let coded = coding::encode(encoded, state, target);
     match coded {
         Verdict::Refused(f) => false,
-        Verdict::Fine => crate::same::words(target, values),
+        Verdict::Fine => *target == *values,
     }
 }
 
@@ -72,7 +72,7 @@ fn decodes_in(encoded: &[u16], values: &[u16], state: &[u8], target: &mut [u8]) 
     let coded = coding::decode(encoded, values, target);
     match coded {
         Verdict::Refused(f) => false,
-        Verdict::Fine => crate::same::bytes(target, state),
+        Verdict::Fine => *target == *state,
     }
 }
 
@@ -97,14 +97,8 @@ pub fn same_states(
     requires { Small state.now values.now }
     ensures { result ≡ same_states image.now encoded.now clauses.now state.now values.now }
 {
-    if !all_hold(clauses, state) {
-        return false;
-    }
-    if !same_goals(image, encoded, state, values) {
-        return false;
-    }
-    if !codes(encoded, state, values) {
-        return false;
-    }
-    decodes(encoded, values, state)
+    all_hold(clauses, state)
+        && same_goals(image, encoded, state, values)
+        && codes(encoded, state, values)
+        && decodes(encoded, values, state)
 }

@@ -34,15 +34,12 @@ fn same_steps(
     requires { Small state.old values.old }
     ensures { result ≡ steps_same image.now encoded.now clauses.now list.now state.old values.old }
 {
-    let mut i: usize = 0;
-    while i < list.len() {
-        if !step_both(image, encoded, list[i], state, values) {
+    for operator in list {
+        if !step_both(image, encoded, *operator, state, values)
+            || !crate::states::same_states(image, encoded, clauses, state, values)
+        {
             return false;
         }
-        if !crate::states::same_states(image, encoded, clauses, state, values) {
-            return false;
-        }
-        i += 1;
     }
     true
 }
@@ -59,11 +56,7 @@ pub fn from_start(
     requires { Small state.old values.old }
     ensures { result ≡ steps_from_start image.now encoded.now clauses.now list.now state.old values.old }
 {
-    if !crate::states::set_both(image, encoded, state, values) {
-        return false;
-    }
-    if !crate::states::same_states(image, encoded, clauses, state, values) {
-        return false;
-    }
-    same_steps(image, encoded, clauses, list, state, values)
+    crate::states::set_both(image, encoded, state, values)
+        && crate::states::same_states(image, encoded, clauses, state, values)
+        && same_steps(image, encoded, clauses, list, state, values)
 }

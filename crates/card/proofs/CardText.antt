@@ -2,17 +2,17 @@
 use mathlib.Core.Path.{◌≡◌, refl, sym, ◌∙◌, ap, subst}
 use mathlib.Core.Bool.{Bool, true, false, ◌&&◌}
 use mathlib.Core.List.{List, [], ◌∷◌, ◌++◌}
-use Prim.Native.Nat.{ℕ, zero, suc, ◌+◌, ◌-◌, ◌*◌, ◌/◌, ◌%◌, ◌≤◌, ◌<◌}
+use Prim.Native.Nat.{ℕ, ◌-◌, ◌*◌, ◌/◌, ◌%◌, ◌≤◌}
 use native.Mathlib.Nat.{div-add-mod}
 use native.Mathlib.Omega.{arith}
 use lib.Dec.{eqb, leb}
-use borrow.Author.Tests.{leb-true, le-leb, lt-leb, eq-eqb, ne_eqb}
+use borrow.Author.Tests.{leb-true}
 use Rattle.definitions.proofs.ListLaws.{and_left, and_right}
 use lib.ListN.{length, get_or, take, drop, replicate, length-append, length-drop}
 use lib.Seq.{take_all, take-append_seam, get_or-drop, length-sets}
 use Rattle.definitions.specs.Answer as paper
 use Rattle.definitions.specs.Answer.{Answer, finding, refused, Outcome, outcome, ask, ask_at, ◌>>=◌}
-use Rattle.definitions.specs.Image.{Task, read_task}
+use Rattle.definitions.specs.Image.{read_task}
 use Rattle.definitions.specs.Clauses.{width, most_rows, clause_words, read_clauses}
 use Rattle.definitions.specs.Checker.{check, accept, Accepted}
 use Rattle.definitions.specs.Synthesis.{Found, Made, synthesis, synthesis_call, made_of, buffer_after}
@@ -21,7 +21,7 @@ use Rattle.definitions.specs.Card.{words_of, most_input, card_answer, card, foun
 use Rattle.definitions.specs.Marks.{mark_bytes}
 use Rattle.definitions.proofs.AnswerLaws.{bind_of, same_finding, not_finding}
 use Rattle.definitions.proofs.ReadLaws.{read_right}
-use Rattle.definitions.proofs.Accepts.{Finish, synthesis_accepted}
+use Rattle.definitions.proofs.Accepts.{synthesis_accepted}
 use Rattle.answer.specs.Answer.{refusal_at}
 use Rattle.clause.specs.Rows.{clauses_of, row_count, ClausesRead}
 use Rattle.clause.proofs.RowLaws.{clauses_length}
@@ -234,15 +234,6 @@ module _
 
 -- ---- the input's bytes
 module _ (bs : List ℕ) where
-  pub input_few : length bs < 4 → false ≡ is_input bs
-  input_few h = rw (lt-leb 4 (length bs) h)
-
-  pub input_odd : 4 ≤ length bs → (length bs % 2 ≡ 0 → ⊥) → false ≡ is_input bs
-  input_odd h k = rw (le-leb 4 (length bs) h, ne_eqb (length bs % 2) 0 k)
-
-  pub input_even : 4 ≤ length bs → length bs % 2 ≡ 0 → leb (length bs) most_input ≡ is_input bs
-  input_even h k = rw (le-leb 4 (length bs) h, eq-eqb (length bs % 2) 0 k)
-
   pub input_size : is_input bs ≡ true → (4 ≤ length bs) × (length bs ≤ most_input)
   input_size e =
       let l = and_left (leb 4 (length bs) && eqb (length bs % 2) 0) (leb (length bs) most_input) e in (

@@ -1,13 +1,11 @@
 -- The text of a finding, by its parts. Assumes nothing.
-use mathlib.Core.Path.{◌≡◌, refl, sym, ◌∙◌, ap}
-use mathlib.Core.List.{List, [], ◌∷◌, ◌++◌, append_assoc}
-use Prim.Native.Nat.{ℕ, ◌+◌, ◌≤◌}
-use lib.ListN.{length}
-use Rattle.definitions.specs.Lists.{each}
+use mathlib.Core.Path.{◌≡◌}
+use mathlib.Core.List.{List, ◌++◌, append_assoc}
+use Prim.Native.Nat.{ℕ}
 use Rattle.definitions.specs.Groups.{groups}
-use Rattle.definitions.specs.Card.{clause_line, group_line, found_text}
+use Rattle.definitions.specs.Card.{found_text}
 use Rattle.cover.specs.Cover.{Covered}
-use Rattle.card.specs.Text.{counts_line, groups_line, group_texts, set_text, cover_text, finding_of}
+use Rattle.card.specs.Text.{counts_line, groups_line, set_text, cover_text, finding_of}
 use Rattle.card.proofs.GroupText.{group_lines}
 
 pub found_parts :

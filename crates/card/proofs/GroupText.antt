@@ -1,10 +1,8 @@
 -- The lines of groups by the places of the atoms are the lines of the groups. Assumes nothing.
-use mathlib.Core.Path.{◌≡◌, refl, sym, ◌∙◌, ap, subst}
+use mathlib.Core.Path.{◌≡◌, refl, sym, ◌∙◌, ap}
 use mathlib.Core.Bool.{Bool, true, false, cond}
-use mathlib.Core.Logic.{◌⊎◌, inl, inr}
 use mathlib.Core.List.{List, [], ◌∷◌, ◌++◌, map, append_assoc, append-nil}
-use Prim.Native.Nat.{ℕ, zero, suc, ◌+◌, ◌-◌, ◌*◌, ◌/◌, ◌≤◌, ◌<◌, max}
-use native.Mathlib.Numerals.{add-one}
+use Prim.Native.Nat.{ℕ, zero, suc, ◌+◌, ◌/◌, ◌≤◌, ◌<◌}
 use native.Mathlib.Omega.{arith}
 use lib.Dec.{eqb}
 use lib.ListN.{length, get_or, length-append}
@@ -13,8 +11,8 @@ use Rattle.definitions.specs.Lists.{each, range, below, all}
 use Rattle.definitions.specs.Text.{decimal}
 use Rattle.definitions.specs.Card.{none_word, group_line}
 use Rattle.definitions.specs.Groups.{mutex, join, groups_below, groups, none_omitted, place_of, Place}
-use Rattle.definitions.proofs.GroupLaws.{In, all_below_lem, group_of}
-use Rattle.cover.specs.Join.{Joins, Placed, Grouped}
+use Rattle.definitions.proofs.GroupLaws.{all_below_lem, group_of}
+use Rattle.cover.specs.Join.{Joins}
 use Rattle.cover.specs.Cover.{Covered}
 use Rattle.cover.proofs.Joining.{join_there, join_else, join_count, place_old, place_new}
 use Rattle.cover.proofs.Covering.{each_by}

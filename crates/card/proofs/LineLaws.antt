@@ -1,23 +1,61 @@
 -- Laws of lines that are written part after part. Assumes nothing.
-use mathlib.Core.Path.{◌≡◌, ◌∙◌, ap}
+use mathlib.Core.Path.{◌≡◌, refl, ◌∙◌, ap}
 use mathlib.Core.List.{List, [], ◌∷◌, ◌++◌, map, append_assoc}
 use Prim.Native.Nat.{ℕ, ◌+◌, ◌-◌, ◌*◌, ◌/◌, ◌≤◌, ◌<◌}
 use native.Mathlib.Omega.{arith}
-use lib.ListN.{length, get_or, drop}
+use lib.ListN.{length, get_or, take, drop}
+use lib.Seq.{get_or-take, length-take-le}
 use borrow.Author.Tests.{eq-eqb, ne_eqb}
 use Rattle.definitions.specs.Lists.{each, range}
 use Rattle.definitions.specs.Text.{decimal}
 use Rattle.definitions.specs.Card.{literal_text, clause_line, none_word}
 use Rattle.definitions.proofs.Walks.{below_left}
+use Rattle.writing.specs.Writing.{Wrote, Writing}
+use Rattle.writing.proofs.Writes.{write_start, write_same, write_part, write_end, part_room}
 use Rattle.writing.proofs.Ranges.{range_each, range_each_end}
 use Rattle.text.specs.Fields.{separator, fields_from}
-use Rattle.text.proofs.Lines.{line_fields}
+use Rattle.text.proofs.Lines.{line_fields, fields_next, fields_end}
 use Rattle.card.specs.Text.{member_text, none_text, group_text, group_texts}
 
--- ---- clauses
-pub clause_start : (ls : List ℕ) → clause_line ls ≡ fields_from 0 (map literal_text (drop 0 ls))
+-- ---- a clause
+pub clause_begun : (ls : List ℕ) {out : List ℕ} {at : ℕ} → Writing out at (clause_line ls) out at (fields_from 0 (map literal_text ls))
 unfolding clause_line
-clause_start ls = line_fields (map literal_text ls)
+clause_begun ls = write_same (line_fields (map literal_text ls)) write_start
+
+-- the fields from i on are left to be written
+module _
+    (ls : List ℕ) (i : ℕ) {at to : ℕ} {old now' : List ℕ}
+    (left : Writing old at (clause_line ls) now' to (fields_from i (map literal_text (drop i ls))))
+  where
+    module _ (h : i < length ls) where
+      abbrev this : List ℕ
+      this = literal_text (get_or ls i 0)
+
+      abbrev others : List ℕ
+      others = fields_from (i + 1) (map literal_text (drop (i + 1) ls))
+
+      field : Writing old at (clause_line ls) now' to (separator i ++ (this ++ others))
+      field = write_same (fields_next literal_text ls i 0 (get_or ls i 0) refl h) left
+
+      pub separator_room : at + length (clause_line ls) ≤ length old → to + length (separator i) ≤ length now'
+      separator_room room = part_room (separator i) (this ++ others) field room
+
+      -- after the separator
+      module _ {mid : List ℕ} {next : ℕ} (w : Wrote now' to (separator i) mid next) where
+        separated : Writing old at (clause_line ls) mid next (literal_text (get_or ls i 0) ++ fields_from (i + 1) (map literal_text (drop (i + 1) ls)))
+        separated = write_part field w
+
+        pub literal_room : at + length (clause_line ls) ≤ length old → next + length (literal_text (get_or ls i 0)) ≤ length mid
+        literal_room room = part_room this others separated room
+
+        pub field_written :
+            {new : List ℕ} {end : ℕ} → Wrote mid next (literal_text (get_or ls i 0)) new end
+            → Writing old at (clause_line ls) new end (fields_from (i + 1) (map literal_text (drop (i + 1) ls)))
+        field_written e = write_part separated e
+
+    -- after the last field
+    pub clause_end : length ls ≤ i → Writing old at (clause_line ls) now' to (10 ∷ [])
+    clause_end h = write_same (fields_end literal_text ls i h) left
 
 -- ---- groups
 pub none_omitted_lem : (n : ℕ) → n ≡ 0 → none_text n ≡ []
@@ -37,19 +75,80 @@ module _ (ps : List ℕ) (v a x : ℕ) (at : x ≡ get_or ps (2 * a) 0) where
   unfolding member_text
   member_there y e h = rw (← at, eq-eqb x v h, e)
 
-pub group_start : (ps : List ℕ) (v none : ℕ) → group_text ps v none ≡ each (member_text ps v) (range 0 (length ps / 2 - 0)) ++ (none_text none ++ (10 ∷ []))
+-- the line of a group
+pub group_begun :
+    (ps : List ℕ) (v none : ℕ) {out : List ℕ} {at : ℕ}
+    → Writing out at (group_text ps v none) out at (each (member_text ps v) (range 0 (length ps / 2 - 0)) ++ (none_text none ++ (10 ∷ [])))
 unfolding group_text
-group_start ps v none = ap (λ (z : List ℕ). z ++ (none_text none ++ (10 ∷ []))) (below_left (each (member_text ps v)) (length ps / 2))
+group_begun ps v none =
+    write_same (ap (λ (z : List ℕ). z ++ (none_text none ++ (10 ∷ []))) (below_left (each (member_text ps v)) (length ps / 2))) write_start
 
-module _ (f : ℕ → List ℕ) (rest : List ℕ) (a n : ℕ) where
-  pub numbers_next : a < n → each f (range a (n - a)) ++ rest ≡ f a ++ (each f (range (a + 1) (n - (a + 1))) ++ rest)
-  numbers_next h =
-      ap (λ (z : List ℕ). z ++ rest) (range_each f a (n - a) (n - (a + 1)) (omega arith))
-      ∙ append_assoc (f a) (each f (range (a + 1) (n - (a + 1)))) rest
+-- the atoms from a on are left to be written, and the end of the line
+module _
+    (ps : List ℕ) (v none a : ℕ) {at to : ℕ} {old now' : List ℕ}
+    (left : Writing old at (group_text ps v none) now' to (each (member_text ps v) (range a (length ps / 2 - a)) ++ (none_text none ++ (10 ∷ []))))
+  where
+    abbrev end : List ℕ
+    end = none_text none ++ (10 ∷ [])
 
-  pub numbers_end : n ≤ a → each f (range a (n - a)) ++ rest ≡ rest
-  numbers_end h = ap (λ (z : List ℕ). z ++ rest) (range_each_end f a (n - a) (omega arith))
+    module _ (h : a < length ps / 2) where
+      member : Writing old at (group_text ps v none) now' to
+          (member_text ps v a ++ (each (member_text ps v) (range (a + 1) (length ps / 2 - (a + 1))) ++ (none_text none ++ (10 ∷ []))))
+      member =
+          write_same
+          (ap (λ (z : List ℕ). z ++ end) (range_each (member_text ps v) a (length ps / 2 - a) (length ps / 2 - (a + 1)) (omega arith))
+          ∙ append_assoc (member_text ps v a) (each (member_text ps v) (range (a + 1) (length ps / 2 - (a + 1)))) end)
+          left
 
-pub groups_start : (ps ns : List ℕ) (n : ℕ) → group_texts ps ns n ≡ each (λ v. group_text ps v (get_or ns v 0)) (range 0 (n - 0))
+      -- what writing atom a asks
+      pub member_given :
+          at + length (group_text ps v none) ≤ length old
+          → (2 * a + 1 < length ps) × (to + length (member_text ps v a) ≤ length now')
+      member_given room =
+          (omega arith, part_room (member_text ps v a) (each (member_text ps v) (range (a + 1) (length ps / 2 - (a + 1))) ++ end) member room)
+
+      pub member_written :
+          {new : List ℕ} {to' : ℕ} → Wrote now' to (member_text ps v a) new to'
+          → Writing old at (group_text ps v none) new to'
+          (each (member_text ps v) (range (a + 1) (length ps / 2 - (a + 1))) ++ (none_text none ++ (10 ∷ [])))
+      member_written w = write_part member w
+
+    -- after the last atom
+    pub group_end : length ps / 2 ≤ a → Writing old at (group_text ps v none) now' to (none_text none ++ (10 ∷ []))
+    group_end h =
+        write_same (ap (λ (z : List ℕ). z ++ end) (range_each_end (member_text ps v) a (length ps / 2 - a) (omega arith))) left
+
+-- ---- the lines of n groups
+pub groups_begun :
+    (ps ns : List ℕ) (n : ℕ) {out : List ℕ} {at : ℕ}
+    → Writing out at (group_texts ps ns n) out at (each (λ x. group_text ps x (get_or ns x 0)) (range 0 (n - 0)))
 unfolding group_texts
-groups_start ps ns n = below_left (each (λ v. group_text ps v (get_or ns v 0))) n
+groups_begun ps ns n = write_same (below_left (each (λ x. group_text ps x (get_or ns x 0))) n) write_start
+
+-- those from v on are left to be written
+module _
+    (ps ns : List ℕ) (n v : ℕ) (few : n ≤ length ns) {at to : ℕ} {old now' : List ℕ}
+    (left : Writing old at (group_texts ps ns n) now' to (each (λ x. group_text ps x (get_or ns x 0)) (range v (n - v))))
+  where
+    abbrev text : ℕ → List ℕ
+    text x = group_text ps x (get_or ns x 0)
+
+    module _ (h : v < length (take n ns)) where
+      low : v < n
+      low = omega (arith, length-take-le n ns few)
+
+      group :
+          Writing old at (group_texts ps ns n) now' to
+          (group_text ps v (get_or (take n ns) v 0) ++ each (λ x. group_text ps x (get_or ns x 0)) (range (v + 1) (n - (v + 1))))
+      group = rw (get_or-take n ns v 0 low) (write_same (range_each text v (n - v) (n - (v + 1)) (omega (arith, low))) left)
+
+      pub group_room : at + length (group_texts ps ns n) ≤ length old → to + length (group_text ps v (get_or (take n ns) v 0)) ≤ length now'
+      group_room room = part_room (group_text ps v (get_or (take n ns) v 0)) (each text (range (v + 1) (n - (v + 1)))) group room
+
+      pub group_written :
+          {new : List ℕ} {end : ℕ} → Wrote now' to (group_text ps v (get_or (take n ns) v 0)) new end
+          → Writing old at (group_texts ps ns n) new end (each (λ y. group_text ps y (get_or ns y 0)) (range (v + 1) (n - (v + 1))))
+      group_written w = write_part group w
+
+    pub groups_written : length (take n ns) ≤ v → Wrote old at (group_texts ps ns n) now' to
+    groups_written h = write_end (write_same (range_each_end text v (n - v) (omega (arith, length-take-le n ns few))) left)

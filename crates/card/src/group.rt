@@ -33,12 +33,9 @@ fn write_group(out: &mut [u8], at: usize, places: &[u16], v: usize, none: u16) -
     requires { at + length (group_text places.now v none) ≤ length out.old }
     ensures { Wrote out.old at (group_text places.now v none) out.new result }
 {
-    let count = places.len() / 2;
     let mut to = at;
-    let mut a: usize = 0;
-    while a < count {
+    for a in 0..places.len() / 2 {
         to = write_member(out, to, places, v, a);
-        a += 1;
     }
     let end = write_none(out, to, none);
     writing::byte(b'\n', out, end)
@@ -50,10 +47,8 @@ fn write_groups(out: &mut [u8], at: usize, places: &[u16], none: &[u16], count: 
     ensures { Wrote out.old at (group_texts places.now none.now count) out.new result }
 {
     let mut to = at;
-    let mut v: usize = 0;
-    while v < count {
-        to = write_group(out, to, places, v, none[v]);
-        v += 1;
+    for (v, x) in none[..count].iter().enumerate() {
+        to = write_group(out, to, places, v, *x);
     }
     to
 }

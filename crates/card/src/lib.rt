@@ -32,13 +32,7 @@ pub const MOST_INPUT: usize = 2 * MOST_WORDS;
 fn is_input(input: &[u8]) -> bool
     ensures { result ≡ is_input input.now }
 {
-    if input.len() < 4 {
-        return false;
-    }
-    if input.len() % 2 != 0 {
-        return false;
-    }
-    input.len() <= MOST_INPUT
+    input.len() >= 4 && input.len() % 2 == 0 && input.len() <= MOST_INPUT
 }
 
 // Writes the text of a refusal.
@@ -53,10 +47,7 @@ fn write_refused(out: &mut [u8], f: Refusal) -> usize
 fn atoms(words: &[u16]) -> usize
     ensures { result ≡ get_or words.now 2 0 }
 {
-    if words.len() <= 2 {
-        return 0;
-    }
-    literal::wide(words[2])
+    literal::wide(words.get(2).copied().unwrap_or(0))
 }
 
 // Writes the card for the words of an input: n, limit, image.

@@ -33,12 +33,9 @@ fn write_clause(out: &mut [u8], at: usize, literals: &[u16]) -> usize
     ensures { Wrote out.old at (clause_line literals.now) out.new result }
 {
     let mut to = at;
-    let mut i: usize = 0;
-    while i < literals.len() {
-        let l = literals[i];
+    for (i, l) in literals.iter().enumerate() {
         to = text::separate(out, to, i);
-        to = write_literal(out, to, Literal { code: l });
-        i += 1;
+        to = write_literal(out, to, Literal { code: *l });
     }
     writing::byte(b'\n', out, to)
 }

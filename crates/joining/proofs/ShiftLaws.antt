@@ -4,7 +4,7 @@ use mathlib.Core.Path.{◌≡◌, refl, ◌∙◌, ap, ap₂, subst}
 use mathlib.Core.List.{List, [], ◌∷◌, ◌++◌, map}
 use Prim.Native.Nat.{ℕ, ◌+◌, ◌-◌, ◌*◌, ◌≤◌, ◌<◌}
 use native.Mathlib.Omega.{arith}
-use lib.ListN.{length, get_or, take, drop, length-append, length-map, drop_of_length-le}
+use lib.ListN.{length, get_or, set, take, drop, length-append, length-map, drop_of_length-le}
 use Rattle.definitions.specs.Lists.{all, each}
 use Rattle.definitions.specs.Literal.{most_atoms, most_literals, all_below}
 use Rattle.definitions.specs.Image.{most_image, Row, Operator, row_right, operator_right}
@@ -22,21 +22,38 @@ use Rattle.task.specs.Reads.{task_of, Reads}
 use Rattle.task.specs.Post.{BlockGiven, BlockRead, OperatorOver}
 use Rattle.task.proofs.BlockSizes.{first_right, rows_same, precondition_few, operator_pre, block_over}
 use Rattle.task.proofs.BlockSizes.{each_next, each_end}
+use Rattle.writing.specs.Writing.{Wrote, Writing}
+use Rattle.writing.proofs.Writes.{write_same, write_word, write_part, write_end, word_room, part_room}
 use Rattle.joining.specs.Behind.{rows_behind, operator_behind, operators_behind, NumbersGiven, CountedGiven, RowGiven}
 
 -- ---- numbers
 module _ (k : ℕ) (xs : List ℕ) (i : ℕ) where
-  pub numbers_next : i < length xs → shifted k (drop i xs) ≡ (k + get_or xs i 0) ∷ shifted k (drop (i + 1) xs)
+  numbers_next : i < length xs → shifted k (drop i xs) ≡ (k + get_or xs i 0) ∷ shifted k (drop (i + 1) xs)
   unfolding shifted
   numbers_next h = rw (left_here xs i 0 (get_or xs i 0) refl h)
 
-  pub numbers_end : length xs ≤ i → shifted k (drop i xs) ≡ []
+  numbers_end : length xs ≤ i → shifted k (drop i xs) ≡ []
   unfolding shifted
   numbers_end h = rw (drop_of_length-le xs {i = i} h)
 
   -- each stays below the most literals
   pub number_low : NumbersGiven k xs → i < length xs → k + get_or xs i 0 < most_literals
   number_low g h = let a = low_at (most_literals - k) xs i g.low h in let b = g.few in omega arith
+
+-- those from i on are left to be written
+module _ (k : ℕ) (xs : List ℕ) (i : ℕ) {at to : ℕ} {old now' : List ℕ} (w : Writing old at (shifted k xs) now' to (shifted k (drop i xs))) where
+  module _ (h : i < length xs) where
+    numbers_left : Writing old at (shifted k xs) now' to ((k + get_or xs i 0) ∷ shifted k (drop (i + 1) xs))
+    numbers_left = write_same (numbers_next k xs i h) w
+
+    pub number_room : at + length xs ≤ length old → (to < length now') × (length now' ≡ length old)
+    number_room room = (word_room numbers_left (omega (arith, shifted_length k xs)), w.size)
+
+    pub number_written : Writing old at (shifted k xs) (set now' to (k + get_or xs i 0)) (to + 1) (shifted k (drop (i + 1) xs))
+    number_written = write_word numbers_left
+
+  pub numbers_written : length xs ≤ i → Wrote old at (shifted k xs) now' to
+  numbers_written h = write_end (write_same (numbers_end k xs i h) w)
 
 pub numbers_given : (k n : ℕ) (xs : List ℕ) → all_below n xs ≡ true → k + n ≤ most_literals → NumbersGiven k xs
 numbers_given k n xs low few =
@@ -144,21 +161,21 @@ precondition_given {n} {b} {target} {end} {k} few over read room =
       room = (let a = operator_length n b (operator_in b) end k read in omega arith);
     }
 
--- ---- the operators of an image from i on
+-- ---- the operators of an image
 module _ (n : ℕ) (w : List ℕ) (i : ℕ) where
-  pub operators_next :
+  operators_next :
       i < length (task_of w).operators
       → operators_behind n (drop i (task_of w).operators)
       ≡ operator_behind n (operator_at (task_of w) i) ++ operators_behind n (drop (i + 1) (task_of w).operators)
   unfolding operators_behind
   operators_next h = each_next w i (operator_behind n) h
 
-  pub operators_end : length (task_of w).operators ≤ i → operators_behind n (drop i (task_of w).operators) ≡ []
+  operators_end : length (task_of w).operators ≤ i → operators_behind n (drop i (task_of w).operators) ≡ []
   unfolding operators_behind
   operators_end h = each_end w i (operator_behind n) h
 
-  -- it is over the atoms that are left
-  pub operator_left :
+  -- one is over the atoms that are left
+  operator_left :
       (b : List ℕ) → Reads w → i < length (task_of w).operators → BlockGiven b (task_of w) i → n + (task_of w).atoms ≤ most_atoms
       → OperatorOver (most_atoms - n) b
   operator_left b rd h given few =
@@ -171,3 +188,31 @@ module _ (n : ℕ) (w : List ℕ) (i : ℕ) where
             (operator_first N (most_atoms - n - N) (operator_in b) o.right);
         short = o.short;
       }
+
+-- those from i on are left to be written
+module _
+    (n : ℕ) (w : List ℕ) (i : ℕ) {at to : ℕ} {old now' : List ℕ}
+    (left : Writing old at (operators_behind n (task_of w).operators) now' to (operators_behind n (drop i (task_of w).operators)))
+    where
+  -- the block of operator i is read
+  module _ (h : i < length (task_of w).operators) {b : List ℕ} (given : BlockGiven b (task_of w) i) where
+    operator_next :
+        Writing old at (operators_behind n (task_of w).operators) now' to
+        (operator_behind n (operator_in b) ++ operators_behind n (drop (i + 1) (task_of w).operators))
+    operator_next = rw given.operator (write_same (operators_next n w i h) left)
+
+    -- what writing it asks
+    pub operator_given :
+        Reads w → n + (task_of w).atoms ≤ most_atoms → at + length (operators_behind n (task_of w).operators) ≤ length old
+        → (n ≤ most_atoms) × (OperatorOver (most_atoms - n) b) × (to + length (operator_behind n (operator_in b)) ≤ length now')
+    operator_given rd few room =
+        (omega arith, operator_left n w i b rd h given few,
+         part_room (operator_behind n (operator_in b)) (operators_behind n (drop (i + 1) (task_of w).operators)) operator_next room)
+
+    pub operator_written :
+        {new : List ℕ} {end : ℕ} → Wrote now' to (operator_behind n (operator_in b)) new end
+        → Writing old at (operators_behind n (task_of w).operators) new end (operators_behind n (drop (i + 1) (task_of w).operators))
+    operator_written e = write_part operator_next e
+
+  pub operators_written : length (task_of w).operators ≤ i → Wrote old at (operators_behind n (task_of w).operators) now' to
+  operators_written h = write_end (write_same (operators_end n w i h) left)

@@ -13,14 +13,11 @@ fn block_lengths(image: &[u16], lengths: &mut [u16], at: usize) -> usize
     requires { (Reads image.now) × (at + length (task_of image.now).operators ≤ length lengths.old) }
     ensures { Wrote lengths.old at (map operator_size (task_of image.now).operators) lengths.new result }
 {
-    let count = task::operators(image);
     let mut to = at;
-    let mut i: usize = 0;
-    while i < count {
+    for i in 0..task::operators(image) {
         let block = task::operator_block(image, i);
         lengths[to] = block.len() as u16;
         to += 1;
-        i += 1;
     }
     to
 }

@@ -16,11 +16,9 @@ fn numbers(list: &[u16], by: u16, target: &mut [u16], at: usize) -> usize
     ensures { Wrote target.old at (shifted by list.now) target.new result }
 {
     let mut to = at;
-    let mut i: usize = 0;
-    while i < list.len() {
-        target[to] = by + list[i];
+    for x in list {
+        target[to] = by + *x;
         to += 1;
-        i += 1;
     }
     to
 }
@@ -99,12 +97,9 @@ pub fn operators(image: &[u16], before: u16, target: &mut [u16], at: usize) -> u
         × (at + length (operators_behind before (task_of image.now).operators) ≤ length target.old) }
     ensures { Wrote target.old at (operators_behind before (task_of image.now).operators) target.new result }
 {
-    let count = task::operators(image);
     let mut to = at;
-    let mut i: usize = 0;
-    while i < count {
+    for i in 0..task::operators(image) {
         to = operator(task::operator_block(image, i), before, target, to);
-        i += 1;
     }
     to
 }

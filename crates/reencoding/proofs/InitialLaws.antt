@@ -10,7 +10,7 @@ use native.Mathlib.Decide.{ℕ_discrete}
 use native.Mathlib.Omega.{arith}
 use lib.Dec.{eqb, ltb}
 use lib.ListN.{length, get_or, set, take, drop, length-map, length-set, drop_of_length-le}
-use lib.Seq.{set-get_or, sets-eq, get_or-set_same, get_or-set_other, get_or-take, ext_get_or, take_at, drop_at, length-take-le}
+use lib.Seq.{sets-eq, get_or-set_same, get_or-set_other, get_or-take, ext_get_or, take_at, drop_at, length-take-le}
 use borrow.Author.Tests.{eq-eqb, ne_eqb, ltb-true}
 use Rattle.definitions.specs.Lists.{any, all, member}
 use Rattle.definitions.specs.Literal.{all_below, state_of}
@@ -27,39 +27,31 @@ use Rattle.cover.proofs.Joining.{at_variable, variable_at, variable_low}
 use Rattle.writing.specs.Writing.{Wrote}
 use Rattle.writing.proofs.Writes.{wrote_size, wrote_between}
 use Rattle.definitions.proofs.LiteralLaws.{low_at}
-use Rattle.reencoding.specs.Words.{atoms_of}
+use Rattle.reencoding.specs.Words.{atoms_of, AtomsGiven}
 use Rattle.reencoding.specs.Parts.{lower, lowered}
 
--- ---- one value
-module _ (vs : List ℕ) (v x : ℕ) where
-  pub lower_less : x < get_or vs v 0 → set vs v x ≡ lower vs v x
-  unfolding lower
-  lower_less h = let e : min (get_or vs v 0) x ≡ x = omega arith in rw e
-
-  pub lower_stays : get_or vs v 0 ≤ x → vs ≡ lower vs v x
-  unfolding lower
-  lower_stays h = let e : min (get_or vs v 0) x ≡ get_or vs v 0 = omega arith in rw e (sym (set-get_or vs v 0))
-
 -- ---- the walk over the true atoms
-module _ (places trues vs : List ℕ) (i : ℕ) where
-  pub lowered_next :
-      (a v : ℕ) (vs' : List ℕ) → i < length trues → a ≡ get_or trues i 0 → v ≡ get_or places (2 * a) 0
-      → vs' ≡ lower vs v (get_or places (2 * a + 1) 0) → lowered places (drop i trues) vs ≡ lowered places (drop (i + 1) trues) vs'
-  unfolding lowered
-  lowered_next a v vs' h ea ev e = rw (left_here trues i 0 a ea h, e, ev)
-
-  pub lowered_end : length trues ≤ i → lowered places (drop i trues) vs ≡ vs
-  unfolding lowered
-  lowered_end h = rw (drop_of_length-le trues {i = i} h)
-
-pub true_inside :
-    (places trues : List ℕ) (i a : ℕ) → all_below (atoms_of places) trues ≡ true → i < length trues → a ≡ get_or trues i 0
-    → a < atoms_of places
-true_inside places trues i a h low e = let k = low_at (atoms_of places) trues i h low in omega arith
-
-pub place_inside : (places : List ℕ) (a : ℕ) → a < atoms_of places → 2 * a + 1 < length places
+place_inside : (places : List ℕ) (a : ℕ) → a < atoms_of places → 2 * a + 1 < length places
 unfolding atoms_of
 place_inside places a h = omega arith
+
+module _ (places trues : List ℕ) (i : ℕ) where
+  module _ (a : ℕ) (h : i < length trues) (ea : a ≡ get_or trues i 0) where
+    pub lowered_next :
+        (v : ℕ) (vs vs' : List ℕ) → v ≡ get_or places (2 * a) 0 → vs' ≡ lower vs v (get_or places (2 * a + 1) 0)
+        → lowered places (drop i trues) vs ≡ lowered places (drop (i + 1) trues) vs'
+    unfolding lowered
+    lowered_next v vs vs' ev e = rw (left_here trues i 0 a ea h, e, ev)
+
+    -- the place of the atom at i, and its variable
+    pub true_given : {n : ℕ} → AtomsGiven places trues n → (2 * a + 1 < length places) × (get_or places (2 * a) 0 < n)
+    true_given g =
+        let low : a < atoms_of places = omega (arith, low_at (atoms_of places) trues i g.below h) in
+        (place_inside places a low, g.variable a low)
+
+  pub lowered_end : (vs : List ℕ) → length trues ≤ i → lowered places (drop i trues) vs ≡ vs
+  unfolding lowered
+  lowered_end vs h = rw (drop_of_length-le trues {i = i} h)
 
 pub lowered_length : (places trues vs : List ℕ) → length (lowered places trues vs) ≡ length vs
 unfolding lowered lower

@@ -1,21 +1,23 @@
 -- Lengths of the parts, and the directory that they make. Assumes nothing.
 use mathlib.Core.Path.{◌≡◌, ap}
-use mathlib.Core.List.{List, [], ◌∷◌, map}
+use mathlib.Core.List.{List, [], ◌∷◌, ◌++◌, map}
 use Prim.Native.Nat.{ℕ, ◌+◌, ◌-◌, ◌*◌, ◌≤◌, ◌<◌}
 use native.Mathlib.Omega.{arith}
-use lib.ListN.{length, take, length-map}
+use lib.ListN.{length, take, drop, length-map}
 use Rattle.definitions.specs.Literal.{most_atoms}
 use Rattle.definitions.specs.Image.{most_operators, Operator, Task, operator_size, operators_size}
 use Rattle.definitions.specs.FdrImage.{most_fdr_image}
 use Rattle.definitions.specs.Step.{operator_at}
 use Rattle.task.specs.Reads.{task_of, Reads}
-use Rattle.task.specs.Post.{BlockGiven}
-use Rattle.task.proofs.BlockSizes.{task_sizes, size_is}
+use Rattle.task.specs.Walk.{operator_in}
+use Rattle.task.specs.Post.{BlockGiven, OperatorOver}
+use Rattle.task.proofs.BlockSizes.{task_sizes, size_is, block_over, each_next, each_end}
 use Rattle.writing.specs.Directory.{sum, directory_of, size_of, DirectoryGiven}
-use Rattle.writing.specs.Writing.{Wrote}
-use Rattle.writing.proofs.Writes.{wrote_size, wrote_taken}
+use Rattle.writing.specs.Writing.{Wrote, Writing}
+use Rattle.writing.proofs.Writes.{wrote_size, wrote_taken, write_same, write_part, write_end, part_room}
 use Rattle.writing.proofs.DirectoryLaws.{directory_length}
-use Rattle.reencoding.specs.Parts.{words_of, lengths_of}
+use Rattle.reencoding.specs.Words.{atoms_of, operator_by, Ready}
+use Rattle.reencoding.specs.Parts.{words_of, lengths_of, operators_by}
 
 -- ---- one operator
 pub block_words :
@@ -73,3 +75,47 @@ module _ (w : List ℕ) (rd : Reads w) (n : ℕ) (few : n ≤ most_atoms) where
       let c = ap size_of el in
       let d = directory_length n m ls in
       record { first_word = omega arith; second_word = omega arith; offsets = omega arith; room = omega arith }
+
+-- ---- the operators: those from i on are left to be written
+module _ (places w : List ℕ) (i : ℕ) where
+  operators_next :
+      i < length (task_of w).operators
+      → operators_by places (drop i (task_of w).operators)
+      ≡ operator_by places (operator_at (task_of w) i) ++ operators_by places (drop (i + 1) (task_of w).operators)
+  unfolding operators_by
+  operators_next h = each_next w i (operator_by places) h
+
+  operators_end : length (task_of w).operators ≤ i → operators_by places (drop i (task_of w).operators) ≡ []
+  unfolding operators_by
+  operators_end h = each_end w i (operator_by places) h
+
+  module _
+      {at to : ℕ} {old now' : List ℕ}
+      (left : Writing old at (operators_by places (task_of w).operators) now' to (operators_by places (drop i (task_of w).operators)))
+    where
+      -- the block of operator i is read
+      module _ (h : i < length (task_of w).operators) {b : List ℕ} (given : BlockGiven b (task_of w) i) where
+        operator_next :
+            Writing old at (operators_by places (task_of w).operators) now' to
+            (operator_by places (operator_in b) ++ operators_by places (drop (i + 1) (task_of w).operators))
+        operator_next = rw given.operator (write_same (operators_next h) left)
+
+        -- what writing it asks
+        pub operator_given :
+            Reads w → (task_of w).atoms ≡ atoms_of places → Ready places (operators_by places (task_of w).operators) old at
+            → Ready places (operator_by places (operator_in b)) now' to × OperatorOver (atoms_of places) b
+        operator_given rd atoms r = (
+          record {
+            low = r.low;
+            room = part_room (operator_by places (operator_in b)) (operators_by places (drop (i + 1) (task_of w).operators)) operator_next r.room;
+          },
+          rw (← atoms) (block_over w rd i h b given),
+        )
+
+        pub operator_written :
+            {new : List ℕ} {end : ℕ} → Wrote now' to (operator_by places (operator_in b)) new end
+            → Writing old at (operators_by places (task_of w).operators) new end (operators_by places (drop (i + 1) (task_of w).operators))
+        operator_written e = write_part operator_next e
+
+      pub operators_written : length (task_of w).operators ≤ i → Wrote old at (operators_by places (task_of w).operators) now' to
+      operators_written h = write_end (write_same (operators_end h) left)

@@ -1,19 +1,23 @@
 -- Laws of the words of literals, rows and operators, for the walks that write them. Assumes nothing.
-use mathlib.Core.Bool.{true, false}
+use mathlib.Core.Bool.{Bool, true, false, not}
 use mathlib.Core.Path.{◌≡◌, refl, sym, ◌∙◌, ap}
 use mathlib.Core.List.{List, [], ◌∷◌, ◌++◌}
 use Prim.Native.Nat.{ℕ, ◌+◌, ◌*◌, ◌%◌, ◌≤◌, ◌<◌}
 use native.Mathlib.Omega.{arith}
+use mir.Val.{bool_byte}
 use lib.ListN.{length, get_or, drop, length-append, drop_of_length-le}
 use borrow.Author.Tests.{eqb-true, eqb-false}
 use Rattle.definitions.specs.Lists.{each}
-use Rattle.definitions.specs.Literal.{atom, positive}
+use Rattle.definitions.specs.Literal.{atom, positive, all_below}
 use Rattle.definitions.specs.Image.{Row, row_right}
 use Rattle.definitions.proofs.ReadLaws.{row_effect}
+use Rattle.definitions.proofs.LiteralLaws.{low_at}
 use Rattle.definitions.proofs.Walks.{left_here}
 use Rattle.definitions.proofs.FdrBack.{pair_words_lem}
 use Rattle.task.specs.Walk.{row}
-use Rattle.reencoding.specs.Words.{atoms_of, literal_by, literals_by, counted_by, row_by, rows_by}
+use Rattle.writing.specs.Writing.{Wrote, Writing}
+use Rattle.writing.proofs.Writes.{write_same, write_part, write_end, part_room}
+use Rattle.reencoding.specs.Words.{atoms_of, literal_by, literals_by, counted_by, row_by, rows_by, Ready}
 
 -- ---- lengths
 pub literals_length : (places ls : List ℕ) → length (literals_by places ls) ≡ 2 * length ls
@@ -39,23 +43,44 @@ pub literal_words :
 unfolding literal_by
 literal_words places l a s ea es = rw (ea, es)
 
-pub sign_even : (l : ℕ) → positive l ≡ true → 0 ≡ l % 2
+-- 1 if it is negative, as a number
+pub sign_is : (l s : ℕ) (p : Bool) → p ≡ positive l → s ≡ bool_byte (not p) → s ≡ l % 2
 unfolding positive
-sign_even l h = sym (eqb-true (l % 2) 0 h)
+sign_is l s true e es = let z = eqb-true (l % 2) 0 (sym e) in omega arith
+sign_is l s false e es = let n = eqb-false (l % 2) 0 (sym e) in omega arith
 
-pub sign_odd : (l : ℕ) → positive l ≡ false → 1 ≡ l % 2
-unfolding positive
-sign_odd l h = let n = eqb-false (l % 2) 0 h in omega arith
-
--- ---- the next literal is written
+-- ---- literals: those from i on are left to be written
 module _ (places ls : List ℕ) (i : ℕ) where
-  pub literals_next : i < length ls → literals_by places (drop i ls) ≡ literal_by places (get_or ls i 0) ++ literals_by places (drop (i + 1) ls)
+  literals_next : i < length ls → literals_by places (drop i ls) ≡ literal_by places (get_or ls i 0) ++ literals_by places (drop (i + 1) ls)
   unfolding literals_by each
   literals_next h = rw (left_here ls i 0 (get_or ls i 0) refl h)
 
-  pub literals_end : length ls ≤ i → literals_by places (drop i ls) ≡ []
+  literals_end : length ls ≤ i → literals_by places (drop i ls) ≡ []
   unfolding literals_by each
   literals_end h = rw (drop_of_length-le ls {i = i} h)
+
+  module _ {at to : ℕ} {old now' : List ℕ} (left : Writing old at (literals_by places ls) now' to (literals_by places (drop i ls))) where
+    module _ (h : i < length ls) where
+      literal_next :
+          Writing old at (literals_by places ls) now' to (literal_by places (get_or ls i 0) ++ literals_by places (drop (i + 1) ls))
+      literal_next = write_same (literals_next h) left
+
+      -- what writing the next one asks
+      pub literal_given :
+          Ready places (literals_by places ls) old at → all_below (2 * atoms_of places) ls ≡ true
+          → Ready places (literal_by places (get_or ls i 0)) now' to × (get_or ls i 0 < 2 * atoms_of places)
+      literal_given r low = (
+        record { low = r.low; room = part_room (literal_by places (get_or ls i 0)) (literals_by places (drop (i + 1) ls)) literal_next r.room },
+        low_at (2 * atoms_of places) ls i low h,
+      )
+
+      pub literal_written :
+          {new : List ℕ} {end : ℕ} → Wrote now' to (literal_by places (get_or ls i 0)) new end
+          → Writing old at (literals_by places ls) new end (literals_by places (drop (i + 1) ls))
+      literal_written w = write_part literal_next w
+
+    pub literals_written : length ls ≤ i → Wrote old at (literals_by places ls) now' to
+    literals_written h = write_end (write_same (literals_end h) left)
 
 -- ---- a row
 pub row_inside : (places : List ℕ) (r : Row) → row_right (atoms_of places) r ≡ true → 2 * atom r.effect + 1 < length places

@@ -13,7 +13,7 @@ use literal::Literal;
 fn sign(l: Literal) -> u16
     ensures { result ≡ l.code % 2 }
 {
-    if l.is_positive() { 0 } else { 1 }
+    u16::from(!l.is_positive())
 }
 
 // Writes a literal: the variable of its atom, and twice the value, plus 1 if it is negative.
@@ -34,11 +34,8 @@ pub fn literals(list: &[u16], places: &[u16], target: &mut [u16], at: usize) -> 
     ensures { Wrote target.old at (literals_by places.now list.now) target.new result }
 {
     let mut to = at;
-    let mut i: usize = 0;
-    while i < list.len() {
-        let l = list[i];
-        to = literal(Literal { code: l }, places, target, to);
-        i += 1;
+    for l in list {
+        to = literal(Literal { code: *l }, places, target, to);
     }
     to
 }

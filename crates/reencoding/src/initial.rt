@@ -9,9 +9,7 @@ fn lower(values: &mut [u16], v: usize, x: u16)
     requires { v < length values.old }
     ensures { values.new ≡ lower values.old v x }
 {
-    if x < values[v] {
-        values[v] = x;
-    }
+    values[v] = values[v].min(x);
 }
 
 // Lowers the value of each variable to that of its true atoms.
@@ -19,11 +17,9 @@ fn lower_all(trues: &[u16], places: &[u16], values: &mut [u16])
     requires { AtomsGiven places.now trues.now (length values.old) }
     ensures { values.new ≡ lowered places.now trues.now values.old }
 {
-    let mut i: usize = 0;
-    while i < trues.len() {
-        let a = literal::wide(trues[i]);
+    for x in trues {
+        let a = literal::wide(*x);
         lower(values, literal::wide(places[2 * a]), places[2 * a + 1]);
-        i += 1;
     }
 }
 

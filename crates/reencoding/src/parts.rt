@@ -25,13 +25,10 @@ fn block_lengths(image: &[u16], lengths: &mut [u16], at: usize) -> usize
     requires { (Reads image.now) × (at + length (task_of image.now).operators ≤ length lengths.old) }
     ensures { Wrote lengths.old at (map words_of (task_of image.now).operators) lengths.new result }
 {
-    let count = task::operators(image);
     let mut to = at;
-    let mut i: usize = 0;
-    while i < count {
+    for i in 0..task::operators(image) {
         lengths[to] = block_size(image, i) as u16;
         to += 1;
-        i += 1;
     }
     to
 }
@@ -54,12 +51,9 @@ pub fn operators(image: &[u16], places: &[u16], target: &mut [u16], at: usize) -
         × (Ready places.now (operators_by places.now (task_of image.now).operators) target.old at) }
     ensures { Wrote target.old at (operators_by places.now (task_of image.now).operators) target.new result }
 {
-    let count = task::operators(image);
     let mut to = at;
-    let mut i: usize = 0;
-    while i < count {
+    for i in 0..task::operators(image) {
         to = super::block::operator(task::operator_block(image, i), places, target, to);
-        i += 1;
     }
     to
 }

@@ -1,5 +1,5 @@
 -- `reencoding::write_parts`: the initial values, the goal, the operators.
-use Prim.Native.Nat.{ℕ, ◌+◌}
+use Prim.Native.Nat.{ℕ}
 use mathlib.Core.List.{List, ◌++◌}
 use native.Mathlib.Omega.{arith}
 use lib.ListN.{take}

@@ -1,8 +1,6 @@
 -- `agreement::states::decodes`: the target is a part of a local array, as long as the state to compare with.
-use Prim.Native.Nat.{ℕ, ◌≤◌}
 use mathlib.Core.Path.{sym}
 use native.Mathlib.Omega.{arith}
-use lib.ListN.{length}
 use lib.Seq.{length-take-le}
 use borrow.Author.Rules.{rules}
 use Rattle.agreement.proofs.states.decodes.Statement.{statement}

@@ -1,5 +1,5 @@
 use native.Mathlib.Omega.{arith}
-use mathlib.Core.Path.{◌≡◌, sym}
+use mathlib.Core.Path.{sym}
 use Rattle.cover.proofs.Covering.{no_places, no_sizes, all_none, places_taken, room_start}
 use Rattle.card.proofs.CardText.{read_size}
 use borrow.Author.Rules.{rules}

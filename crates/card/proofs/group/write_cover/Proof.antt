@@ -1,5 +1,5 @@
 use mathlib.Core.Path.{◌≡◌, refl}
-use mathlib.Core.List.{List, ◌++◌}
+use mathlib.Core.List.{◌++◌}
 use Rattle.writing.proofs.Writes.{wrote_same, wrote_both, first_room, next_room}
 use Rattle.card.specs.Text.{groups_line, group_texts, cover_text}
 use borrow.Author.Rules.{rules}

@@ -1,7 +1,5 @@
-use Prim.Native.Nat.{ℕ, ◌+◌, ◌*◌}
-use native.Mathlib.Omega.{arith}
 use mathlib.Core.Path.{◌≡◌}
-use mathlib.Core.List.{List, ◌++◌}
+use mathlib.Core.List.{◌++◌}
 use Rattle.definitions.specs.Text.{decimal}
 use Rattle.writing.proofs.Writes.{wrote_same, wrote_both, wrote_nothing, first_room, next_room}
 use Rattle.text.specs.Fields.{separator}

@@ -1,5 +1,5 @@
 use native.Mathlib.Omega.{arith}
-use mathlib.Core.Path.{◌≡◌, ap}
+use mathlib.Core.Path.{ap}
 use lib.ListN.{length}
 use Rattle.definitions.specs.Card.{none_word}
 use Rattle.writing.proofs.Writes.{wrote_same, wrote_nothing}

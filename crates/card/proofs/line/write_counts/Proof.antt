@@ -1,6 +1,5 @@
-use Prim.Native.Nat.{ℕ, ◌+◌, ◌≤◌}
+use Prim.Native.Nat.{ℕ}
 use mathlib.Core.List.{List, [], ◌∷◌, ◌++◌}
-use lib.ListN.{length}
 use Rattle.definitions.specs.Text.{decimal}
 use Rattle.definitions.specs.Card.{clauses_word, rounds_word}
 use Rattle.writing.specs.Writing.{Writing}

@@ -1,10 +1,7 @@
 use Rattle.reencoding.specs.Words.{counted_by}
-use mathlib.Core.Path.{◌≡◌, sym, ◌∙◌, subst}
-use mathlib.Core.List.{List}
-use Prim.Native.Nat.{ℕ}
+use mathlib.Core.Path.{◌∙◌}
 use native.Mathlib.Omega.{arith}
-use lib.ListN.{length, length-set}
-use Rattle.writing.specs.Writing.{Wrote}
+use lib.ListN.{length-set}
 use Rattle.writing.proofs.Writes.{wrote_word}
 use Rattle.reencoding.proofs.WordLaws.{counted_length, literals_length}
 use borrow.Author.Rules.{rules}

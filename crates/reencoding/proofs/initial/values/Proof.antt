@@ -1,9 +1,9 @@
-use mathlib.Core.Path.{◌≡◌, sym, ◌∙◌, ap}
-use Prim.Native.Nat.{ℕ, ◌≤◌, ◌+◌}
+use mathlib.Core.Path.{◌≡◌, sym, ap}
+use Prim.Native.Nat.{◌≤◌, ◌+◌}
 use native.Mathlib.Omega.{arith}
-use lib.ListN.{length, take, drop}
+use lib.ListN.{length, take}
 use lib.Seq.{length-take-le}
-use Rattle.reencoding.proofs.InitialLaws.{words_inside, words_end, part_is, wrote_lowered}
+use Rattle.reencoding.proofs.InitialLaws.{words_end, part_is, wrote_lowered}
 use borrow.Author.Rules.{rules}
 use Rattle.reencoding.proofs.initial.values.Statement.{statement}
 use Rattle.reencoding.proofs.initial.values.Tie as tie
