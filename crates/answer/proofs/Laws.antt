@@ -1,10 +1,10 @@
 -- Laws of answers and outcomes, for the calls. Assumes nothing.
-use mathlib.Core.Path.{◌≡◌, refl, sym, ap, ◌∙◌}
+use mathlib.Core.Path.{◌≡◌, refl, sym, ap, ◌∙◌, subst}
 use mathlib.Core.List.{List}
 use Prim.Native.Nat.{ℕ}
 use Rattle.definitions.specs.Answer.{Refusal, Answer, finding, refused, verdict, Outcome, outcome, ask_at, ◌>>=◌}
-use Rattle.std.specs.Result.{IsErrAnd}
-use Rattle.std.proofs.Common.{Result}
+use Rattle.std.specs.Result.{IsErrAnd, MatchResult}
+use Rattle.std.proofs.Common.{Result, Ok, Err}
 use Rattle.std.proofs.lemmas.Result.{err_from_is_err_and}
 use Rattle.answer.specs.declared.Refusal as code
 use Rattle.answer.specs.Answer.{refusal_at, placed, answer_of}
@@ -41,6 +41,23 @@ module _ {A B : Type 0} (m : Answer A) (k : A → Answer B) where
 -- the exit of a `?`: the refusal of the call is handed on
 pub left_by : {A : Type 0} (r : Result A code.Refusal) (f : code.Refusal) → IsErrAnd r (λ g. g ≡ f) → answer_of r ≡ refused (placed f)
 left_by r f h = let p = err_from_is_err_and r h in rw (p.1, p.2)
+
+-- what `map_err` made of a call's answer
+pub mapped_ok :
+    {A : Type 0} (r m : Result A code.Refusal) (Q : code.Refusal → code.Refusal → Type 0)
+    → MatchResult r (λ x. m ≡ Ok x) (λ e. IsErrAnd m (Q e)) → (u : A) → m ≡ Ok u → r ≡ Ok u
+mapped_ok (Ok x) m Q h u e = sym h ∙ e
+mapped_ok (Err f) m Q h u e = let p = (err_from_is_err_and m h).1 in cc
+
+pub mapped_err :
+    {A : Type 0} (r m : Result A code.Refusal) (Q : code.Refusal → code.Refusal → Type 0)
+    → MatchResult r (λ x. m ≡ Ok x) (λ e. IsErrAnd m (Q e)) → (g : code.Refusal) → m ≡ Err g
+    → (f : code.Refusal) × (r ≡ Err f) × Q f g
+mapped_err (Ok x) m Q h g e = absurd (cc)
+mapped_err (Err f) m Q h g e =
+    let p = err_from_is_err_and m h in
+    let same : p.0 ≡ g = cc in
+    (f, refl, subst (Q f) same p.2)
 
 -- what a question said: asked with the answer b, it refuses where b is no
 module _ (q i : ℕ) (b : Bool) where

@@ -11,9 +11,12 @@ use Rattle.definitions.specs.Answer.{Refusal, Answer, finding, refused, verdict,
 use Rattle.definitions.specs.StepLists.{run_from, refused_after, not_run}
 use Rattle.definitions.proofs.StepLists.{run_on, run_stop, run_end}
 use Rattle.definitions.proofs.AnswerLaws.{not_finding, same_finding, bind_of, ask_of}
-use Rattle.answer.specs.Answer.{refusal_at}
+use Rattle.std.specs.Result.{IsErrAnd, MatchResult}
+use Rattle.std.proofs.Common.{Result, Ok, Err}
+use Rattle.answer.specs.declared.Refusal as code
+use Rattle.answer.specs.Answer.{refusal_at, placed, verdict_answer}
 use Rattle.answer.specs.Reader.{Reader, asking, state_answer, step_call, goal_call, start_call, run_call}
-use Rattle.answer.proofs.Laws.{refused_first}
+use Rattle.answer.proofs.Laws.{refused_first, mapped_err}
 
 -- ---- one question
 module _ {A : Type 0} (q : ℕ) (b : Bool) (k : Unit {0} → Answer A) where
@@ -59,6 +62,12 @@ module _ {T B : Type 0} (a : Answer T) (right : T → Bool) (rest : T → Answer
     pub rest_asked : right t ≡ true → rest t ≡ asking a right rest
     rest_asked h = question_yes 18 (right t) (λ _. rest t) h ∙ read_on
 
+-- a question with nothing after it
+asked_last : (q : ℕ) (b : Bool) → ask q b ≡ (ask q b >>= λ _. finding tt)
+unfolding ask ask_at ◌>>=◌
+asked_last q true = refl
+asked_last q false = refl
+
 -- ---- the calls of a kind of image
 module _ {T : Type 0} (R : Reader T) (w s : List ℕ) where
   pub first_refused : (r : Refusal) → refused r ≡ verdict (R.read w) → refused r ≡ state_answer R w s
@@ -71,6 +80,13 @@ module _ {T : Type 0} (R : Reader T) (w s : List ℕ) where
 
   -- where an image is read
   module _ (t : T) (found : R.read w ≡ finding t) where
+    -- question 18 decides
+    pub state_asked : (right : Bool) → right ≡ R.is_state t s → ask 18 right ≡ state_answer R w s
+    unfolding state_answer
+    state_asked right er =
+        asked_last 18 right ∙ ap (λ (b : Bool). ask 18 b >>= λ _. finding tt) er
+        ∙ read_on (R.read w) (λ t. R.is_state t s) (λ _. finding tt) t found
+
     module _ (right : Bool) (er : right ≡ R.is_state t s) where
       pub first_fine : right ≡ true → finding tt ≡ state_answer R w s
       unfolding state_answer
@@ -166,6 +182,12 @@ module _ (next : List ℕ → ℕ → Answer (List ℕ)) (list first : List ℕ)
     pub running_end : length list ≤ k → outcome (finding k) s ≡ run_from next first 0 list
     running_end h = run_end next s k list k h ∙ sym run.rest
 
+    pub running_all : length list ≤ k → outcome (finding (length list)) s ≡ run_from next first 0 list
+    running_all h =
+        let z = run.within in
+        let e : length list ≡ k = omega arith in
+        ap (λ (n : ℕ). outcome (finding n) s) e ∙ running_end h
+
     -- step k, by operator i, leaves state s'
     module _ (i : ℕ) (s' : List ℕ) (inside : k < length list) (ei : i ≡ get_or list k 0) where
       pub running_on : length s' ≡ length s → outcome (finding tt) s' ≡ becomes s (next s i) → Running s' (k + 1)
@@ -178,3 +200,14 @@ module _ (next : List ℕ → ℕ → Answer (List ℕ)) (list first : List ℕ)
 
       pub running_stop : (r : Refusal) → outcome (refused r) s' ≡ becomes s (next s i) → outcome (refused (refused_after k r)) s' ≡ run_from next first 0 list
       running_stop r e = run_stop next s s' k k i list inside ei r e ∙ sym run.rest
+
+      -- the steps taken are put into its refusal by `map_err`
+      pub running_left :
+          (r m : Result (Unit {0}) code.Refusal) (Q : code.Refusal → code.Refusal → Type 0)
+          → MatchResult r (λ x. m ≡ Ok x) (λ f. IsErrAnd m (Q f)) → (g : code.Refusal) → m ≡ Err g
+          → ((f : code.Refusal) → Q f g → placed g ≡ refused_after k (placed f)) → outcome (verdict_answer r) s' ≡ becomes s (next s i)
+          → outcome (refused (placed g)) s' ≡ run_from next first 0 list
+      running_left r m Q h g eg put e =
+          let no = mapped_err r m Q h g eg in
+          ap (λ (f : Refusal). outcome (refused f) s') (put no.0 no.2)
+          ∙ running_stop (placed no.0) (ap (λ (x : Result (Unit {0}) code.Refusal). outcome (verdict_answer x) s') (sym no.1) ∙ e)

@@ -5,17 +5,16 @@ use mathlib.Core.Bool.{Bool, true, false, ◌&&◌}
 use Prim.Native.Nat.{ℕ}
 use lib.Dec.{eqb}
 use lib.ListN.{length}
-use borrow.Author.Tests.{eq-eqb, ne_eqb}
 use Rattle.definitions.specs.Lists.{all, below}
-use Rattle.definitions.specs.Answer.{Refusal, Answer, finding, refused, verdict, outcome, becomes}
+use Rattle.definitions.specs.Answer.{Refusal, Answer, finding, refused, verdict, outcome, becomes, ask, ask_at, ◌>>=◌}
 use Rattle.definitions.specs.Literal.{is_state}
 use Rattle.definitions.specs.Fdr.{FdrTask}
 use Rattle.definitions.specs.FdrImage.{read_fdr}
 use Rattle.definitions.specs.FdrStep.{is_fdr_state}
 use Rattle.definitions.specs.Coding.{to_atoms, codable, value_from, from_atoms, from_atoms_call, to_atoms_call}
-use Rattle.answer.specs.Answer.{refusal_at}
 use Rattle.answer.specs.Reader.{asking}
-use Rattle.answer.proofs.ReaderCalls.{question_no, question_yes, stays, done, image_refused, state_refused, rest_asked}
+use Rattle.answer.proofs.ReaderCalls.{stays, done, image_refused}
+use Rattle.answer.proofs.Laws.{handed_on, goes_on}
 use Rattle.fdr_image.specs.Reads.{fdr_of, ReadsFdr}
 
 -- ---- coding either way: 17, then the source and the target of `size` words as one question 18, then the rest
@@ -32,6 +31,11 @@ pub decode_codes :
 unfolding to_atoms_call codes
 decode_codes w s size = refl
 
+both_asked : {A : Type 0} (p q : Bool) (k : Answer A) → (ask 18 p >>= λ _. ask 18 q >>= λ _. k) ≡ (ask 18 (p && q) >>= λ _. k)
+unfolding ask ask_at ◌>>=◌
+both_asked true q k = refl
+both_asked false q k = refl
+
 module _
     (w target : List ℕ) (source : FdrTask → Bool) (exact : FdrTask → ℕ) (rest : FdrTask → Answer (List ℕ))
     (call : Answer (List ℕ)) (is : call ≡ codes w source exact rest (length target)) where
@@ -44,34 +48,35 @@ module _
   codes_17 r e = stays target call r (image_refused (read_fdr w) right rest r e ∙ sym is)
 
   module _ (rd : ReadsFdr w) (yes : Bool) (er : yes ≡ source (fdr_of w)) where
-    pub codes_source : yes ≡ false → outcome (refused (refusal_at 18 0 0)) target ≡ becomes target call
+    abbrev t : FdrTask
+    t = fdr_of w
+
+    there : (ask 18 (source t) >>= λ _. ask 18 (eqb (length target) (exact t)) >>= λ _. rest t) ≡ call
     unfolding codes
-    codes_source h =
-        let wrong : right (fdr_of w) ≡ false = ap (λ (b : Bool). b && eqb (length target) (exact (fdr_of w))) (sym er ∙ h) in
-        stays target call (refusal_at 18 0 0) (state_refused (read_fdr w) right rest (fdr_of w) rd.found wrong ∙ sym is)
+    there = both_asked _ _ _ ∙ goes_on (read_fdr w) (λ x. ask 18 (right x) >>= λ _. rest x) t (sym rd.found) ∙ sym is
 
-    module _ (yes-source : yes ≡ true) (size : ℕ) (en : size ≡ exact (fdr_of w)) where
-      pub codes_target : (length target ≡ size → ⊥) → outcome (refused (refusal_at 18 0 0)) target ≡ becomes target call
-      unfolding codes
-      codes_target h =
-          let wrong : right (fdr_of w) ≡ false = rw (← er, yes-source, ← en) (ne_eqb (length target) size h) in
-          stays target call (refusal_at 18 0 0) (state_refused (read_fdr w) right rest (fdr_of w) rd.found wrong ∙ sym is)
+    pub codes_source : (r : Refusal) → refused r ≡ ask 18 yes → outcome (refused r) target ≡ becomes target call
+    codes_source r e = stays target call r (handed_on (ask 18 (source t)) _ r (rw er at e) ∙ there)
 
-      pub codes_rest : length target ≡ size → becomes target (rest (fdr_of w)) ≡ becomes target call
-      unfolding codes
-      codes_rest h =
-          let both : right (fdr_of w) ≡ true = rw (← er, yes-source, ← en) (eq-eqb (length target) size h) in
-          ap (becomes target) (rest_asked (read_fdr w) right rest (fdr_of w) rd.found both ∙ sym is)
+    module _ (u : finding tt ≡ ask 18 yes) (size : ℕ) (en : size ≡ exact t) where
+      second : (ask 18 (eqb (length target) (exact t)) >>= λ _. rest t) ≡ call
+      second = goes_on (ask 18 (source t)) _ tt (rw er at u) ∙ there
+
+      pub codes_target : (r : Refusal) → refused r ≡ ask 18 (eqb (length target) size) → outcome (refused r) target ≡ becomes target call
+      codes_target r e = stays target call r (handed_on (ask 18 (eqb (length target) (exact t))) _ r (rw en at e) ∙ second)
+
+      pub codes_rest : finding tt ≡ ask 18 (eqb (length target) size) → becomes target (rest t) ≡ becomes target call
+      codes_rest e = ap (becomes target) (goes_on (ask 18 (eqb (length target) (exact t))) _ tt (rw en at e) ∙ second)
 
 -- ---- question 23
-module _ (t : FdrTask) (s target : List ℕ) (r : Bool) (er : r ≡ all (codable t s) (below (length t.domains))) where
-  pub from_23 : r ≡ false → outcome (refused (refusal_at 23 0 0)) target ≡ becomes target (from_atoms t s)
+module _ (t : FdrTask) (s target : List ℕ) (yes : Bool) (er : yes ≡ all (codable t s) (below (length t.domains))) where
+  pub from_23 : (r : Refusal) → refused r ≡ ask 23 yes → outcome (refused r) target ≡ becomes target (from_atoms t s)
   unfolding from_atoms
-  from_23 h = stays target (from_atoms t s) (refusal_at 23 0 0) (question_no 23 (all (codable t s) (below (length t.domains))) _ (sym er ∙ h))
+  from_23 r e = stays target (from_atoms t s) r (handed_on (ask 23 (all (codable t s) (below (length t.domains)))) _ r (rw er at e))
 
   pub from_done :
-      r ≡ true → (target' : List ℕ) → target' ≡ map (value_from t s) (below (length t.domains))
+      finding tt ≡ ask 23 yes → (target' : List ℕ) → target' ≡ map (value_from t s) (below (length t.domains))
       → outcome (finding tt) target' ≡ becomes target (from_atoms t s)
   unfolding from_atoms
-  from_done h target' e =
-      done target (from_atoms t s) target' (ap finding e ∙ question_yes 23 (all (codable t s) (below (length t.domains))) _ (sym er ∙ h))
+  from_done u target' e =
+      done target (from_atoms t s) target' (ap finding e ∙ goes_on (ask 23 (all (codable t s) (below (length t.domains)))) _ tt (rw er at u))

@@ -8,58 +8,43 @@ ghost use Rattle.answer.specs.Answer.{verdict_answer};
 ghost use Rattle.fdr_image.specs.Reads.{fdr_of};
 ghost use Rattle.coding.specs.Post.{Encodes};
 
-use answer::{Refusal, Verdict};
+use answer::{Question, Refusal, ask};
 
 mod found; // found.rt: the values of the true atoms
 mod atom; // atom.rt: the truth of atoms in a finite-domain state
 
 // Codes a task's state from atoms: question 23. The target is written only where no variable is refused.
-fn encode_read(image: &[u16], state: &[u8], target: &mut [u16]) -> Verdict
+fn encode_read(image: &[u16], state: &[u8], target: &mut [u16]) -> Result<(), Refusal>
     requires { Encodes image.now state.now (length target.old) }
     ensures { outcome (verdict_answer result) target.new ≡ becomes target.old (from_atoms (fdr_of image.now) state.now) }
 {
     let mut values = [0usize; literal::MOST_ATOMS];
-    if !found::find(image, state, &mut values) {
-        return answer::refuse(Refusal::NOT_CODABLE);
-    }
-    if !found::are_codable(image, &values) {
-        return answer::refuse(Refusal::NOT_CODABLE);
-    }
+    ask(Question::NotCodable, found::find(image, state, &mut values))?;
+    ask(Question::NotCodable, found::are_codable(image, &values))?;
     found::write(image, &values, target);
-    Verdict::Fine
+    Ok(())
 }
 
 // Codes a task's state from atoms: the finite-domain state goes to the target.
-pub fn encode(image: &[u16], state: &[u8], target: &mut [u16]) -> Verdict
+pub fn encode(image: &[u16], state: &[u8], target: &mut [u16]) -> Result<(), Refusal>
     ensures { outcome (verdict_answer result) target.new ≡ becomes target.old (from_atoms_call image.now state.now (length target.old)) }
 {
-    let reading = fdr_image::read(image);
-    if let Verdict::Refused(f) = reading {
-        return Verdict::Refused(f);
-    }
-    if !literal::is_state(state, fdr_image::atoms(image)) {
-        return answer::refuse(Refusal::STATE);
-    }
-    if target.len() != fdr_image::variables(image) {
-        return answer::refuse(Refusal::STATE);
-    }
+    fdr_image::read(image)?;
+    ask(
+        Question::State,
+        literal::is_state(state, fdr_image::atoms(image)),
+    )?;
+    ask(Question::State, target.len() == fdr_image::variables(image))?;
     encode_read(image, state, target)
 }
 
 // Codes a finite-domain state to atoms: the task's state goes to the target.
-pub fn decode(image: &[u16], state: &[u16], target: &mut [u8]) -> Verdict
+pub fn decode(image: &[u16], state: &[u16], target: &mut [u8]) -> Result<(), Refusal>
     ensures { outcome (verdict_answer result) target.new ≡ becomes target.old (to_atoms_call image.now state.now (length target.old)) }
 {
-    let reading = fdr_image::read(image);
-    if let Verdict::Refused(f) = reading {
-        return Verdict::Refused(f);
-    }
-    if !fdr_image::is_state(image, state) {
-        return answer::refuse(Refusal::STATE);
-    }
-    if target.len() != fdr_image::atoms(image) {
-        return answer::refuse(Refusal::STATE);
-    }
+    fdr_image::read(image)?;
+    ask(Question::State, fdr_image::is_state(image, state))?;
+    ask(Question::State, target.len() == fdr_image::atoms(image))?;
     atom::write(image, state, target);
-    Verdict::Fine
+    Ok(())
 }

@@ -1,5 +1,5 @@
 -- Laws of the calls: states of a re-encoded task, and questions 19 to 22. Assumes nothing.
-use mathlib.Core.Path.{◌≡◌, sym, ap, ◌∙◌, subst}
+use mathlib.Core.Path.{◌≡◌, refl, sym, ap, ◌∙◌, subst}
 use mathlib.Core.List.{List, map, Memᴰ}
 use mathlib.Core.Bool.{Bool, true, false, not, ◌&&◌}
 use mathlib.Core.Option.{Option, none, some}
@@ -9,22 +9,21 @@ use lib.ListN.{length, get_or}
 use lib.Dec.{ltb, leb}
 use borrow.Author.Tests.{lt-ltb, ltb-true, leb-true}
 use Rattle.definitions.specs.Lists.{all, below}
-use Rattle.definitions.specs.Answer.{finding, refused, outcome, becomes}
+use Rattle.definitions.specs.Answer.{finding}
 use Rattle.definitions.specs.Literal.{most_atoms}
 use Rattle.definitions.specs.Groups.{Domain}
-use Rattle.definitions.specs.Fdr.{FdrRow, FdrOperator, FdrTask, no_domain, atom_values, fdr_all_true}
+use Rattle.definitions.specs.Fdr.{FdrRow, FdrOperator, no_domain, atom_values, fdr_all_true}
 use Rattle.definitions.specs.FdrImage.{is_atom_value, fdr_literal_right, fdr_row_right, fdr_operator_right}
-use Rattle.definitions.specs.FdrStep.{is_fdr_state, fdr_fired, fdr_conflict, none_there, fdr_after, no_fdr_operator, fdr_step}
+use Rattle.definitions.specs.FdrStep.{is_fdr_state, fdr_fired, fdr_conflict, none_there, fdr_after}
 use Rattle.definitions.proofs.ListLaws.{and_left, and_right, all_at, all_of, keep_of}
-use Rattle.answer.specs.Answer.{refusal_at}
 use Rattle.answer.specs.Reader.{state_answer}
-use Rattle.answer.proofs.ReaderCalls.{question_no, question_yes, stays, done, operator_refused, operator_there_lem, image_fine, state_is}
+use Rattle.answer.proofs.ReaderCalls.{image_fine, state_is}
 use Rattle.fdr_image.specs.Reads.{fdr_of, ReadsFdr}
 use Rattle.fdr_image.specs.Walk.{operator_in}
 use Rattle.fdr_image.specs.Post.{BlockGiven}
 use Rattle.fdr_image.proofs.DomainLaws.{values_length, values_some}
 use Rattle.fdr_image.proofs.Reading.{reads, variables_are, initial_right}
-use Rattle.fdr.specs.Change.{no_changes, noted, note_fired, nones_in, written, unnoted, applied, stepped}
+use Rattle.fdr.specs.Change.{no_changes, noted, note_fired, nones_in, written, unnoted}
 use Rattle.fdr.specs.Post.{fdr_reader, Standing, Applying, LowBlock, Changes, Writes, NotedFor}
 use Rattle.fdr.proofs.StepLaws.{Rows}
 use Rattle.fdr.proofs.Applied.{blank_length, conflict, not_in_conflict, nones_there, changed, nones_is, changed_is, changes_inside}
@@ -43,47 +42,6 @@ pub initial_fits :
     → length xs ≡ length s
 initial_fits w rd s xs n en es ex =
     ap length ex ∙ values_length (fdr_of w).domains (fdr_of w).initial (initial_right w rd) ∙ sym en ∙ sym es
-
--- ---- question 19
-module _ (t : FdrTask) (s : List ℕ) (i : ℕ) where
-  pub step_19 : length t.operators ≤ i → outcome (refused (refusal_at 19 0 0)) s ≡ becomes s (fdr_step t s i)
-  unfolding fdr_step
-  step_19 h = operator_refused (length t.operators) i s _ h
-
-  pub step_there : i < length t.operators → becomes s (stepped t s (get_or t.operators i no_fdr_operator)) ≡ becomes s (fdr_step t s i)
-  unfolding fdr_step stepped applied
-  step_there h = operator_there_lem (length t.operators) i s _ h
-
--- ---- question 20
-module _ (t : FdrTask) (s : List ℕ) (o : FdrOperator) where
-  pub stepped_20 : fdr_all_true s o.precondition ≡ false → outcome (refused (refusal_at 20 0 0)) s ≡ becomes s (stepped t s o)
-  unfolding stepped
-  stepped_20 h = stays s (stepped t s o) (refusal_at 20 0 0) (question_no 20 (fdr_all_true s o.precondition) _ h)
-
-  pub stepped_rows : fdr_all_true s o.precondition ≡ true → becomes s (applied t s (fdr_fired s o)) ≡ becomes s (stepped t s o)
-  unfolding stepped
-  stepped_rows h = ap (becomes s) (question_yes 20 (fdr_all_true s o.precondition) _ h)
-
--- ---- questions 21 and 22, by the rows that fired
-module _ (t : FdrTask) (s : List ℕ) (rs : List FdrRow) where
-  pub applied_21 : fdr_conflict rs ≡ true → outcome (refused (refusal_at 21 0 0)) s ≡ becomes s (applied t s rs)
-  unfolding applied
-  applied_21 h = stays s (applied t s rs) (refusal_at 21 0 0) (question_no 21 (not (fdr_conflict rs)) _ (ap not h))
-
-  module _ (q21 : fdr_conflict rs ≡ false) where
-    pub applied_22 : none_there t s rs ≡ false → outcome (refused (refusal_at 22 0 0)) s ≡ becomes s (applied t s rs)
-    unfolding applied
-    applied_22 h =
-        stays s (applied t s rs) (refusal_at 22 0 0)
-        (question_no 22 (none_there t s rs) _ h ∙ question_yes 21 (not (fdr_conflict rs)) _ (ap not q21))
-
-    pub applied_done :
-        none_there t s rs ≡ true → (s' : List ℕ) → s' ≡ map (fdr_after t s rs) (below (length t.domains))
-        → outcome (finding tt) s' ≡ becomes s (applied t s rs)
-    unfolding applied
-    applied_done h s' e =
-        done s (applied t s rs) s'
-        (ap finding e ∙ question_yes 22 (none_there t s rs) _ h ∙ question_yes 21 (not (fdr_conflict rs)) _ (ap not q21))
 
 -- ---- right rows
 row_tests :
@@ -158,8 +116,13 @@ module _ (w b s m₀ : List ℕ) (a : Applying w b s m₀) where
     from_blank : noted f m ≡ note_fired s fired no_changes
     from_blank = e ∙ ap (note_fired s fired) a.blank
 
-    pub rows_refused : f ≡ false → outcome (refused (refusal_at 21 0 0)) s ≡ becomes s (applied (fdr_of w) s fired)
-    rows_refused h = applied_21 (fdr_of w) s fired (conflict s fired rows (noted_none f m (note_fired s fired no_changes) from_blank h))
+    -- question 21
+    pub free_is : f ≡ not (fdr_conflict fired)
+    free_is = go f refl
+      where
+        go : (b : Bool) → f ≡ b → f ≡ not (fdr_conflict fired)
+        go true h = h ∙ sym (ap not (not_in_conflict s fired rows m (noted_some f m (note_fired s fired no_changes) from_blank h)))
+        go false h = h ∙ sym (ap not (conflict s fired rows (noted_none f m (note_fired s fired no_changes) from_blank h)))
 
     module _ (free : f ≡ true) where
       all_noted : note_fired s fired no_changes ≡ some m
@@ -182,28 +145,23 @@ module _ (w b s m₀ : List ℕ) (a : Applying w b s m₀) where
         pub writes : Writes D b m s
         writes = record { block = low_variables; changes = changes_there; size = a.standing.size ∙ sym (ap length eD) }
 
-        module _ (nf₀ : NotedFor (operator_in b).rows m₀ m) (r : Bool) (er : r ≡ nones_in D m (operator_in b).rows) where
+        module _ (nf₀ : NotedFor (operator_in b).rows m₀ m) where
           nf : NotedFor (operator_in b).rows no_changes m
           nf = subst (λ (l : List ℕ). NotedFor (operator_in b).rows l m) a.blank nf₀
 
-          nones : r ≡ none_there (fdr_of w) s fired
-          nones =
+          -- question 22
+          pub nones_are : (r : Bool) → r ≡ nones_in D m (operator_in b).rows → r ≡ none_there (fdr_of w) s fired
+          nones_are r er =
               er ∙ nones_by_rows D m (operator_in b).rows nf low_variables.low ∙ ap (λ (x : List Domain). nones_there x m) eD
               ∙ nones_is s fired rows m all_noted (fdr_of w)
 
-          no_conflict : fdr_conflict fired ≡ false
-          no_conflict = not_in_conflict s fired rows m all_noted
-
-          pub nones_refused : r ≡ false → outcome (refused (refusal_at 22 0 0)) s ≡ becomes s (applied (fdr_of w) s fired)
-          nones_refused h = applied_22 (fdr_of w) s fired no_conflict (sym nones ∙ h)
-
+          -- the state after the step
           pub rows_done :
-              r ≡ true → (s' : List ℕ) → s' ≡ written D m (operator_in b).rows s
-              → outcome (finding tt) s' ≡ becomes s (applied (fdr_of w) s fired)
-          rows_done h s' es =
-              applied_done (fdr_of w) s fired no_conflict (sym nones ∙ h) s'
-              (es ∙ written_is D m (operator_in b).rows nf s ∙ ap (λ (x : List Domain). changed x m 0 s) eD
-              ∙ changed_is s fired rows m all_noted (fdr_of w) a.standing.size)
+              (s' : List ℕ) → s' ≡ written D m (operator_in b).rows s
+              → s' ≡ map (fdr_after (fdr_of w) s fired) (below (length (fdr_of w).domains))
+          rows_done s' es =
+              es ∙ written_is D m (operator_in b).rows nf s ∙ ap (λ (x : List Domain). changed x m 0 s) eD
+              ∙ changed_is s fired rows m all_noted (fdr_of w) a.standing.size
 
 -- what a step by a block asks
 pub applying :

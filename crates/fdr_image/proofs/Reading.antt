@@ -123,14 +123,9 @@ unfolding or_refuse refuse verdict ask ask_at
 right_cases true a x e = rw e
 right_cases false a x e = rw e
 
--- the answer of reading
-pub read_fine : (w : List ℕ) → fdr_right w ≡ true → finding tt ≡ verdict (read_fdr w)
-unfolding ask ask_at
-read_fine w h = sym (right_cases (fdr_right w) (read_fdr w) (fdr_there w) (read_right w) ∙ rw h)
-
-pub read_17 : (w : List ℕ) → fdr_right w ≡ false → refused (record { number = 17; first = 0; second = 0 }) ≡ verdict (read_fdr w)
-unfolding ask ask_at
-read_17 w h = sym (right_cases (fdr_right w) (read_fdr w) (fdr_there w) (read_right w) ∙ rw h)
+-- the answer of reading: one question
+pub read_asks : (w : List ℕ) → ask 17 (fdr_right w) ≡ verdict (read_fdr w)
+read_asks w = sym (right_cases (fdr_right w) (read_fdr w) (fdr_there w) (read_right w))
 
 -- ---- an image that reads as a re-encoded task
 found_is : (a : Answer FdrTask) → verdict a ≡ finding tt → a ≡ finding (fdr_in a)

@@ -13,7 +13,7 @@ ghost use Rattle.fdr_image.specs.Reads.{fdr_of, ReadsFdr};
 ghost use Rattle.fdr_image.specs.Walk.{place, counts_right, goal_right, operators_right, rules_right, rest_right, parts_right, fdr_right};
 ghost use Rattle.fdr_image.specs.Post.{Laid, LaidOver, BlockGiven};
 
-use answer::{Refusal, Verdict};
+use answer::{Question, Refusal, ask};
 
 pub mod domain; // domain.rt: the domains of the variables, and values in them
 pub mod atom; // atom.rt: the atoms
@@ -85,13 +85,10 @@ fn is_right(image: &[u16]) -> bool
 }
 
 // Reads an image: question 17.
-pub fn read(image: &[u16]) -> Verdict
+pub fn read(image: &[u16]) -> Result<(), Refusal>
     ensures { verdict_answer result ≡ verdict (read_fdr image.now) }
 {
-    if !is_right(image) {
-        return answer::refuse(Refusal::FDR_IMAGE);
-    }
-    Verdict::Fine
+    ask(Question::FdrImage, is_right(image))
 }
 
 // The number of variables of an image that reads as a re-encoded task.
