@@ -4,7 +4,7 @@ use mathlib.Core.List.{List}
 use Prim.Native.Nat.{ℕ}
 use Rattle.definitions.specs.Answer.{Refusal, Answer, finding, refused, verdict, Outcome, outcome, ask_at, ◌>>=◌}
 use Rattle.std.specs.Result.{IsErrAnd}
-use Rattle.std.proofs.Common.{Result}
+use Rattle.std.proofs.Common.{Result, Err}
 use Rattle.std.proofs.lemmas.Result.{err_from_is_err_and}
 use Rattle.answer.specs.declared.Refusal as code
 use Rattle.answer.specs.Answer.{refusal_at, placed, answer_of}
@@ -41,6 +41,10 @@ module _ {A B : Type 0} (m : Answer A) (k : A → Answer B) where
 -- the exit of a `?`: the refusal of the call is handed on
 pub left_by : {A : Type 0} (r : Result A code.Refusal) (f : code.Refusal) → IsErrAnd r (λ g. g ≡ f) → answer_of r ≡ refused (placed f)
 left_by r f h = let p = err_from_is_err_and r h in rw (p.1, p.2)
+
+-- what holds of the refusal that is handed on holds of the answer
+pub left_as : {A : Type 0} (P : Result A code.Refusal → Type 0) (r : Result A code.Refusal) (f : code.Refusal) → IsErrAnd r (λ g. g ≡ f) → P (Err f) → P r
+left_as P r f h e = let p = err_from_is_err_and r h in rw (p.1, p.2) e
 
 -- what a question said: asked with the answer b, it refuses where b is no
 module _ (q i : ℕ) (b : Bool) where
