@@ -43,7 +43,9 @@ pub left_by : {A : Type 0} (r : Result A code.Refusal) (f : code.Refusal) → Is
 left_by r f h = let p = err_from_is_err_and r h in rw (p.1, p.2)
 
 -- what holds of the refusal that is handed on holds of the answer
-pub left_as : {A : Type 0} (P : Result A code.Refusal → Type 0) (r : Result A code.Refusal) (f : code.Refusal) → IsErrAnd r (λ g. g ≡ f) → P (Err f) → P r
+pub left_as :
+    {A : Type 0} (P : Result A code.Refusal → Type 0) (r : Result A code.Refusal) (f : code.Refusal)
+    → IsErrAnd r (λ g. g ≡ f) → P (Err f) → P r
 left_as P r f h e = let p = err_from_is_err_and r h in rw (p.1, p.2) e
 
 -- what a question said: asked with the answer b, it refuses where b is no

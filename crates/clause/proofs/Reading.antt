@@ -25,7 +25,9 @@ above_next w a b (suc i) h p q = let e : suc i - 1 ≡ i = omega arith in rw (p,
 
 -- ---- what is found after a question does not change its verdict
 module _ (q i : ℕ) where
-  asked_then : {A B : Type 0} (b : Bool) (m : Answer A) (f : A → B) → verdict (ask_at q i b >>= λ _. m >>= λ a. finding (f a)) ≡ (ask_at q i b >>= λ _. verdict m)
+  asked_then :
+      {A B : Type 0} (b : Bool) (m : Answer A) (f : A → B)
+      → verdict (ask_at q i b >>= λ _. m >>= λ a. finding (f a)) ≡ (ask_at q i b >>= λ _. verdict m)
   unfolding verdict ask_at ◌>>=◌
   asked_then true m f = verdict_bind m f
   asked_then false m f = refl

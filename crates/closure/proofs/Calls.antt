@@ -3,8 +3,10 @@ use mathlib.Core.Path.{◌≡◌, sym, ◌∙◌, ap, ap₂}
 use mathlib.Core.Bool.{true}
 use mathlib.Core.List.{List, ◌++◌}
 use Prim.Native.Nat.{ℕ, ◌-◌, ◌≤◌, ◌<◌}
+use lib.Dec.{ltb, leb}
 use lib.ListN.{length, take, drop}
-use borrow.Author.Tests.{lt-ltb, le-ltb, lt-leb, le-leb}
+use Rattle.std.proofs.Common.{Result, Ok, Err}
+use borrow.Author.Tests.{lt-ltb, le-leb, leb-true}
 use Rattle.definitions.specs.Answer.{Refusal, finding, refused, verdict, outcome, ◌>>=◌, ask, ask_at}
 use Rattle.definitions.specs.Literal.{most_atoms}
 use Rattle.definitions.specs.Image.{Operator, operator_right}
@@ -13,11 +15,10 @@ use Rattle.definitions.specs.Closure.{closure}
 use Rattle.definitions.specs.Marks.{mark_bytes, marks_of, marked_literals}
 use Rattle.definitions.specs.Groups.{written}
 use Rattle.definitions.specs.ClosureCall.{operator_closure, shown, closure_call}
-use Rattle.definitions.proofs.AnswerLaws.{not_finding}
 use Rattle.definitions.proofs.MarkBits.{new_marks, marks_length, new_literals, front_literals}
-use Rattle.answer.specs.Answer.{placed, refusal_at, verdict_answer}
-use Rattle.answer.specs.declared.Verdict.{Verdict}
-use Rattle.answer.specs.declared.Verdict.TheVariants.{Fine, Refused}
+use Rattle.answer.specs.Answer.{placed, verdict_answer}
+use Rattle.answer.specs.declared.Refusal as code
+use Rattle.answer.proofs.Laws.{handed_on, asked_yes}
 use Rattle.clause.specs.Rows.{clauses_of}
 use Rattle.task.specs.Reads.{task_of}
 use Rattle.task.specs.Walk.{operator_in}
@@ -29,38 +30,28 @@ use Rattle.reading.specs.Reading.{read_both, BothRead}
 use Rattle.reading.proofs.Questions.{both_refused}
 use Rattle.closure.specs.Asked.{Asks, InputAnswer}
 
+-- ---- after the questions of the image and the clauses: 19, then 13
+module _ (w c : List ℕ) (i : ℕ) (read : BothRead w c) (ms : List ℕ) where
+  pub call_asks :
+      (ask 19 (ltb i (length (task_of w).operators)) >>= λ _. ask 13 (leb (mark_bytes (task_of w).atoms) (length ms))
+      >>= λ _. finding (shown (task_of w) (clauses_of c) i ms)) ≡ closure_call w c i ms
+  unfolding closure_call ◌>>=◌
+  call_asks = rw (read.task.found, read.clauses.read)
+
 module _ (w c : List ℕ) (i marks : ℕ) where
   pub input_read : (r : Refusal) → refused r ≡ verdict (read_both w c) → (ms : List ℕ) → length ms ≡ marks → refused r ≡ closure_call w c i ms
   unfolding closure_call ◌>>=◌
   input_read r h ms size = sym (both_refused w c _ r h)
 
   module _ (read : BothRead w c) where
-    operator_refused : length (task_of w).operators ≤ i → (ms : List ℕ) → refused (refusal_at 19 0 0) ≡ closure_call w c i ms
-    unfolding closure_call ◌>>=◌ ask ask_at
-    operator_refused h ms = rw (read.task.found, read.clauses.read, le-ltb i (length (task_of w).operators) h)
-
-    marks_refused :
-        i < length (task_of w).operators → (ms : List ℕ) → length ms < mark_bytes (task_of w).atoms → refused (refusal_at 13 0 0) ≡ closure_call w c i ms
-    unfolding closure_call ◌>>=◌ ask ask_at
-    marks_refused inside ms h =
-        rw (
-          read.task.found,
-          read.clauses.read,
-          lt-ltb i (length (task_of w).operators) inside,
-          lt-leb (mark_bytes (task_of w).atoms) (length ms) h,
-        )
-
-    pub input_operator :
-        length (task_of w).operators ≤ i → (v : Verdict) → verdict_answer v ≡ refused (refusal_at 19 0 0) → InputAnswer w c i marks v
-    input_operator h Fine e = absurd (not_finding (sym e))
-    input_operator h (Refused r) e = λ ms size. let q : placed r ≡ refusal_at 19 0 0 = cc in ap refused q ∙ operator_refused h ms
-
-    pub input_marks :
-        i < length (task_of w).operators → marks < mark_bytes (task_of w).atoms → (v : Verdict) → verdict_answer v ≡ refused (refusal_at 13 0 0)
-        → InputAnswer w c i marks v
-    input_marks inside h Fine e = absurd (not_finding (sym e))
-    input_marks inside h (Refused r) e =
-        λ ms size. let q : placed r ≡ refusal_at 13 0 0 = cc in ap refused q ∙ marks_refused inside ms (rw size h)
+    pub input_last :
+        i < length (task_of w).operators → (v : Result (Unit {0}) code.Refusal)
+        → verdict_answer v ≡ ask 13 (leb (mark_bytes (task_of w).atoms) marks) → InputAnswer w c i marks v
+    unfolding ask ask_at ◌>>=◌
+    input_last inside (Ok u) e =
+        record { task = read.task; clauses = read.clauses; operator = inside; marked = leb-true _ _ (asked_yes 13 0 _ u e) }
+    input_last inside (Err f) e =
+        λ ms size. rw (← call_asks w c i read ms, lt-ltb i (length (task_of w).operators) inside, size) (handed_on _ _ (placed f) e)
 
 -- a refusal leaves the marks
 pub call_refused :

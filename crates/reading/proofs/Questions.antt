@@ -21,7 +21,8 @@ module _ (w c : List ℕ) where
   both_task r h = rw (verdict_refused (read_task w) r (sym h))
 
   pub both_clauses :
-      Reads w → (atoms : ℕ) → atoms ≡ (task_of w).atoms → (v : Result (Unit {0}) code.Refusal) → verdict_answer v ≡ verdict (read_clauses atoms c) → BothAnswer w c v
+      Reads w → (atoms : ℕ) → atoms ≡ (task_of w).atoms
+      → (v : Result (Unit {0}) code.Refusal) → verdict_answer v ≡ verdict (read_clauses atoms c) → BothAnswer w c v
   unfolding read_both ◌>>=◌
   both_clauses task atoms counted (Ok u) e =
       record { task = task; clauses = subst (λ (k : ℕ). ClausesRead k c) counted (read_fine atoms c u (sym e)) }
