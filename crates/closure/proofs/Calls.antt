@@ -2,12 +2,12 @@
 use mathlib.Core.Path.{◌≡◌, sym, ◌∙◌, ap, ap₂}
 use mathlib.Core.Bool.{true}
 use mathlib.Core.List.{List, ◌++◌}
-use Prim.Native.Nat.{ℕ, ◌-◌, ◌≤◌, ◌<◌}
+use Prim.Native.Nat.{ℕ, ◌-◌, ◌≤◌}
 use lib.Dec.{ltb, leb}
 use lib.ListN.{length, take, drop}
-use Rattle.std.proofs.Common.{Result, Ok, Err}
-use borrow.Author.Tests.{lt-ltb, le-leb, leb-true}
-use Rattle.definitions.specs.Answer.{Refusal, finding, refused, verdict, outcome, ◌>>=◌, ask, ask_at}
+use Rattle.std.proofs.Common.{Result}
+use Rattle.std.specs.Result.{IsErrAnd}
+use Rattle.definitions.specs.Answer.{Refusal, finding, refused, verdict, outcome, ◌>>=◌, ask}
 use Rattle.definitions.specs.Literal.{most_atoms}
 use Rattle.definitions.specs.Image.{Operator, operator_right}
 use Rattle.definitions.specs.Step.{operator_at}
@@ -16,9 +16,9 @@ use Rattle.definitions.specs.Marks.{mark_bytes, marks_of, marked_literals}
 use Rattle.definitions.specs.Groups.{written}
 use Rattle.definitions.specs.ClosureCall.{operator_closure, shown, closure_call}
 use Rattle.definitions.proofs.MarkBits.{new_marks, marks_length, new_literals, front_literals}
-use Rattle.answer.specs.Answer.{placed, verdict_answer}
+use Rattle.answer.specs.Answer.{placed, count_answer}
 use Rattle.answer.specs.declared.Refusal as code
-use Rattle.answer.proofs.Laws.{handed_on, asked_yes}
+use Rattle.answer.proofs.Laws.{left_by}
 use Rattle.clause.specs.Rows.{clauses_of}
 use Rattle.task.specs.Reads.{task_of}
 use Rattle.task.specs.Walk.{operator_in}
@@ -28,51 +28,27 @@ use Rattle.task.proofs.BlockSizes.{operator_pre}
 use Rattle.propagation.specs.Marks.{Asked}
 use Rattle.reading.specs.Reading.{read_both, BothRead}
 use Rattle.reading.proofs.Questions.{both_refused}
-use Rattle.closure.specs.Asked.{Asks, InputAnswer}
+use Rattle.closure.specs.Asked.{Asks}
 
--- ---- after the questions of the image and the clauses: 19, then 13
-module _ (w c : List ℕ) (i : ℕ) (read : BothRead w c) (ms : List ℕ) where
+module _ (w c : List ℕ) (i : ℕ) (ms : List ℕ) where
+  pub call_read : (r : Refusal) → refused r ≡ verdict (read_both w c) → refused r ≡ closure_call w c i ms
+  unfolding closure_call ◌>>=◌
+  call_read r h = sym (both_refused w c _ r h)
+
+  -- after questions 1 to 9: 19, then 13
   pub call_asks :
-      (ask 19 (ltb i (length (task_of w).operators)) >>= λ _. ask 13 (leb (mark_bytes (task_of w).atoms) (length ms))
+      BothRead w c
+      → (ask 19 (ltb i (length (task_of w).operators)) >>= λ _. ask 13 (leb (mark_bytes (task_of w).atoms) (length ms))
       >>= λ _. finding (shown (task_of w) (clauses_of c) i ms)) ≡ closure_call w c i ms
   unfolding closure_call ◌>>=◌
-  call_asks = rw (read.task.found, read.clauses.read)
+  call_asks read = rw (read.task.found, read.clauses.read)
 
-module _ (w c : List ℕ) (i marks : ℕ) where
-  pub input_read : (r : Refusal) → refused r ≡ verdict (read_both w c) → (ms : List ℕ) → length ms ≡ marks → refused r ≡ closure_call w c i ms
-  unfolding closure_call ◌>>=◌
-  input_read r h ms size = sym (both_refused w c _ r h)
-
-  module _ (read : BothRead w c) where
-    pub input_last :
-        i < length (task_of w).operators → (v : Result (Unit {0}) code.Refusal)
-        → verdict_answer v ≡ ask 13 (leb (mark_bytes (task_of w).atoms) marks) → InputAnswer w c i marks v
-    unfolding ask ask_at ◌>>=◌
-    input_last inside (Ok u) e =
-        record { task = read.task; clauses = read.clauses; operator = inside; marked = leb-true _ _ (asked_yes 13 0 _ u e) }
-    input_last inside (Err f) e =
-        λ ms size. rw (← call_asks w c i read ms, lt-ltb i (length (task_of w).operators) inside, size) (handed_on _ _ (placed f) e)
-
--- a refusal leaves the marks
-pub call_refused :
-    (w c : List ℕ) (i : ℕ) (ms : List ℕ) (r : Refusal) → refused r ≡ closure_call w c i ms
-    → outcome (refused r) ms ≡ written ms (closure_call w c i ms)
-unfolding written
-call_refused w c i ms r e = rw (sym e)
-
--- a finding is what is shown
-pub call_found :
-    (w c : List ℕ) (i : ℕ) (ms : List ℕ) → Asks w c i (length ms)
-    → written ms (finding (shown (task_of w) (clauses_of c) i ms)) ≡ written ms (closure_call w c i ms)
-unfolding closure_call ◌>>=◌ ask ask_at
-call_found w c i ms a =
-    ap (written ms)
-    (rw (
-      a.task.found,
-      a.clauses.read,
-      lt-ltb i (length (task_of w).operators) a.operator,
-      le-leb (mark_bytes (task_of w).atoms) (length ms) a.marked,
-    ))
+  -- a refusal leaves the marks
+  pub call_refused :
+      (v : Result ℕ code.Refusal) (f : code.Refusal) → IsErrAnd v (λ g. g ≡ f) → refused (placed f) ≡ closure_call w c i ms
+      → outcome (count_answer v) ms ≡ written ms (closure_call w c i ms)
+  unfolding written
+  call_refused v f left e = rw (left_by v f left, ← e)
 
 -- ---- what is shown for operator i, whose block is b
 module _ (w c : List ℕ) (i : ℕ) (ms : List ℕ) (a : Asks w c i (length ms)) (atoms : ℕ) (counted : atoms ≡ (task_of w).atoms) (b : List ℕ)

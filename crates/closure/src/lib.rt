@@ -8,21 +8,9 @@ ghost use Rattle.definitions.specs.ClosureCall.{shown, closure_call};
 ghost use Rattle.clause.specs.Rows.{clauses_of};
 ghost use Rattle.task.specs.Reads.{task_of};
 ghost use Rattle.answer.specs.Answer.{count_answer};
-ghost use Rattle.closure.specs.Asked.{Asks, InputAnswer};
+ghost use Rattle.closure.specs.Asked.{Asks};
 
 use answer::{Question, Refusal, ask};
-
-// Questions 1 to 9, 19 and 13, with so many bytes of marks. The first that is answered no decides.
-fn check_input(image: &[u16], clauses: &[u16], operator: usize, marks: usize) -> Result<(), Refusal>
-    ensures { InputAnswer image.now clauses.now operator marks result }
-{
-    reading::read(image, clauses)?;
-    ask(Question::OperatorNumber, operator < task::operators(image))?;
-    ask(
-        Question::Buffers,
-        propagation::marks::bytes(task::atoms(image)) <= marks,
-    )
-}
 
 // Marks the closure of the clauses and the operator's precondition, and counts its literals.
 fn show(image: &[u16], clauses: &[u16], operator: usize, marks: &mut [u8]) -> usize
@@ -48,7 +36,10 @@ pub fn closure(
     ensures { outcome (count_answer result) marks.new
         ≡ written marks.old (closure_call image.now clauses.now operator marks.old) }
 {
+    reading::read(image, clauses)?;
     let number = literal::wide(operator);
-    check_input(image, clauses, number, marks.len())?;
+    ask(Question::OperatorNumber, number < task::operators(image))?;
+    let needed = propagation::marks::bytes(task::atoms(image));
+    ask(Question::Buffers, needed <= marks.len())?;
     Ok(show(image, clauses, number, marks))
 }
