@@ -118,10 +118,10 @@ fn run_flagged(
         ≡ run_from (step (task_of image.now)) state.old 0 list.now }
 {
     for (steps, operator) in list.iter().enumerate() {
-        let stepped = step_flagged(image, state, literal::wide(*operator), flags);
-        if let Err(refusal) = stepped {
-            return Err(refusal.after(steps));
-        }
+        step_flagged(image, state, literal::wide(*operator), flags).map_err(|f| Refusal {
+            first: steps,
+            ..f
+        })?;
     }
     Ok(list.len())
 }

@@ -1,31 +1,36 @@
-use Rattle.std.proofs.Common.{◌∙◌, ◌≡◌, ap, refl, arith, length}
-use Rattle.definitions.specs.Answer.{refused}
-use Rattle.answer.proofs.Laws.{outcome_of}
-use Rattle.answer.proofs.ReaderCalls.{running_start, running_on, running_stop, running_end}
+-- A step that is refused ends the run with the steps so far; after the last step the list has run.
+use Rattle.std.proofs.Common.{◌∙◌, ap, refl, sym, rules, Result}
+use Rattle.definitions.specs.Answer.{outcome}
+use Rattle.definitions.specs.StepLists.{refused_after}
+use Rattle.answer.specs.Answer.{verdict_answer}
+use Rattle.answer.specs.declared.Refusal.{Refusal}
+use Rattle.answer.proofs.Laws.{left_by, outcome_of, mapped_ok}
+use Rattle.answer.proofs.ReaderCalls.{running_start, running_on, running_left, running_all}
 use Rattle.state.proofs.run_flagged.Goals as goal
 
 pub loop-steps-init : goal.loop-steps-init
 loop-steps-init c = record { running = running_start _ _ _; blank = refl }
 
-pub step_flagged-stepped-requires : goal.step_flagged-stepped-requires
-step_flagged-stepped-requires c =
+pub step_flagged-requires : goal.step_flagged-requires
+step_flagged-requires c =
     let run = c.loop-steps.invariant.running in
     (record { reads = c.requires.0.reads; size = run.size ∙ c.requires.0.size }, c.loop-steps.invariant.blank ∙ c.requires.1)
 
-pub returns-in-Err : goal.returns-in-Err
-returns-in-Err c =
-    outcome_of _ _ _ _ (ap refused c.after.ensures)
-    (running_stop _ _ _ _ _ c.loop-steps.invariant.running _ _ c.loop-steps-test.true c.wide.ensures.0 _ c.in-Err.ensures.0)
-
 pub loop-steps-preserved : goal.loop-steps-preserved
-loop-steps-preserved c = record {
-  running =
-      running_on _ _ _ _ _ c.loop-steps.invariant.running _ _ c.loop-steps-test.true c.wide.ensures.0
-      c.step_flagged-stepped.auto.state c.in_default.ensures.0;
-  blank = c.step_flagged-stepped.ensures.1 ∙ c.loop-steps.invariant.blank;
-}
+loop-steps-preserved c =
+    let fine = mapped_ok _ _ _ c.map_err.ensures.cases _ c.in_ok-map_err.was in record {
+      running =
+          running_on _ _ _ _ _ c.loop-steps.invariant.running _ _ c.loop-steps-test.true c.wide.ensures.0 c.step_flagged.auto.state
+          (ap (λ (r : Result (Unit {0}) Refusal). outcome (verdict_answer r) c.step_flagged.new.state) (sym fine) ∙ c.step_flagged.ensures.0);
+      blank = c.step_flagged.ensures.1 ∙ c.loop-steps.invariant.blank;
+    }
+
+pub returns-in_err-map_err : goal.returns-in_err-map_err
+unfolding refused_after
+returns-in_err-map_err c =
+    outcome_of _ _ _ _ (left_by _ _ c.from_residual.ensures.1)
+    (running_left _ _ _ _ _ c.loop-steps.invariant.running _ _ c.loop-steps-test.true c.wide.ensures.0 _ _ _ c.map_err.ensures.cases _
+    c.in_err-map_err.was (λ f q. search rules) c.step_flagged.ensures.0)
 
 pub returns : goal.returns
-returns c =
-    let e : c.loop-steps.steps ≡ length c.args.list.now = omega arith in
-    rw (← e) (running_end _ _ _ _ _ c.loop-steps.invariant.running c.loop-steps-test.false)
+returns c = running_all _ _ _ _ _ c.loop-steps.invariant.running c.loop-steps-test.false

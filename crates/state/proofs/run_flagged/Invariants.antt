@@ -7,6 +7,6 @@ use Rattle.state.proofs.run_flagged.Given as goal
 
 abbrev pub invariant-loop-steps : goal.invariant-loop-steps
 invariant-loop-steps l = record {
-  running : Running (step (task_of l.image)) l.list l.fn.state l.state l.steps;
+  running : Running (step (task_of l.image)) l.list l.fn.state l.state l.steps-counter;
   blank : l.flags ≡ l.fn.flags;
 }
