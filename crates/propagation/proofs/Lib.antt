@@ -7,3 +7,4 @@ pub mod Steps
 pub mod ClosureLaws
 pub mod Copies
 pub mod Closed
+pub mod Rows

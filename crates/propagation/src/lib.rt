@@ -13,7 +13,6 @@ ghost use Rattle.propagation.specs.Walk.{set_of, Room, Ready, RestKept, Compleme
 ghost use Rattle.propagation.specs.Walk.{Passed, Saturated, Propagated};
 
 use clause::WIDTH;
-use clause::place::RowPlace;
 use literal::Literal;
 
 pub mod marks; // marks.rt: a bit for each literal
@@ -80,14 +79,13 @@ fn scan_word(marks: &[u8], word: u16, first: u16) -> Scan
     Scan::First
 }
 
-// Whether the row at word `at` begins with `known`, and its second word is an open literal. Where `known` is open, that is two open
-// literals, found without looking at the first one's mark.
-fn second_is_open(clauses: &[u16], at: usize, marks: &[u8], known: u16) -> bool
-    requires { (at + 1 < length clauses.now) × ComplementInside marks.now (get_or clauses.now (at + 1) 0) }
-    ensures { result ≡ (eqb (get_or clauses.now at 0) known
-        && open_word marks.now (get_or clauses.now (at + 1) 0)) }
+// Whether a row begins with `known`, and its second word is an open literal. Where `known` is open, that is two open literals, found
+// without looking at the first one's mark.
+fn second_is_open(row: &[u16], marks: &[u8], known: u16) -> bool
+    requires { (1 < length row.now) × ComplementInside marks.now (get_or row.now 1 0) }
+    ensures { result ≡ (eqb (get_or row.now 0 0) known && open_word marks.now (get_or row.now 1 0)) }
 {
-    clauses[at] == known && is_open(marks, clauses[at + 1])
+    row[0] == known && is_open(marks, row[1])
 }
 
 // Whether propagation stops at literal `l`: if `stops`, and its complement is marked.
@@ -133,9 +131,9 @@ fn force(row: &[u16], first: u16, marks: &mut [u8], atoms: usize, stops: bool) -
 }
 
 // Walks over the clauses and the literals of each, and marks each literal that follows: a clause with two open literals forces nothing,
-// one with one forces it, one with none all of its literals. If `stops`, it is left at the first complement met. Of whole rows one begins
-// wherever words are left. Rows ascend, so that many begin with the same literal: `known` is the open literal of the last row that was
-// scanned, or fill. Marking it leaves it open, so that the rows that begin with it need not be scanned from their first literal on.
+// one with one forces it, one with none all of its literals. If `stops`, it is left at the first complement met. Rows ascend, so that
+// many begin with the same literal: `known` is the open literal of the last row that was scanned, or fill. Marking it leaves it open, so
+// that the rows that begin with it need not be scanned from their first literal on.
 fn walk(clauses: &[u16], marks: &mut [u8], atoms: usize, stops: bool) -> Pass
     requires { Ready stops atoms clauses.now marks.old }
     ensures { RestKept atoms marks.old marks.new
@@ -143,40 +141,31 @@ fn walk(clauses: &[u16], marks: &mut [u8], atoms: usize, stops: bool) -> Pass
 {
     let mut pass = Pass::Same;
     let mut known = Literal::FILL;
-    let mut place = RowPlace::first();
-    'walk: while place.at < clauses.len() {
-        let here = place;
-        place = place.next();
-        if second_is_open(clauses, here.at, marks, known) {
+    'walk: for row in clauses.chunks_exact(WIDTH) {
+        if second_is_open(row, marks, known) {
             continue 'walk;
         }
         let mut first = Literal::FILL;
-        let mut k: usize = 0;
-        while k < WIDTH {
-            let word = clauses[here.at + k];
-            let scan = scan_word(marks, word, first);
-            match scan {
+        for word in row {
+            match scan_word(marks, *word, first) {
                 Scan::Same => {}
                 Scan::First => {
-                    first = word;
+                    first = *word;
                 }
                 Scan::Second => {
                     known = first;
                     continue 'walk;
                 }
             }
-            k += 1;
         }
         known = first;
-        let forced = force(here.row(clauses), first, marks, atoms, stops);
-        match forced {
+        match force(row, first, marks, atoms, stops) {
             Pass::Same => {}
             Pass::Grown => {
                 pass = Pass::Grown;
             }
             Pass::Contradictory => {
-                pass = Pass::Contradictory;
-                break 'walk;
+                return Pass::Contradictory;
             }
         }
     }
