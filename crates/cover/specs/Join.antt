@@ -3,11 +3,9 @@ use Rattle.std.specs.Prelude.{◌≡◌, true, false, List, [], ℕ, ◌+◌, �
 use Rattle.definitions.specs.Lists.{all}
 use Rattle.definitions.specs.Literal.{most_atoms}
 use Rattle.definitions.specs.Groups.{mutex, groups_below, place_of}
-use Rattle.cover.specs.Mutex.{Known}
 
--- rows to look clauses up in, with the marks of their atoms, for atom a, and room for the places of the atoms up to it
-pub record Lookup (w alone places : List ℕ) (a : ℕ) : Type 0 where
-  pub known : Known w alone
+-- a mark for atom a, and room for the places of all atoms
+pub record AtomRoom (alone places : List ℕ) (a : ℕ) : Type 0 where
   pub inside : a < length alone
   pub room : 2 * length alone ≤ length places
 

@@ -4,20 +4,9 @@ ghost use Rattle.std.specs.Prelude.{◌≡◌, ◌*◌, ◌+◌, ◌≤◌, ◌<
 ghost use Rattle.definitions.specs.Literal.{most_atoms};
 ghost use Rattle.definitions.specs.Groups.{groups_below};
 ghost use Rattle.clause.specs.Rows.{clauses_of};
-ghost use Rattle.cover.specs.Mutex.{Known};
-ghost use Rattle.cover.specs.Join.{Lookup, Low, Apart, Lowest, Candidate, Joins, Free, Entered, Grouped};
+ghost use Rattle.cover.specs.Join.{AtomRoom, Low, Apart, Lowest, Candidate, Joins, Free, Entered, Grouped};
 
-// Marks the groups that hold an atom below `a` that is not mutex with `a`.
-fn mark_apart(clauses: &[u16], alone: &[u8], places: &[u16], a: usize, apart: &mut [u8])
-    requires { (Lookup clauses.now alone.now places.now a) × (Low places.now a) × (apart.old ≡ replicate most_atoms 0) }
-    ensures { Apart (clauses_of clauses.now) places.now a a apart.new }
-{
-    for b in 0..a {
-        let mutex = super::mutex::is_mutex(clauses, alone, a, b);
-        let group = literal::wide(places[2 * b]);
-        literal::flags::mark_if(!mutex, apart, group);
-    }
-}
+use super::mutex::MutexAtoms;
 
 // The lowest of `count` groups that is not marked, or the next group.
 fn lowest(apart: &[u8], count: usize) -> usize
@@ -28,16 +17,6 @@ fn lowest(apart: &[u8], count: usize) -> usize
         .iter()
         .position(|mark| *mark == 0)
         .unwrap_or(count)
-}
-
-// The group that atom `a` joins, where the atoms below it have joined `count` groups.
-fn choose(clauses: &[u16], alone: &[u8], places: &[u16], a: usize, count: usize) -> usize
-    requires { (Lookup clauses.now alone.now places.now a) × (Candidate (clauses_of clauses.now) places.now a count) }
-    ensures { Joins (clauses_of clauses.now) a (groups_below (clauses_of clauses.now) a) result }
-{
-    let mut apart = [0u8; literal::MOST_ATOMS];
-    mark_apart(clauses, alone, places, a, &mut apart);
-    lowest(&apart, count)
 }
 
 // Puts atom `a` after the members of a group.
@@ -51,16 +30,40 @@ fn enter(places: &mut [u16], sizes: &mut [u16], a: usize, group: usize)
     sizes[group] = size + 1;
 }
 
-// Groups all atoms, and gives the number of groups.
-pub fn join_all(clauses: &[u16], alone: &[u8], places: &mut [u16], sizes: &mut [u16]) -> usize
-    requires { (Known clauses.now alone.now) × (2 * length alone.now ≤ length places.old) × (sizes.old ≡ replicate most_atoms 0) }
-    ensures { Grouped (clauses_of clauses.now) (length alone.now) places.new sizes.new result }
-{
-    let mut count = 0;
-    for a in 0..alone.len() {
-        let group = choose(clauses, alone, places, a, count);
-        enter(places, sizes, a, group);
-        count = count.max(group + 1);
+impl MutexAtoms<'_> {
+    // Marks the groups that hold an atom below `a` that is not mutex with `a`.
+    fn mark_apart(&self, places: &[u16], a: usize, apart: &mut [u8])
+        requires { (AtomRoom self.now.alone.now places.now a) × (Low places.now a) × (apart.old ≡ replicate most_atoms 0) }
+        ensures { Apart (clauses_of self.now.clauses.now) places.now a a apart.new }
+    {
+        for b in 0..a {
+            let mutex = self.is_mutex(a, b);
+            let group = literal::wide(places[2 * b]);
+            literal::flags::mark_if(!mutex, apart, group);
+        }
     }
-    count
+
+    // The group that atom `a` joins, where the atoms below it have joined `count` groups.
+    fn choose(&self, places: &[u16], a: usize, count: usize) -> usize
+        requires { (AtomRoom self.now.alone.now places.now a) × (Candidate (clauses_of self.now.clauses.now) places.now a count) }
+        ensures { Joins (clauses_of self.now.clauses.now) a (groups_below (clauses_of self.now.clauses.now) a) result }
+    {
+        let mut apart = [0u8; literal::MOST_ATOMS];
+        self.mark_apart(places, a, &mut apart);
+        lowest(&apart, count)
+    }
+
+    // Groups all atoms, and gives the number of groups.
+    pub fn join_all(&self, places: &mut [u16], sizes: &mut [u16]) -> usize
+        requires { (2 * length self.now.alone.now ≤ length places.old) × (sizes.old ≡ replicate most_atoms 0) }
+        ensures { Grouped (clauses_of self.now.clauses.now) (length self.now.alone.now) places.new sizes.new result }
+    {
+        let mut count = 0;
+        for a in 0..self.alone.len() {
+            let group = self.choose(places, a, count);
+            enter(places, sizes, a, group);
+            count = count.max(group + 1);
+        }
+        count
+    }
 }

@@ -12,6 +12,8 @@ pub mod join; // join.rt: the groups
 pub mod mutex; // mutex.rt: atoms that are mutex
 pub mod none; // none.rt: which groups have the value none
 
+use mutex::MutexAtoms;
+
 // Groups as many atoms as `alone` has marks, and gives the number of groups.
 fn cover_marked(
     clauses: &[u16],
@@ -24,7 +26,8 @@ fn cover_marked(
     ensures { Covered (length alone.old) (clauses_of clauses.now) places.new sizes.new none.new result }
 {
     mutex::mark_alone(clauses, alone);
-    let count = join::join_all(clauses, alone, places, sizes);
+    let atoms = MutexAtoms { clauses, alone };
+    let count = atoms.join_all(places, sizes);
     none::omit_all(clauses, places, none);
     count
 }

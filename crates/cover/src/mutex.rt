@@ -7,6 +7,14 @@ ghost use Rattle.cover.specs.Mutex.{Alone, Known};
 
 use literal::Literal;
 
+// A clause set, and a mark for each atom that it says to be false.
+#[derive(Clone, Copy)]
+pub struct MutexAtoms<'a> {
+    pub clauses: &'a [u16],
+    pub alone: &'a [u8],
+    pub ghost known: { Known clauses.now alone.now },
+}
+
 // Whether the set has the clause of one literal.
 fn has_one(clauses: &[u16], l: Literal) -> bool
     requires { (RightRows most_atoms clauses.now) × (l.code < most_literals) }
@@ -46,10 +54,12 @@ pub fn mark_alone(clauses: &[u16], alone: &mut [u8])
     }
 }
 
-// Whether atom `a` is mutex with the lower atom `b`.
-pub fn is_mutex(clauses: &[u16], alone: &[u8], a: usize, b: usize) -> bool
-    requires { (Known clauses.now alone.now) × (a < length alone.now) × (b < a) }
-    ensures { result ≡ mutex (clauses_of clauses.now) a b }
-{
-    alone[a] == 1 || alone[b] == 1 || has_two(clauses, negative(b), negative(a))
+impl MutexAtoms<'_> {
+    // Whether atom `a` is mutex with the lower atom `b`.
+    pub fn is_mutex(&self, a: usize, b: usize) -> bool
+        requires { (a < length self.now.alone.now) × (b < a) }
+        ensures { result ≡ mutex (clauses_of self.now.clauses.now) a b }
+    {
+        self.alone[a] == 1 || self.alone[b] == 1 || has_two(self.clauses, negative(b), negative(a))
+    }
 }

@@ -8,13 +8,11 @@ use Rattle.cover.proofs.cover_marked.Goals as goal
 pub mark_alone-requires : goal.mark_alone-requires
 mark_alone-requires c = (wide_rows _ _ c.requires.0 c.requires.1.few, c.requires.1.few)
 
-pub join_all-count-requires : goal.join_all-count-requires
-join_all-count-requires c =
-    let p = c.requires in
-    let e = c.mark_alone.ensures.1 in
-    let room = p.1.places in
-    let few = p.1.few in
-    (record { rows = wide_rows _ _ p.0 few; marks = c.mark_alone.ensures.0; few = omega arith }, omega arith, p.1.sizes)
+pub invariant_of-atoms : goal.invariant_of-atoms
+invariant_of-atoms c =
+    let few = c.requires.1.few in
+    let same = c.mark_alone.ensures.1 in
+    record { known = record { rows = wide_rows _ _ c.requires.0 few; marks = c.mark_alone.ensures.0; few = omega arith } }
 
 pub omit_all-requires : goal.omit_all-requires
 omit_all-requires c =

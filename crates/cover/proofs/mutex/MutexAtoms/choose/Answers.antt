@@ -1,12 +1,12 @@
--- `cover::join::choose`: the lowest group that is not marked is the one that the atom joins.
+-- `MutexAtoms::choose`: the lowest group that is not marked is the one that the atom joins.
 use Rattle.std.proofs.Common.{refl, arith}
 use Rattle.cover.proofs.Joining.{variable_low, chosen}
-use Rattle.cover.proofs.join.choose.Goals as goal
+use Rattle.cover.proofs.mutex.MutexAtoms.choose.Goals as goal
 
 pub mark_apart-requires : goal.mark_apart-requires
 mark_apart-requires c =
     let p = c.requires in
-    let few = p.0.known.few in
+    let few = c.args.self.now.known.few in
     let inside = p.0.inside in
     let n = p.1.count in
     let m = p.1.few in

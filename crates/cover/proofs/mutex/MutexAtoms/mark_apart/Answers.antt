@@ -1,9 +1,9 @@
--- `cover::join::mark_apart`: the groups of the atoms below b are marked, and that of b is where it must be.
+-- `MutexAtoms::mark_apart`: the groups of the atoms below b are marked, and that of b is where it must be.
 use Rattle.std.proofs.Common.{ℕ, ◌<◌, ◌≡◌, length, ap, ◌∙◌, arith}
 use Rattle.std.proofs.lemmas.List.{length-replicate}
 use Rattle.definitions.specs.Literal.{most_atoms}
 use Rattle.cover.proofs.Joining.{apart_start, apart_on}
-use Rattle.cover.proofs.join.mark_apart.Goals as goal
+use Rattle.cover.proofs.mutex.MutexAtoms.mark_apart.Goals as goal
 
 pub loop-b-init : goal.loop-b-init
 loop-b-init c = apart_start _ _ _ _ most_atoms c.requires.2
