@@ -49,15 +49,11 @@ pub fn are_domains(domains: &[u16], variables: usize) -> bool
 pub fn are_values(domains: &[u16], values: &[u16]) -> bool
     ensures { result ≡ values_right (domains_in domains.now) values.now }
 {
-    if values.len() != domains.len() / 2 {
-        return false;
-    }
-    for (v, value) in values.iter().enumerate() {
-        if size(domains, v) <= literal::wide(*value) {
-            return false;
-        }
-    }
-    true
+    values.len() == domains.len() / 2
+        && values
+            .iter()
+            .zip(domains.chunks_exact(2))
+            .all(|(value, domain)| *value < domain[0])
 }
 
 // Whether the words are literals, each naming an atom value.
