@@ -60,9 +60,9 @@ pub fn are_values(domains: &[u16], values: &[u16]) -> bool
 pub fn are_literals(domains: &[u16], words: &[u16]) -> bool
     ensures { result ≡ all (fdr_literal_right (domains_in domains.now)) (literals_in words.now) }
 {
-    words.chunks_exact(2).all(|words| {
-        let variable = literal::wide(words[0]);
-        let code = literal::wide(words[1]);
+    words.chunks_exact(2).all(|pair| {
+        let variable = literal::wide(pair[0]);
+        let code = literal::wide(pair[1]);
         is_atom_value(domains, variable, code / 2)
     })
 }
