@@ -23,9 +23,9 @@ fn is_true(state: &[u16], variable: usize, code: usize) -> bool
 pub fn all_true(state: &[u16], literals: &[u16]) -> bool
     ensures { result ≡ fdr_all_true state.now (literals_in literals.now) }
 {
-    literals.chunks_exact(2).all(|words| {
-        let variable = literal::wide(words[0]);
-        let code = literal::wide(words[1]);
+    literals.chunks_exact(2).all(|pair| {
+        let variable = literal::wide(pair[0]);
+        let code = literal::wide(pair[1]);
         is_true(state, variable, code)
     })
 }

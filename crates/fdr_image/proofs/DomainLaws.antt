@@ -1,14 +1,13 @@
 -- Domains and values, for the walks over them. Assumes nothing.
-use mathlib.Core.Path.{◌≡◌, refl, ap, ◌∙◌}
+use mathlib.Core.Path.{◌≡◌, refl, ap}
 use mathlib.Core.List.{List, [], ◌∷◌}
 use mathlib.Core.Bool.{Bool, true, false, ◌&&◌}
 use Prim.Native.Nat.{ℕ, zero, suc, ◌+◌, ◌-◌, ◌*◌, ◌≤◌, ◌<◌}
-use native.Mathlib.Numerals.{add-one}
 use native.Mathlib.Omega.{arith}
 use lib.Dec.{leb, ltb}
-use lib.ListN.{length, get_or, drop, drop_of_length-le}
-use lib.Seq.{drop-cons}
+use lib.ListN.{length, get_or}
 use borrow.Author.Tests.{lt-ltb, le-ltb, ltb-true, eq-eqb, ne_eqb}
+use Rattle.std.specs.List.{zip}
 use Rattle.definitions.specs.Lists.{all}
 use Rattle.definitions.specs.Groups.{Domain}
 use Rattle.definitions.specs.Fdr.{no_domain, atom_values}
@@ -63,22 +62,12 @@ values_unlike (d ∷ D) (x ∷ xs) h = go (ltb x d.values) (values_unlike D xs (
     go true e = e
     go false e = refl
 
-module _ (D : List Domain) (xs : List ℕ) (i : ℕ) (in_d : i < length D) (in-xs : i < length xs) where
-  values_here : values_right (drop i D) (drop i xs) ≡ (ltb (get_or xs i 0) (get_or D i no_domain).values && values_right (drop (i + 1) D) (drop (i + 1) xs))
-  unfolding values_right
-  values_here = rw (add-one, drop-cons D i no_domain in_d, drop-cons xs i 0 in-xs)
-
-  pub values_high : (n x : ℕ) → n ≡ (get_or D i no_domain).values → x ≡ get_or xs i 0 → n ≤ x → values_right (drop i D) (drop i xs) ≡ false
-  values_high n x en ex h = values_here ∙ rw (← en, ← ex, le-ltb x n h)
-
-  pub values_on :
-      (n x : ℕ) → n ≡ (get_or D i no_domain).values → x ≡ get_or xs i 0 → x < n
-      → values_right (drop i D) (drop i xs) ≡ values_right (drop (i + 1) D) (drop (i + 1) xs)
-  values_on n x en ex h = values_here ∙ rw (← en, ← ex, lt-ltb x n h)
-
-pub values_end : (D : List Domain) (xs : List ℕ) (i : ℕ) → length D ≤ i → length xs ≤ i → values_right (drop i D) (drop i xs) ≡ true
-unfolding values_right
-values_end D xs i h l = rw (drop_of_length-le D {i = i} h, drop_of_length-le xs {i = i} l)
+pub values_zipped : (D : List Domain) (xs : List ℕ) → length xs ≡ length D → all (λ p. ltb p.0 p.1.values) (zip xs D) ≡ values_right D xs
+unfolding values_right all
+values_zipped [] [] h = refl
+values_zipped [] (x ∷ xs) h = absurd (omega arith)
+values_zipped (d ∷ D) [] h = absurd (omega arith)
+values_zipped (d ∷ D) (x ∷ xs) h = ap (λ r. ltb x d.values && r) (values_zipped D xs (omega arith))
 
 -- a right value for each variable
 pub values_length : (D : List Domain) (s : List ℕ) → values_right D s ≡ true → length s ≡ length D

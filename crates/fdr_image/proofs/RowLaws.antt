@@ -3,7 +3,7 @@ use mathlib.Core.Path.{◌≡◌, refl, sym, ap, ◌∙◌, subst}
 use mathlib.Core.List.{List, [], ◌∷◌}
 use mathlib.Core.Bool.{Bool, true, false, ◌&&◌, and-false}
 use mathlib.Core.Option.{Option, none, some}
-use Prim.Native.Nat.{ℕ, zero, suc, ◌+◌, ◌-◌, ◌*◌, ◌≤◌, ◌<◌}
+use Prim.Native.Nat.{ℕ, suc, ◌+◌, ◌-◌, ◌*◌, ◌≤◌, ◌<◌}
 use native.Mathlib.Numerals.{add-one, add-two, add-three, add-four}
 use native.Mathlib.Nat.{add-sub_cancel_left}
 use native.Mathlib.Omega.{arith}
@@ -17,7 +17,7 @@ use Rattle.definitions.specs.Fdr.{FdrLiteral, FdrRow, FdrOperator}
 use Rattle.definitions.specs.FdrImage.{literals_in, is_atom_value, fdr_literal_right, fdr_row_right, fdr_operator_right, fdr_rows_of}
 use Rattle.definitions.specs.FdrImage.{fdr_rest_of, fdr_operator_of}
 use Rattle.definitions.proofs.ListLaws.{never}
-use Rattle.fdr_image.specs.Walk.{whole_row, kind_of, row, rows_right, block_right, some_rows, rows_or, parses_at, rows_at, some_operator}
+use Rattle.fdr_image.specs.Walk.{whole_row, row, rows_right, block_right, some_rows, rows_or, parses_at, rows_at, some_operator}
 use Rattle.fdr_image.specs.Walk.{operator_or, block_parses, operator_in}
 use Rattle.fdr_image.specs.Post.{RowAt, RowRead, BlockRead}
 

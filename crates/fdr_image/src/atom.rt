@@ -60,9 +60,9 @@ fn are_given_once(domains: &[u16], atoms: &[u16]) -> bool
 fn are_placed(domains: &[u16], atoms: &[u16]) -> bool
     ensures { result ≡ all (place_right (domains_in domains.now)) (places_in atoms.now) }
 {
-    atoms.chunks_exact(2).all(|words| {
-        let variable = literal::wide(words[0]);
-        let value = literal::wide(words[1]);
+    atoms.chunks_exact(2).all(|pair| {
+        let variable = literal::wide(pair[0]);
+        let value = literal::wide(pair[1]);
         super::domain::is_atom_value(domains, variable, value)
     })
 }

@@ -49,24 +49,20 @@ pub fn are_domains(domains: &[u16], variables: usize) -> bool
 pub fn are_values(domains: &[u16], values: &[u16]) -> bool
     ensures { result ≡ values_right (domains_in domains.now) values.now }
 {
-    if values.len() != domains.len() / 2 {
-        return false;
-    }
-    for (v, value) in values.iter().enumerate() {
-        if size(domains, v) <= literal::wide(*value) {
-            return false;
-        }
-    }
-    true
+    values.len() == domains.len() / 2
+        && values
+            .iter()
+            .zip(domains.chunks_exact(2))
+            .all(|(value, domain)| *value < domain[0])
 }
 
 // Whether the words are literals, each naming an atom value.
 pub fn are_literals(domains: &[u16], words: &[u16]) -> bool
     ensures { result ≡ all (fdr_literal_right (domains_in domains.now)) (literals_in words.now) }
 {
-    words.chunks_exact(2).all(|words| {
-        let variable = literal::wide(words[0]);
-        let code = literal::wide(words[1]);
+    words.chunks_exact(2).all(|pair| {
+        let variable = literal::wide(pair[0]);
+        let code = literal::wide(pair[1]);
         is_atom_value(domains, variable, code / 2)
     })
 }
