@@ -18,7 +18,7 @@ use Rattle.task.specs.Reads.{task_of}
 use Rattle.fdr_image.specs.Reads.{fdr_of}
 use Rattle.agreement.specs.Same.{same_answer, both_found, same_unit, Both}
 use Rattle.agreement.specs.Compared.{left_by_steps, same_states, steps_same, runs_same, steps_from_start, runs_from_start, list_same}
-use Rattle.agreement.specs.Compared.{images_same, comparison, demanded, Small, SameLengths}
+use Rattle.agreement.specs.Compared.{images_same, comparison, demanded, SameLengths}
 use Rattle.agreement.proofs.SameLaws.{not_found, are_found}
 
 module _ (w e c s v : List ℕ) where
@@ -56,18 +56,7 @@ pub record Stepping (w e c list s₀ v₀ s v : List ℕ) (i : ℕ) : Type 0 whe
   pub rest : steps_same w e c list s₀ v₀ ≡ steps_same w e c (drop i list) s v
 
 module _ (w e c list s₀ v₀ : List ℕ) where
-  pub stepping_start : Stepping w e c list s₀ v₀ s₀ v₀ 0
-  stepping_start = record { inside = omega arith; lengths = record { atoms = refl; values = refl }; rest = refl }
-
   module _ (s v : List ℕ) (i : ℕ) (now : Stepping w e c list s₀ v₀ s v i) where
-    -- after one more step they still have room
-    pub stepping_small : (s' v' : List ℕ) → SameLengths s v s' v' → Small s₀ v₀ → Small s' v'
-    stepping_small s' v' l z =
-        record {
-          atoms = omega (arith, z.atoms, l.atoms, now.lengths.atoms);
-          values = omega (arith, z.values, l.values, now.lengths.values);
-        }
-
     pub stepping_end : length list ≤ i → true ≡ steps_same w e c list s₀ v₀
     unfolding steps_same
     stepping_end h = rw (now.rest, drop_of_length-le list {i = i} h)

@@ -1,12 +1,11 @@
 -- The joined image part by part: lengths, directory, lists, operators; and its number of words. Assumes nothing.
-use mathlib.Core.Bool.{true, false}
+use mathlib.Core.Bool.{◌&&◌}
 use mathlib.Core.Path.{◌≡◌, refl, sym, ◌∙◌, ap, ap₂}
 use mathlib.Core.List.{List, [], ◌∷◌, ◌++◌, map, map-append, append_assoc}
-use Prim.Native.Nat.{ℕ, ◌+◌, ◌-◌, ◌*◌, ◌≤◌, ◌<◌}
+use Prim.Native.Nat.{ℕ, ◌+◌, ◌-◌, ◌*◌, ◌≤◌}
 use native.Mathlib.Omega.{arith}
 use lib.ListN.{length, length-append, length-map}
 use lib.Dec.{leb}
-use borrow.Author.Tests.{le-leb, lt-leb}
 use Rattle.definitions.specs.Lists.{each}
 use Rattle.definitions.specs.Literal.{most_atoms}
 use Rattle.definitions.specs.Image.{most_image, most_operators, Operator, Task, operator_size}
@@ -183,42 +182,13 @@ module _ {w v target : List ℕ} (j : Joinable w v target) where
   unfolding joined
   part_given room = record { first = j.first; second = j.second; few = (joinable_fits j).atoms; room = room }
 
--- ---- question 27, one limit after the other
+-- ---- question 27 asks for the four limits
 module _ (w v : List ℕ) (first : Reads w) (second : Reads v) (room : ℕ) where
-  abbrev t : Task
-  t = task_of w
-
-  abbrev u : Task
-  u = task_of v
-
-  abbrev words : ℕ
-  words = length w + length v - 6
-
-  count_is : length (task_words (joined (task_of w) (task_of v))) ≡ length w + length v - 6
-  count_is = let a = words_are w v first second in omega arith
-
-  pub atoms_past : most_atoms < t.atoms + u.atoms → false ≡ join_fits (joined t u) room
+  pub limits_are :
+      (leb ((task_of w).atoms + (task_of v).atoms) most_atoms && leb (length (task_of w).operators + length (task_of v).operators) most_operators
+      && leb (length w + length v - 6) most_image && leb (length w + length v - 6) room)
+      ≡ join_fits (joined (task_of w) (task_of v)) room
   unfolding join_fits joined
-  atoms_past h = rw (lt-leb (t.atoms + u.atoms) most_atoms h)
-
-  module _ (atoms : t.atoms + u.atoms ≤ most_atoms) where
-    atoms_low : leb (joined t u).atoms most_atoms ≡ true
-    unfolding joined
-    atoms_low = le-leb (t.atoms + u.atoms) most_atoms atoms
-
-    pub operators_past : most_operators < length t.operators + length u.operators → false ≡ join_fits (joined t u) room
-    unfolding join_fits
-    operators_past h =
-        rw (atoms_low, joined_count t u, lt-leb (length t.operators + length u.operators) most_operators h)
-
-    module _ (operators : length t.operators + length u.operators ≤ most_operators) where
-      operators_low : leb (length (joined t u).operators) most_operators ≡ true
-      operators_low = rw (joined_count t u) (le-leb (length t.operators + length u.operators) most_operators operators)
-
-      pub words_past : most_image < words → false ≡ join_fits (joined t u) room
-      unfolding join_fits
-      words_past h = rw (atoms_low, operators_low, count_is, lt-leb words most_image h)
-
-      pub words_fit : words ≤ most_image → leb words room ≡ join_fits (joined t u) room
-      unfolding join_fits
-      words_fit h = rw (atoms_low, operators_low, count_is, le-leb words most_image h)
+  limits_are =
+      let words : length (task_words (joined (task_of w) (task_of v))) ≡ length w + length v - 6 = omega (arith, words_are w v first second) in
+      rw (joined_count (task_of w) (task_of v), words)

@@ -193,26 +193,28 @@ module _ (n : ℕ) (w : List ℕ) (i : ℕ) where
 module _
     (n : ℕ) (w : List ℕ) (i : ℕ) {at to : ℕ} {old now' : List ℕ}
     (left : Writing old at (operators_behind n (task_of w).operators) now' to (operators_behind n (drop i (task_of w).operators)))
-    where
-  -- the block of operator i is read
-  module _ (h : i < length (task_of w).operators) {b : List ℕ} (given : BlockGiven b (task_of w) i) where
-    operator_next :
-        Writing old at (operators_behind n (task_of w).operators) now' to
-        (operator_behind n (operator_in b) ++ operators_behind n (drop (i + 1) (task_of w).operators))
-    operator_next = rw given.operator (write_same (operators_next n w i h) left)
+  where
+    -- the block of operator i is read
+    module _ (h : i < length (task_of w).operators) {b : List ℕ} (given : BlockGiven b (task_of w) i) where
+      operator_next :
+          Writing old at (operators_behind n (task_of w).operators) now' to
+          (operator_behind n (operator_in b) ++ operators_behind n (drop (i + 1) (task_of w).operators))
+      operator_next = rw given.operator (write_same (operators_next n w i h) left)
 
-    -- what writing it asks
-    pub operator_given :
-        Reads w → n + (task_of w).atoms ≤ most_atoms → at + length (operators_behind n (task_of w).operators) ≤ length old
-        → (n ≤ most_atoms) × (OperatorOver (most_atoms - n) b) × (to + length (operator_behind n (operator_in b)) ≤ length now')
-    operator_given rd few room =
-        (omega arith, operator_left n w i b rd h given few,
-         part_room (operator_behind n (operator_in b)) (operators_behind n (drop (i + 1) (task_of w).operators)) operator_next room)
+      -- what writing it asks
+      pub operator_given :
+          Reads w → n + (task_of w).atoms ≤ most_atoms → at + length (operators_behind n (task_of w).operators) ≤ length old
+          → (n ≤ most_atoms) × (OperatorOver (most_atoms - n) b) × (to + length (operator_behind n (operator_in b)) ≤ length now')
+      operator_given rd few room = (
+        omega arith,
+        operator_left n w i b rd h given few,
+        part_room (operator_behind n (operator_in b)) (operators_behind n (drop (i + 1) (task_of w).operators)) operator_next room,
+      )
 
-    pub operator_written :
-        {new : List ℕ} {end : ℕ} → Wrote now' to (operator_behind n (operator_in b)) new end
-        → Writing old at (operators_behind n (task_of w).operators) new end (operators_behind n (drop (i + 1) (task_of w).operators))
-    operator_written e = write_part operator_next e
+      pub operator_written :
+          {new : List ℕ} {end : ℕ} → Wrote now' to (operator_behind n (operator_in b)) new end
+          → Writing old at (operators_behind n (task_of w).operators) new end (operators_behind n (drop (i + 1) (task_of w).operators))
+      operator_written e = write_part operator_next e
 
-  pub operators_written : length (task_of w).operators ≤ i → Wrote old at (operators_behind n (task_of w).operators) now' to
-  operators_written h = write_end (write_same (operators_end n w i h) left)
+    pub operators_written : length (task_of w).operators ≤ i → Wrote old at (operators_behind n (task_of w).operators) now' to
+    operators_written h = write_end (write_same (operators_end n w i h) left)

@@ -21,17 +21,11 @@ fn fits(left: &[u16], right: &[u16], room: usize) -> bool
     requires { (Reads left.now) × (Reads right.now) }
     ensures { result ≡ join_fits (joined (task_of left.now) (task_of right.now)) room }
 {
-    if literal::MOST_ATOMS < task::atoms(left) + task::atoms(right) {
-        return false;
-    }
-    if task::MOST_OPERATORS < task::operators(left) + task::operators(right) {
-        return false;
-    }
     let words = left.len() + right.len() - 6;
-    if task::MOST_WORDS < words {
-        return false;
-    }
-    words <= room
+    task::atoms(left) + task::atoms(right) <= literal::MOST_ATOMS
+        && task::operators(left) + task::operators(right) <= task::MOST_OPERATORS
+        && words <= task::MOST_WORDS
+        && words <= room
 }
 
 // Writes the initial lists, then the goals.

@@ -65,9 +65,6 @@ module _ (t : List ℕ) (at : ℕ) (vs t' : List ℕ) (end : ℕ) (w : Wrote t a
   front : length (take at t) ≡ at
   front = length-take-le at t (omega arith)
 
-  pub words_inside : at ≤ end
-  words_inside = let n = w.next in omega arith
-
   pub words_end : end ≤ length t'
   words_end = let n = w.next in let a = wrote_size w in omega arith
 

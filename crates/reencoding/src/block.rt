@@ -86,13 +86,7 @@ fn rows(
             end,
         } = task::block::row(block, next, left);
         let code = effect as u16;
-        to = row(
-            Literal { code: code },
-            &block[start..end],
-            places,
-            target,
-            to,
-        );
+        to = row(Literal { code }, &block[start..end], places, target, to);
         next = end;
         left -= 1;
     }
