@@ -59,6 +59,12 @@ mapped_err (Err f) m Q h g e =
     let same : p.0 ≡ g = cc in
     (f, refl, subst (Q f) same p.2)
 
+-- what holds of the refusal that is handed on holds of the answer
+pub left_as :
+    {A : Type 0} (P : Result A code.Refusal → Type 0) (r : Result A code.Refusal) (f : code.Refusal)
+    → IsErrAnd r (λ g. g ≡ f) → P (Err f) → P r
+left_as P r f h e = let p = err_from_is_err_and r h in rw (p.1, p.2) e
+
 -- what a question said: asked with the answer b, it refuses where b is no
 module _ (q i : ℕ) (b : Bool) where
   pub asked_no : (r : Refusal) → refused r ≡ ask_at q i b → b ≡ false

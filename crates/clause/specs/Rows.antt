@@ -1,12 +1,16 @@
 -- The clauses of clause words, row after row, and words whose questions 8 and 9 are answered yes. Assumes nothing.
-use Rattle.std.specs.Prelude.{◌≡◌, true, List, map, ℕ, ◌/◌, ◌%◌, ◌≤◌, ◌<◌, length, take, drop}
+use Rattle.std.specs.Prelude.{◌≡◌, Bool, true, ◌&&◌, List, map, ℕ, ◌*◌, ◌/◌, ◌%◌, ◌≤◌, ◌<◌, length, take, drop, eqb, leb}
 use Rattle.definitions.specs.Lists.{range}
 use Rattle.definitions.specs.Answer.{finding}
-use Rattle.definitions.specs.Clauses.{width, clause_of, clause_right, row_less, row_at, read_clauses, read_clause}
+use Rattle.definitions.specs.Clauses.{width, most_rows, clause_of, clause_right, row_less, row_at, read_clauses, read_clause}
 
 -- whole rows
 unfoldable pub row_count : List ℕ → ℕ
 row_count w = length w / width
+
+-- question 8: whole rows, no more than a clause buffer can hold
+unfoldable pub rows_right : List ℕ → Bool
+rows_right w = eqb (length w % width) 0 && leb (length w) (width * most_rows)
 
 -- the clauses of k rows from row i on
 unfoldable pub clauses_in : List ℕ → ℕ → ℕ → List (List ℕ)

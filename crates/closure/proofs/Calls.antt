@@ -2,10 +2,12 @@
 use mathlib.Core.Path.{◌≡◌, sym, ◌∙◌, ap, ap₂}
 use mathlib.Core.Bool.{true}
 use mathlib.Core.List.{List, ◌++◌}
-use Prim.Native.Nat.{ℕ, ◌-◌, ◌≤◌, ◌<◌}
+use Prim.Native.Nat.{ℕ, ◌-◌, ◌≤◌}
+use lib.Dec.{ltb, leb}
 use lib.ListN.{length, take, drop}
-use borrow.Author.Tests.{lt-ltb, le-ltb, lt-leb, le-leb}
-use Rattle.definitions.specs.Answer.{Refusal, finding, refused, verdict, outcome, ◌>>=◌, ask, ask_at}
+use Rattle.std.proofs.Common.{Result}
+use Rattle.std.specs.Result.{IsErrAnd}
+use Rattle.definitions.specs.Answer.{Refusal, finding, refused, verdict, outcome, ◌>>=◌, ask}
 use Rattle.definitions.specs.Literal.{most_atoms}
 use Rattle.definitions.specs.Image.{Operator, operator_right}
 use Rattle.definitions.specs.Step.{operator_at}
@@ -13,11 +15,10 @@ use Rattle.definitions.specs.Closure.{closure}
 use Rattle.definitions.specs.Marks.{mark_bytes, marks_of, marked_literals}
 use Rattle.definitions.specs.Groups.{written}
 use Rattle.definitions.specs.ClosureCall.{operator_closure, shown, closure_call}
-use Rattle.definitions.proofs.AnswerLaws.{not_finding}
 use Rattle.definitions.proofs.MarkBits.{new_marks, marks_length, new_literals, front_literals}
-use Rattle.answer.specs.Answer.{placed, refusal_at, verdict_answer}
-use Rattle.answer.specs.declared.Verdict.{Verdict}
-use Rattle.answer.specs.declared.Verdict.TheVariants.{Fine, Refused}
+use Rattle.answer.specs.Answer.{placed, count_answer}
+use Rattle.answer.specs.declared.Refusal as code
+use Rattle.answer.proofs.Laws.{left_by}
 use Rattle.clause.specs.Rows.{clauses_of}
 use Rattle.task.specs.Reads.{task_of}
 use Rattle.task.specs.Walk.{operator_in}
@@ -27,61 +28,27 @@ use Rattle.task.proofs.BlockSizes.{operator_pre}
 use Rattle.propagation.specs.Marks.{Asked}
 use Rattle.reading.specs.Reading.{read_both, BothRead}
 use Rattle.reading.proofs.Questions.{both_refused}
-use Rattle.closure.specs.Asked.{Asks, InputAnswer}
+use Rattle.closure.specs.Asked.{Asks}
 
-module _ (w c : List ℕ) (i marks : ℕ) where
-  pub input_read : (r : Refusal) → refused r ≡ verdict (read_both w c) → (ms : List ℕ) → length ms ≡ marks → refused r ≡ closure_call w c i ms
+module _ (w c : List ℕ) (i : ℕ) (ms : List ℕ) where
+  pub call_read : (r : Refusal) → refused r ≡ verdict (read_both w c) → refused r ≡ closure_call w c i ms
   unfolding closure_call ◌>>=◌
-  input_read r h ms size = sym (both_refused w c _ r h)
+  call_read r h = sym (both_refused w c _ r h)
 
-  module _ (read : BothRead w c) where
-    operator_refused : length (task_of w).operators ≤ i → (ms : List ℕ) → refused (refusal_at 19 0 0) ≡ closure_call w c i ms
-    unfolding closure_call ◌>>=◌ ask ask_at
-    operator_refused h ms = rw (read.task.found, read.clauses.read, le-ltb i (length (task_of w).operators) h)
+  -- after questions 1 to 9: 19, then 13
+  pub call_asks :
+      BothRead w c
+      → (ask 19 (ltb i (length (task_of w).operators)) >>= λ _. ask 13 (leb (mark_bytes (task_of w).atoms) (length ms))
+      >>= λ _. finding (shown (task_of w) (clauses_of c) i ms)) ≡ closure_call w c i ms
+  unfolding closure_call ◌>>=◌
+  call_asks read = rw (read.task.found, read.clauses.read)
 
-    marks_refused :
-        i < length (task_of w).operators → (ms : List ℕ) → length ms < mark_bytes (task_of w).atoms → refused (refusal_at 13 0 0) ≡ closure_call w c i ms
-    unfolding closure_call ◌>>=◌ ask ask_at
-    marks_refused inside ms h =
-        rw (
-          read.task.found,
-          read.clauses.read,
-          lt-ltb i (length (task_of w).operators) inside,
-          lt-leb (mark_bytes (task_of w).atoms) (length ms) h,
-        )
-
-    pub input_operator :
-        length (task_of w).operators ≤ i → (v : Verdict) → verdict_answer v ≡ refused (refusal_at 19 0 0) → InputAnswer w c i marks v
-    input_operator h Fine e = absurd (not_finding (sym e))
-    input_operator h (Refused r) e = λ ms size. let q : placed r ≡ refusal_at 19 0 0 = cc in ap refused q ∙ operator_refused h ms
-
-    pub input_marks :
-        i < length (task_of w).operators → marks < mark_bytes (task_of w).atoms → (v : Verdict) → verdict_answer v ≡ refused (refusal_at 13 0 0)
-        → InputAnswer w c i marks v
-    input_marks inside h Fine e = absurd (not_finding (sym e))
-    input_marks inside h (Refused r) e =
-        λ ms size. let q : placed r ≡ refusal_at 13 0 0 = cc in ap refused q ∙ marks_refused inside ms (rw size h)
-
--- a refusal leaves the marks
-pub call_refused :
-    (w c : List ℕ) (i : ℕ) (ms : List ℕ) (r : Refusal) → refused r ≡ closure_call w c i ms
-    → outcome (refused r) ms ≡ written ms (closure_call w c i ms)
-unfolding written
-call_refused w c i ms r e = rw (sym e)
-
--- a finding is what is shown
-pub call_found :
-    (w c : List ℕ) (i : ℕ) (ms : List ℕ) → Asks w c i (length ms)
-    → written ms (finding (shown (task_of w) (clauses_of c) i ms)) ≡ written ms (closure_call w c i ms)
-unfolding closure_call ◌>>=◌ ask ask_at
-call_found w c i ms a =
-    ap (written ms)
-    (rw (
-      a.task.found,
-      a.clauses.read,
-      lt-ltb i (length (task_of w).operators) a.operator,
-      le-leb (mark_bytes (task_of w).atoms) (length ms) a.marked,
-    ))
+  -- a refusal leaves the marks
+  pub call_refused :
+      (v : Result ℕ code.Refusal) (f : code.Refusal) → IsErrAnd v (λ g. g ≡ f) → refused (placed f) ≡ closure_call w c i ms
+      → outcome (count_answer v) ms ≡ written ms (closure_call w c i ms)
+  unfolding written
+  call_refused v f left e = rw (left_by v f left, ← e)
 
 -- ---- what is shown for operator i, whose block is b
 module _ (w c : List ℕ) (i : ℕ) (ms : List ℕ) (a : Asks w c i (length ms)) (atoms : ℕ) (counted : atoms ≡ (task_of w).atoms) (b : List ℕ)

@@ -1,10 +1,6 @@
 -- What the closure call asks. Assumes nothing.
-use Rattle.std.specs.Prelude.{◌≡◌, List, ℕ, ◌≤◌, ◌<◌, length}
-use Rattle.definitions.specs.Answer.{refused}
+use Rattle.std.specs.Prelude.{List, ℕ, ◌≤◌, ◌<◌, length}
 use Rattle.definitions.specs.Marks.{mark_bytes}
-use Rattle.definitions.specs.ClosureCall.{closure_call}
-use Rattle.answer.specs.Answer.{placed}
-use Rattle.answer.specs.declared.Verdict as verdicts
 use Rattle.clause.specs.Rows.{ClausesRead}
 use Rattle.task.specs.Reads.{task_of, Reads}
 
@@ -14,8 +10,3 @@ pub record Asks (w c : List ℕ) (i marks : ℕ) : Type 0 where
   pub clauses : ClausesRead (task_of w).atoms c
   pub operator : i < length (task_of w).operators
   pub marked : mark_bytes (task_of w).atoms ≤ marks
-
--- what the answer to these questions says
-abbrev pub InputAnswer : List ℕ → List ℕ → ℕ → ℕ → verdicts.Verdict → Type 0
-InputAnswer w c i marks verdicts.TheVariants.Fine = Asks w c i marks
-InputAnswer w c i marks (verdicts.TheVariants.Refused r) = (ms : List ℕ) → length ms ≡ marks → refused (placed r) ≡ closure_call w c i ms

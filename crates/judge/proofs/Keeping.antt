@@ -7,7 +7,8 @@ use native.Mathlib.Nat.{mul-zero}
 use native.Mathlib.Omega.{arith}
 use lib.ListN.{length}
 use lib.Seq.{take_all}
-use borrow.Author.Tests.{le-ltb, lt-ltb, le-leb, lt-leb}
+use lib.Dec.{ltb, leb}
+use borrow.Author.Tests.{lt-ltb, le-leb}
 use Rattle.definitions.specs.Lists.{range}
 use Rattle.definitions.specs.Answer.{Refusal, finding, refused, verdict, ask, ask_at, ◌>>=◌}
 use Rattle.definitions.specs.Image.{Operator, operator_right}
@@ -18,10 +19,6 @@ use Rattle.definitions.specs.Kept.{kept}
 use Rattle.definitions.specs.Checker.{keeps}
 use Rattle.definitions.specs.Literal.{most_atoms}
 use Rattle.definitions.specs.Marks.{mark_bytes}
-use Rattle.definitions.proofs.AnswerLaws.{not_finding}
-use Rattle.answer.specs.Answer.{refusal_at, placed, verdict_answer}
-use Rattle.answer.specs.declared.Verdict.{Verdict}
-use Rattle.answer.specs.declared.Verdict.TheVariants.{Fine, Refused}
 use Rattle.clause.specs.Rows.{row_count, clauses_in, clauses_of, ClausesRead, ClauseRead}
 use Rattle.clause.proofs.WordLaws.{clause_fine}
 use Rattle.task.specs.Reads.{task_of, Reads}
@@ -30,7 +27,7 @@ use Rattle.task.proofs.Questions.{operator_right_lem}
 use Rattle.reading.specs.Reading.{read_both, BothRead}
 use Rattle.reading.proofs.Questions.{both_refused}
 use Rattle.judge.specs.Judging.{fail_flags}
-use Rattle.judge.specs.Promise.{Given, Judged, BulkGiven, Asks, InputAnswer, AllRead, ReadAnswer}
+use Rattle.judge.specs.Promise.{Given, Judged, BulkGiven, Asks}
 use Rattle.propagation.proofs.MarkedSets.{bit_back}
 use Rattle.answer.proofs.Laws.{verdict_refused}
 
@@ -79,53 +76,33 @@ module _ (atoms : ℕ) (f : List ℕ) (row : ClauseRead atoms f) where
   one_fails C o o' s eo e = rw (e, one_clause, eo) (bit_back (not (kept atoms C o' (clause_of f))))
 
 -- ---- the questions, one after the other
-module _ (w c f : List ℕ) where
-  pub read_both_lem : (r : Refusal) → refused r ≡ verdict (read_both w c) → (i marks : ℕ) → refused r ≡ keeps w c f i marks
+pub clause_read :
+    (N atoms : ℕ) (f : List ℕ) (u : Unit {0}) → atoms ≡ N → finding u ≡ verdict (read_clause atoms f) → ClauseRead N f
+clause_read N atoms f u counted e = clause_fine N f u (sym (rw counted at e))
+
+module _ (w c f : List ℕ) (i marks : ℕ) where
+  pub read_refused : (r : Refusal) → refused r ≡ verdict (read_both w c) → refused r ≡ keeps w c f i marks
   unfolding keeps ◌>>=◌
-  read_both_lem r h i marks = sym (both_refused w c _ r h)
+  read_refused r h = sym (both_refused w c _ r h)
 
-  module _ (both : BothRead w c) (atoms : ℕ) (counted : atoms ≡ (task_of w).atoms) where
-    read_row : (r : Refusal) → refused r ≡ verdict (read_clause (task_of w).atoms f) → (i marks : ℕ) → refused r ≡ keeps w c f i marks
+  module _ (both : BothRead w c) where
+    pub clause_refused : (r : Refusal) → refused r ≡ verdict (read_clause (task_of w).atoms f) → refused r ≡ keeps w c f i marks
     unfolding keeps ◌>>=◌
-    read_row r h i marks = rw (both.task.found, both.clauses.read, verdict_refused (read_clause (task_of w).atoms f) r (sym h))
+    clause_refused r h = rw (both.task.found, both.clauses.read, verdict_refused (read_clause (task_of w).atoms f) r (sym h))
 
-    pub read_clause_lem : (v : Verdict) → verdict_answer v ≡ verdict (read_clause atoms f) → ReadAnswer w c f v
-    read_clause_lem Fine e =
-        record { task = both.task; clauses = both.clauses; clause = clause_fine (task_of w).atoms f tt (sym (rw counted at e)) }
-    read_clause_lem (Refused r) e = read_row (placed r) (rw counted at e)
-
-  module _ (i marks : ℕ) (read : AllRead w c f) where
-    keeps_operator : length (task_of w).operators ≤ i → refused (refusal_at 19 0 0) ≡ keeps w c f i marks
-    unfolding keeps ◌>>=◌ ask ask_at
-    keeps_operator h = rw (read.task.found, read.clauses.read, read.clause.read, le-ltb i (length (task_of w).operators) h)
-
-    keeps_marks : i < length (task_of w).operators → marks < mark_bytes (task_of w).atoms → refused (refusal_at 13 0 0) ≡ keeps w c f i marks
-    unfolding keeps ◌>>=◌ ask ask_at
-    keeps_marks inside h =
-        rw (
-          read.task.found,
-          read.clauses.read,
-          read.clause.read,
-          lt-ltb i (length (task_of w).operators) inside,
-          lt-leb (mark_bytes (task_of w).atoms) marks h,
-        )
-
-    pub input_operator :
-        length (task_of w).operators ≤ i → (v : Verdict) → verdict_answer v ≡ refused (refusal_at 19 0 0) → InputAnswer w c f i marks v
-    input_operator h Fine e = absurd (not_finding (sym e))
-    input_operator h (Refused r) e = let q : placed r ≡ refusal_at 19 0 0 = cc in ap refused q ∙ keeps_operator h
-
-    pub input_marks :
-        i < length (task_of w).operators → marks < mark_bytes (task_of w).atoms → (v : Verdict) → verdict_answer v ≡ refused (refusal_at 13 0 0)
-        → InputAnswer w c f i marks v
-    input_marks inside h Fine e = absurd (not_finding (sym e))
-    input_marks inside h (Refused r) e = let q : placed r ≡ refusal_at 13 0 0 = cc in ap refused q ∙ keeps_marks inside h
+    -- after questions 1 to 9: 19, then 13
+    pub keeps_asks :
+        ClauseRead (task_of w).atoms f
+        → (ask 19 (ltb i (length (task_of w).operators)) >>= λ _. ask 13 (leb (mark_bytes (task_of w).atoms) marks)
+        >>= λ _. finding (kept (task_of w).atoms (clauses_of c) (operator_at (task_of w) i) (clause_of f))) ≡ keeps w c f i marks
+    unfolding keeps ◌>>=◌
+    keeps_asks clause = rw (both.task.found, both.clauses.read, clause.read)
 
   pub keeps_found :
-      (i marks : ℕ) → Asks w c f i marks
+      Asks w c f i marks
       → finding (kept (task_of w).atoms (clauses_of c) (operator_at (task_of w) i) (clause_of f)) ≡ keeps w c f i marks
   unfolding keeps ◌>>=◌ ask ask_at
-  keeps_found i marks a =
+  keeps_found a =
       rw (
         a.task.found,
         a.clauses.read,

@@ -1,14 +1,10 @@
 -- What judging asks and promises. Assumes nothing.
 use Rattle.std.specs.Prelude.{◌≡◌, true, false, List, ℕ, ◌≤◌, ◌<◌, length}
-use Rattle.definitions.specs.Answer.{refused}
 use Rattle.definitions.specs.Literal.{most_atoms}
 use Rattle.definitions.specs.Image.{operator_right}
 use Rattle.definitions.specs.Closure.{closure, contradictory}
 use Rattle.definitions.specs.Marks.{mark_bytes}
 use Rattle.definitions.specs.Clauses.{clause_right, row_at}
-use Rattle.definitions.specs.Checker.{keeps}
-use Rattle.answer.specs.Answer.{placed}
-use Rattle.answer.specs.declared.Verdict as verdicts
 use Rattle.clause.specs.Rows.{row_count, ClausesRead, ClauseRead, clauses_of}
 use Rattle.task.specs.Reads.{task_of, Reads}
 use Rattle.task.specs.Walk.{block_parses, operator_in}
@@ -57,26 +53,10 @@ pub record Read (w c : List ℕ) (atoms : ℕ) : Type 0 where
   pub few : atoms ≤ most_atoms
   pub clauses : ClausesRead atoms c
 
--- what is asked to test one clause under operator i, with so many marks: questions 1 to 9, 19 and 13 are answered yes
+-- what is asked to test one clause under operator i, with so many marks: questions 1 to 9, 8 and 9 for the clause alone, 19 and 13 are answered yes
 pub record Asks (w c f : List ℕ) (i marks : ℕ) : Type 0 where
   pub task : Reads w
   pub clauses : ClausesRead (task_of w).atoms c
   pub clause : ClauseRead (task_of w).atoms f
   pub operator : i < length (task_of w).operators
   pub marked : mark_bytes (task_of w).atoms ≤ marks
-
--- what the answer to these questions says
-abbrev pub InputAnswer : List ℕ → List ℕ → List ℕ → ℕ → ℕ → verdicts.Verdict → Type 0
-InputAnswer w c f i marks verdicts.TheVariants.Fine = Asks w c f i marks
-InputAnswer w c f i marks (verdicts.TheVariants.Refused r) = refused (placed r) ≡ keeps w c f i marks
-
--- questions 1 to 9, also for the clause alone, are answered yes
-pub record AllRead (w c f : List ℕ) : Type 0 where
-  pub task : Reads w
-  pub clauses : ClausesRead (task_of w).atoms c
-  pub clause : ClauseRead (task_of w).atoms f
-
--- what the answer to them says
-abbrev pub ReadAnswer : List ℕ → List ℕ → List ℕ → verdicts.Verdict → Type 0
-ReadAnswer w c f verdicts.TheVariants.Fine = AllRead w c f
-ReadAnswer w c f (verdicts.TheVariants.Refused r) = (i marks : ℕ) → refused (placed r) ≡ keeps w c f i marks

@@ -2,66 +2,26 @@
 #![tactic(auto)]
 
 ghost use Rattle.std.specs.Prelude.{◌≡◌, length};
+ghost use Rattle.definitions.specs.Answer.{finding};
 ghost use Rattle.definitions.specs.Checker.{keeps};
 ghost use Rattle.answer.specs.Answer.{test_answer};
-ghost use Rattle.judge.specs.Promise.{Asks, InputAnswer, ReadAnswer};
+ghost use Rattle.judge.specs.Promise.{Asks};
 
-use answer::{Refusal, Tested, Verdict};
+use answer::{Question, Refusal, ask};
 
 pub mod bulk; // bulk.rt: all judged clauses under one operator
 pub mod guarantee; // guarantee.rt: the literals that an operator guarantees
 
-// Room for the flag of one clause.
-fn one() -> [u8; 1]
-    ensures { length result ≡ 1 }
-{
-    [0u8; 1]
-}
-
 // Whether the clauses keep a clause under an operator.
-fn test(image: &[u16], clauses: &[u16], clause: &[u16], operator: usize, marks: &mut [u8]) -> Tested
+fn test(image: &[u16], clauses: &[u16], clause: &[u16], operator: usize, marks: &mut [u8]) -> bool
     requires { Asks image.now clauses.now clause.now operator (length marks.old) }
-    ensures { test_answer result ≡ keeps image.now clauses.now clause.now operator (length marks.old) }
+    ensures { finding result ≡ keeps image.now clauses.now clause.now operator (length marks.old) }
 {
     let atoms = task::atoms(image);
     let block = task::operator_block(image, operator);
-    let mut fails = one();
-    bulk::judge(clauses, clause, block, marks, atoms, &mut fails[..1]);
-    answer::whether(!literal::flags::has(&fails[..1], 0))
-}
-
-// Questions 1 to 9, then 8 and 9 for the clause alone.
-fn read_all(image: &[u16], clauses: &[u16], clause: &[u16]) -> Verdict
-    ensures { ReadAnswer image.now clauses.now clause.now result }
-{
-    let read = reading::read(image, clauses);
-    if let Verdict::Refused(f) = read {
-        return Verdict::Refused(f);
-    }
-    clause::check_clause(clause, task::atoms(image))
-}
-
-// The questions of the test: 1 to 9, 8 and 9 for the clause alone, 19, 13. The first that is answered no decides.
-fn check_input(
-    image: &[u16],
-    clauses: &[u16],
-    clause: &[u16],
-    operator: usize,
-    marks: usize,
-) -> Verdict
-    ensures { InputAnswer image.now clauses.now clause.now operator marks result }
-{
-    let read = read_all(image, clauses, clause);
-    if let Verdict::Refused(f) = read {
-        return Verdict::Refused(f);
-    }
-    if task::operators(image) <= operator {
-        return answer::refuse(Refusal::OPERATOR_NUMBER);
-    }
-    if marks < propagation::marks::bytes(task::atoms(image)) {
-        return answer::refuse(Refusal::BUFFERS);
-    }
-    Verdict::Fine
+    let mut fails = [0u8; 1];
+    bulk::judge(clauses, clause, block, marks, atoms, &mut fails);
+    !literal::flags::has(&fails, 0)
 }
 
 // Whether the clauses keep a clause under an operator: questions 1 to 9, then 8 and 9 for the clause alone, 19, 13.
@@ -71,13 +31,15 @@ pub fn kept(
     clause: &[u16],
     operator: u16,
     marks: &mut [u8],
-) -> Tested
+) -> Result<bool, Refusal>
     ensures { test_answer result ≡ keeps image.now clauses.now clause.now operator (length marks.old) }
 {
+    reading::read(image, clauses)?;
+    let atoms = task::atoms(image);
+    clause::check_clause(clause, atoms)?;
     let number = literal::wide(operator);
-    let input = check_input(image, clauses, clause, number, marks.len());
-    if let Verdict::Refused(f) = input {
-        return Tested::Refused(f);
-    }
-    test(image, clauses, clause, number, marks)
+    ask(Question::OperatorNumber, number < task::operators(image))?;
+    let needed = propagation::marks::bytes(atoms);
+    ask(Question::Buffers, needed <= marks.len())?;
+    Ok(test(image, clauses, clause, number, marks))
 }

@@ -2,13 +2,13 @@
 use mathlib.Core.Path.{◌≡◌, sym, ap, subst}
 use mathlib.Core.List.{List}
 use Prim.Native.Nat.{ℕ}
+use Rattle.std.proofs.Common.{Result, Ok, Err}
 use Rattle.definitions.specs.Answer.{Refusal, Answer, finding, refused, verdict, ◌>>=◌}
 use Rattle.definitions.specs.Image.{Task, read_task}
 use Rattle.definitions.specs.Clauses.{read_clauses}
 use Rattle.definitions.proofs.AnswerLaws.{not_finding, same_refusal_lem}
 use Rattle.answer.specs.Answer.{verdict_answer}
-use Rattle.answer.specs.declared.Verdict.{Verdict}
-use Rattle.answer.specs.declared.Verdict.TheVariants.{Fine, Refused}
+use Rattle.answer.specs.declared.Refusal as code
 use Rattle.answer.proofs.Laws.{verdict_refused}
 use Rattle.task.specs.Reads.{task_of, Reads}
 use Rattle.clause.specs.Rows.{ClausesRead}
@@ -21,11 +21,12 @@ module _ (w c : List ℕ) where
   both_task r h = rw (verdict_refused (read_task w) r (sym h))
 
   pub both_clauses :
-      Reads w → (atoms : ℕ) → atoms ≡ (task_of w).atoms → (v : Verdict) → verdict_answer v ≡ verdict (read_clauses atoms c) → BothAnswer w c v
+      Reads w → (atoms : ℕ) → atoms ≡ (task_of w).atoms
+      → (v : Result (Unit {0}) code.Refusal) → verdict_answer v ≡ verdict (read_clauses atoms c) → BothAnswer w c v
   unfolding read_both ◌>>=◌
-  both_clauses task atoms counted Fine e =
-      record { task = task; clauses = subst (λ (k : ℕ). ClausesRead k c) counted (read_fine atoms c tt (sym e)) }
-  both_clauses task atoms counted (Refused r) e = rw task.found (rw counted at e)
+  both_clauses task atoms counted (Ok u) e =
+      record { task = task; clauses = subst (λ (k : ℕ). ClausesRead k c) counted (read_fine atoms c u (sym e)) }
+  both_clauses task atoms counted (Err f) e = rw task.found (rw counted at e)
 
   -- a refusal of one of them is that of every call that asks them first
   pub both_refused :

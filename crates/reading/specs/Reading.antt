@@ -1,10 +1,10 @@
 -- A task image and a clause set that are read: questions 1 to 9. Assumes nothing.
-use Rattle.std.specs.Prelude.{◌≡◌, List, ℕ}
+use Rattle.std.specs.Prelude.{◌≡◌, List, ℕ, Result, Ok, Err}
 use Rattle.definitions.specs.Answer.{Answer, refused, verdict, ◌>>=◌}
 use Rattle.definitions.specs.Image.{read_task}
 use Rattle.definitions.specs.Clauses.{read_clauses}
 use Rattle.answer.specs.Answer.{placed}
-use Rattle.answer.specs.declared.Verdict as verdicts
+use Rattle.answer.specs.declared.Refusal as code
 use Rattle.task.specs.Reads.{task_of, Reads}
 use Rattle.clause.specs.Rows.{ClausesRead}
 
@@ -18,6 +18,6 @@ pub record BothRead (w c : List ℕ) : Type 0 where
   pub clauses : ClausesRead (task_of w).atoms c
 
 -- what the answer to them says
-abbrev pub BothAnswer : List ℕ → List ℕ → verdicts.Verdict → Type 0
-BothAnswer w c verdicts.TheVariants.Fine = BothRead w c
-BothAnswer w c (verdicts.TheVariants.Refused r) = refused (placed r) ≡ verdict (read_both w c)
+abbrev pub BothAnswer : List ℕ → List ℕ → Result (Unit {0}) code.Refusal → Type 0
+BothAnswer w c (Ok u) = BothRead w c
+BothAnswer w c (Err f) = refused (placed f) ≡ verdict (read_both w c)

@@ -3,15 +3,12 @@
 
 ghost use Rattle.reading.specs.Reading.{BothAnswer};
 
-use answer::Verdict;
+use answer::Refusal;
 
 // Reads a task image and clause rows: questions 1 to 9.
-pub fn read(image: &[u16], clauses: &[u16]) -> Verdict
+pub fn read(image: &[u16], clauses: &[u16]) -> Result<(), Refusal>
     ensures { BothAnswer image.now clauses.now result }
 {
-    let task = task::read(image);
-    if let Verdict::Refused(f) = task {
-        return Verdict::Refused(f);
-    }
+    task::read(image)?;
     clause::check_rows(clauses, task::atoms(image))
 }
