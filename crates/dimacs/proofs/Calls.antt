@@ -7,8 +7,8 @@ use Rattle.definitions.specs.Answer.{Refusal, finding, refused, outcome, verdict
 use Rattle.definitions.specs.Groups.{written}
 use Rattle.definitions.specs.Dimacs.{dimacs_text, write_dimacs}
 use Rattle.answer.specs.Answer.{refusal_at}
-use Rattle.task.specs.Reads.{task_of, Reads}
-use Rattle.clause.specs.Rows.{clauses_of, ClausesRead}
+use Rattle.task.specs.Reads.{task_of}
+use Rattle.clause.specs.Rows.{clauses_of}
 use Rattle.writing.specs.Writing.{Wrote}
 use Rattle.writing.proofs.Target.{fits_not, fits_done}
 use Rattle.reading.specs.Reading.{read_both, BothRead}

@@ -6,13 +6,14 @@ use Prim.Native.Nat.{ℕ, suc, ◌+◌, ◌*◌, ◌≤◌, ◌<◌}
 use native.Mathlib.Omega.{arith}
 use native.Mathlib.Nat.{mul-le-mul_left}
 use lib.ListN.{length, get_or, drop, length-append}
+use lib.Seq.{take_at, drop_at}
 use Rattle.definitions.specs.Lists.{each}
 use Rattle.definitions.specs.Literal.{atom, positive}
 use Rattle.definitions.specs.Clauses.{width, most_rows, clause_of, row_at}
 use Rattle.definitions.specs.Text.{digits, decimal, line}
 use Rattle.definitions.specs.Dimacs.{head_bytes, literal_word, row_fields, dimacs_text}
 use Rattle.clause.specs.Rows.{row_count, clauses_of}
-use Rattle.clause.proofs.RowLaws.{row_length, clauses_length, clause_of_lem}
+use Rattle.clause.proofs.RowLaws.{row_length, clauses_length, clause_of_lem, clauses_step, clauses_none}
 use Rattle.definitions.proofs.RowsRead.{clause_short}
 use Rattle.text.proofs.Lines.{line_more, each_next, each_end}
 use Rattle.text.proofs.Size.{decimal_most, each_size}
@@ -127,6 +128,31 @@ module _ (w : List ℕ) where
       let b = clauses_length w in
       let c = mul-le-mul_left (22 * width + 2) few in
       omega (arith, ap (λ (k : ℕ). (22 * width + 2) * k) b)
+
+-- ---- row after row: the rows left are v, of which `row` is the first, and its clause is f
+module _ (row f : List ℕ) (wide : length row ≡ width) (is : f ≡ clause_of row) where
+  pub row_short : length f ≤ width
+  row_short = let a = clause_short row in let b = ap length is in omega arith
+
+  module _ (v rest : List ℕ) (parts : v ≡ row ++ rest) where
+    pub rows_next : each row_line (clauses_of v) ≡ row_line f ++ each row_line (clauses_of rest)
+    unfolding each
+    rows_next =
+        let size = length-append row rest in
+        let first = clauses_step (row ++ rest) (omega arith) in
+        rw (parts, first, take_at row rest width wide, drop_at row rest width wide, is)
+
+    pub rows_sum :
+        (whole n bytes : ℕ) → whole ≡ n + length (each row_line (clauses_of v)) → bytes ≡ length (row_line f)
+        → whole ≡ n + bytes + length (each row_line (clauses_of rest))
+    rows_sum whole n bytes e q =
+        let a = ap length rows_next in
+        let b = length-append (row_line f) (each row_line (clauses_of rest)) in
+        omega arith
+
+pub rows_end : (v : List ℕ) → length v < width → each row_line (clauses_of v) ≡ []
+unfolding each
+rows_end v h = rw (clauses_none v h)
 
 -- ---- the header and the text
 pub head_parts : (N k : ℕ) → head_line N k ≡ (head_bytes ++ (32 ∷ decimal N)) ++ ((32 ∷ decimal k) ++ (10 ∷ []))

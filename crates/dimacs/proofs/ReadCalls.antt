@@ -24,7 +24,6 @@ use Rattle.writing.specs.Writing.{Wrote}
 use Rattle.writing.proofs.Writes.{wrote_front}
 use Rattle.dimacs_form.specs.Form.{FormAt}
 use Rattle.dimacs_rows.specs.Reading.{clauses_at, Clauses}
-use Rattle.dimacs_rows.specs.Collected.{Set}
 use Rattle.dimacs.specs.Read.{rows_answer, form_answer, RowsRead}
 
 -- ---- questions 25 and 26

@@ -7,7 +7,7 @@ ghost use Rattle.clause.specs.Rows.{clauses_of};
 ghost use Rattle.writing.specs.Writing.{Wrote};
 ghost use Rattle.dimacs.specs.Write.{minus_of, row_line, head_line};
 
-use clause::place::RowPlace;
+use clause::WIDTH;
 use literal::Literal;
 
 // The variable of a literal: that of atom a is a+1.
@@ -43,12 +43,9 @@ fn write_row(out: &mut [u8], at: usize, literals: &[u16]) -> usize
     ensures { Wrote out.old at (row_line literals.now) out.new result }
 {
     let mut to = at;
-    let mut i: usize = 0;
-    while i < literals.len() {
-        let l = literals[i];
-        to = write_literal(out, to, Literal { code: l });
+    for l in literals {
+        to = write_literal(out, to, Literal { code: *l });
         to = writing::byte(b' ', out, to);
-        i += 1;
     }
     writing::bytes(b"0\n", out, to)
 }
@@ -59,11 +56,8 @@ fn write_rows(out: &mut [u8], at: usize, clauses: &[u16]) -> usize
     ensures { Wrote out.old at (each row_line (clauses_of clauses.now)) out.new result }
 {
     let mut to = at;
-    let mut place = RowPlace::first();
-    while place.is_in(clauses) {
-        let row = place.row(clauses);
+    for row in clauses.chunks_exact(WIDTH) {
         to = write_row(out, to, clause::literals(row));
-        place = place.next();
     }
     to
 }

@@ -11,8 +11,7 @@ ghost use Rattle.dimacs.specs.Read.{rows_answer, form_answer, RowsRead};
 
 use answer::{Counted, Refusal};
 use clause::WIDTH;
-use dimacs_form::Form;
-use dimacs_rows::Collected;
+use dimacs_rows::Unread;
 
 // Question 26 of the target, and the first rows written.
 fn write_rows(rows: &[u16], count: usize, clauses: &mut [u16]) -> Counted
@@ -39,11 +38,10 @@ fn read_rows(
     requires { Clauses text.now from × Buffers rows.old work.old }
     ensures { outcome (count_answer result) clauses.new ≡ written clauses.old (rows_answer (clauses_at text.now from) (length clauses.old)) }
 {
-    let collected = dimacs_rows::collect(text, from, rows, work);
-    match collected {
-        Collected::Unfit => answer::refuse_count(Refusal::TEXT_CLAUSE),
-        Collected::Full => answer::refuse_count(Refusal::TEXT_ROOM),
-        Collected::Rows(count) => write_rows(rows, count, clauses),
+    match dimacs_rows::collect(text, from, rows, work) {
+        Ok(count) => write_rows(rows, count, clauses),
+        Err(Unread::Unfit) => answer::refuse_count(Refusal::TEXT_CLAUSE),
+        Err(Unread::Full) => answer::refuse_count(Refusal::TEXT_ROOM),
     }
 }
 
@@ -62,9 +60,8 @@ pub fn read_form(text: &[u8], atoms: usize, clauses: &mut [u16]) -> Counted
     requires { atoms ≤ most_atoms }
     ensures { outcome (count_answer result) clauses.new ≡ written clauses.old (form_answer atoms text.now (length clauses.old)) }
 {
-    let form = dimacs_form::check_form(text, atoms);
-    match form {
-        Form::Other => answer::refuse_count(Refusal::TEXT_FORM),
-        Form::At(from) => read_from(text, from, clauses),
+    match dimacs_form::check_form(text, atoms) {
+        Some(from) => read_from(text, from, clauses),
+        None => answer::refuse_count(Refusal::TEXT_FORM),
     }
 }

@@ -6,7 +6,7 @@ ghost use Rattle.definitions.specs.Dimacs.{literal_word, dimacs_text};
 ghost use Rattle.clause.specs.Rows.{row_count, clauses_of};
 ghost use Rattle.dimacs.specs.Write.{row_line, head_line};
 
-use clause::place::RowPlace;
+use clause::WIDTH;
 use literal::Literal;
 
 // The bytes of a literal.
@@ -23,11 +23,8 @@ fn row_length(literals: &[u16]) -> usize
     ensures { result ≡ length (row_line literals.now) }
 {
     let mut sum: usize = 2;
-    let mut i: usize = 0;
-    while i < literals.len() {
-        let l = literals[i];
-        sum += literal_length(Literal { code: l }) + 1;
-        i += 1;
+    for l in literals {
+        sum += literal_length(Literal { code: *l }) + 1;
     }
     sum
 }
@@ -38,11 +35,8 @@ fn rows_length(clauses: &[u16]) -> usize
     ensures { result ≡ length (each row_line (clauses_of clauses.now)) }
 {
     let mut sum: usize = 0;
-    let mut place = RowPlace::first();
-    while place.is_in(clauses) {
-        let row = place.row(clauses);
+    for row in clauses.chunks_exact(WIDTH) {
         sum += row_length(clause::literals(row));
-        place = place.next();
     }
     sum
 }

@@ -2,27 +2,31 @@
 use mathlib.Core.Bool.{Bool, true, false, ◌&&◌, cond, false≢true}
 use mathlib.Core.Logic.{◌⊎◌, inl, inr}
 use mathlib.Core.Path.{◌≡◌, refl, sym, ◌∙◌, ap}
-use mathlib.Core.List.{List, [], ◌∷◌}
-use Prim.Native.Nat.{ℕ, ◌+◌, ◌-◌, ◌≤◌, ◌<◌, min}
+use mathlib.Core.List.{List}
+use Rattle.std.proofs.Common.{Option, Some, None}
+use Prim.Native.Nat.{ℕ, ◌+◌, ◌≤◌, ◌<◌, min}
 use native.Mathlib.Omega.{arith}
 use lib.Dec.{eqb, leb}
 use lib.ListN.{length, get_or, take, drop, get_or-eq_default}
-use lib.Seq.{drop-drop, get_or-take}
+use lib.Seq.{drop-drop}
 use borrow.Author.Tests.{leb-true, leb-false, le-leb, lt-leb, eqb-true, eqb-false, eq-eqb, ne_eqb}
 use Rattle.definitions.specs.Lists.{compare_words, is_same}
 use Rattle.definitions.specs.Literal.{most_atoms}
 use Rattle.definitions.specs.Dimacs.{head_bytes, behind_comments, blank, tokens, words_in, is_dimacs, number_in, is_zero}
 use Rattle.definitions.proofs.ListLaws.{decide}
 use Rattle.definitions.proofs.PlaceLaws.{same_words}
+use Rattle.definitions.proofs.OrderLaws.{same_self}
+use Rattle.std.specs.Bool.{Decides, then_some}
+use Rattle.std.specs.Cmp.Lexicographic.{pointwise}
+use Rattle.std.proofs.lemmas.Bool.Decides.{Decides-eqb}
+use Rattle.std.proofs.lemmas.Slice.Eq.{slice_eq-Decides}
 use Rattle.dimacs_form.proofs.PlaceLaws.{over_at}
 use Rattle.dimacs_form.specs.Walk.{headed_bytes, tail_from, count_first, words_say}
 use Rattle.dimacs_form.proofs.Walk.{form_walk}
-use Rattle.dimacs_form.specs.Places.{Place, Skipped}
+use Rattle.dimacs_form.specs.Places.{Skipped}
 use Rattle.dimacs_form.specs.Numbers.{most_size, OtherAt, NumberAt}
-use Rattle.dimacs_form.specs.Form.{plain_of, CountAt, Counts, SaysAt, Says, FormAt, Formed}
+use Rattle.dimacs_form.specs.Form.{plain_of, CountAt, Counts, Says, Formed}
 use Rattle.dimacs_form.specs.declared.number.Number.{Number}
-use Rattle.dimacs_form.specs.declared.Count as counts
-use Rattle.dimacs_form.specs.declared.Form as forms
 
 no_more : (b : Bool) → (b && false) ≡ false
 no_more true = refl
@@ -30,15 +34,6 @@ no_more false = refl
 
 -- ---- the header
 module _ (bytes : List ℕ) where
-  pub other_head : (i b : ℕ) → i < 5 → get_or head_bytes i 0 ≡ b → (get_or bytes i 0 ≡ b → ⊥) → is_same (compare_words (take 5 bytes) head_bytes) ≡ false
-  other_head i b h e ne = go (decide (is_same (compare_words (take 5 bytes) head_bytes)))
-    where
-      go :
-          (is_same (compare_words (take 5 bytes) head_bytes) ≡ true) ⊎ (is_same (compare_words (take 5 bytes) head_bytes) ≡ false)
-          → is_same (compare_words (take 5 bytes) head_bytes) ≡ false
-      go (inl x) = absurd (ne (sym (get_or-take 5 bytes i 0 h) ∙ ap (λ z. get_or z i 0) (same_words (take 5 bytes) head_bytes x) ∙ e))
-      go (inr x) = x
-
   pub short_head : length bytes < 6 → headed_bytes bytes ≡ false
   unfolding headed_bytes blank
   short_head h = rw (get_or-eq_default bytes 0 {n = 5} (omega arith)) (no_more (is_same (compare_words (take 5 bytes) head_bytes)))
@@ -58,28 +53,20 @@ module _ (bytes : List ℕ) where
       go (inl x) = leb-true 6 (length bytes) x
       go (inr x) = absurd (false≢true (sym (short_head (leb-false 6 (length bytes) x)) ∙ h))
 
-whole_head :
-    (bytes : List ℕ) → 6 ≤ length bytes → get_or bytes 0 0 ≡ 112 → get_or bytes 1 0 ≡ 32 → get_or bytes 2 0 ≡ 99 → get_or bytes 3 0 ≡ 110
-    → get_or bytes 4 0 ≡ 102 → is_same (compare_words (take 5 bytes) head_bytes) ≡ true
-unfolding head_bytes compare_words is_same
-whole_head [] h p q r s t = absurd (omega arith)
-whole_head (a ∷ []) h p q r s t = absurd (omega arith)
-whole_head (a ∷ (b ∷ [])) h p q r s t = absurd (omega arith)
-whole_head (a ∷ (b ∷ (c ∷ []))) h p q r s t = absurd (omega arith)
-whole_head (a ∷ (b ∷ (c ∷ (d ∷ [])))) h p q r s t = absurd (omega arith)
-whole_head (a ∷ (b ∷ (c ∷ (d ∷ (e ∷ bytes))))) h p q r s t = rw (p, q, r, s, t)
-
-pub same_head :
-    (bytes : List ℕ) → 6 ≤ length bytes → get_or bytes 0 0 ≡ 112 → get_or bytes 1 0 ≡ 32 → get_or bytes 2 0 ≡ 99 → get_or bytes 3 0 ≡ 110
-    → eqb (get_or bytes 4 0) 102 ≡ is_same (compare_words (take 5 bytes) head_bytes)
-unfolding head_bytes
-same_head bytes h p q r s = go (decide (eqb (get_or bytes 4 0) 102))
+-- words that are equal one by one, and the same words
+pub same_pairwise : (xs ys : List ℕ) {r : Bool} → r ≡ pointwise eqb ys xs → r ≡ is_same (compare_words xs ys)
+same_pairwise xs ys {r} h = go (decide r) (decide (is_same (compare_words xs ys)))
   where
+    same : Decides r (ys ≡ xs)
+    same = slice_eq-Decides Decides-eqb ys xs r h
+
     go :
-        (eqb (get_or bytes 4 0) 102 ≡ true) ⊎ (eqb (get_or bytes 4 0) 102 ≡ false)
-        → eqb (get_or bytes 4 0) 102 ≡ is_same (compare_words (take 5 bytes) head_bytes)
-    go (inl e) = e ∙ sym (whole_head bytes h p q r s (eqb-true (get_or bytes 4 0) 102 e))
-    go (inr e) = e ∙ sym (other_head bytes 4 102 (omega arith) refl (eqb-false (get_or bytes 4 0) 102 e))
+        (r ≡ true) ⊎ (r ≡ false) → (is_same (compare_words xs ys) ≡ true) ⊎ (is_same (compare_words xs ys) ≡ false)
+        → r ≡ is_same (compare_words xs ys)
+    go (inl a) (inl b) = a ∙ sym b
+    go (inl a) (inr b) = absurd (false≢true (sym b ∙ ap (λ z. is_same (compare_words xs z)) (same.0 a) ∙ same_self xs))
+    go (inr a) (inl b) = absurd (false≢true (sym a ∙ same.1 (sym (same_words xs ys b))))
+    go (inr a) (inr b) = a ∙ sym b
 
 -- ---- sizes held at the greatest one
 held_same : (v n k : ℕ) → v ≡ min most_size n → k < most_size → eqb v k ≡ eqb n k
@@ -91,11 +78,11 @@ held_same v n k e h = go (decide (eqb n k))
 
 -- ---- numbers at places
 module _ (text : List ℕ) (at : ℕ) where
-  pub none_counts : length text ≤ at → Counts text at counts.TheVariants.Missing
+  pub none_counts : length text ≤ at → Counts text at None
   unfolding count_first
   none_counts h = λ p. ap (count_first p) (over_at text at h)
 
-  pub other_counts : OtherAt text at → Counts text at counts.TheVariants.Missing
+  pub other_counts : OtherAt text at → Counts text at None
   unfolding count_first
   other_counts o = λ p. ap (count_first p) o.here ∙ rw o.other
 
@@ -105,7 +92,7 @@ module _ (text : List ℕ) (at : ℕ) where
     where
       go :
           (b : Bool) → (number_in x.word).negative ≡ b
-          → Counts text at (elim b [ true ↦ counts.TheVariants.Missing | false ↦ counts.TheVariants.Is n.size n.next ])
+          → Counts text at (elim b [ true ↦ None | false ↦ Some (record { size = n.size; next = n.next }) ])
       go true e = λ p. ap (count_first p) x.here ∙ rw (x.number.is, e)
       go false e =
           record {
@@ -163,12 +150,12 @@ one_most false c = omega arith
 
 -- ---- N, the number of clauses, and these
 module _ (N : ℕ) (text : List ℕ) (at : ℕ) where
-  pub says_missing : Counts text at counts.TheVariants.Missing → Says N text at forms.TheVariants.Other
+  pub says_missing : Counts text at None → Says N text at None
   unfolding words_say
   says_missing h = h _
 
   module _ (v next : ℕ) (first : CountAt text at v next) where
-    pub says_another : N ≤ most_atoms → (v ≡ N → ⊥) → Says N text at forms.TheVariants.Other
+    pub says_another : N ≤ most_atoms → (v ≡ N → ⊥) → Says N text at None
     unfolding words_say
     says_another few h =
         first.here _
@@ -177,7 +164,7 @@ module _ (N : ℕ) (text : List ℕ) (at : ℕ) where
     same_n : N ≤ most_atoms → v ≡ N → eqb first.number N ≡ true
     same_n few h = eq-eqb first.number N (let k = first.held in omega arith)
 
-    pub says_none : N ≤ most_atoms → v ≡ N → Counts text next counts.TheVariants.Missing → Says N text at forms.TheVariants.Other
+    pub says_none : N ≤ most_atoms → v ≡ N → Counts text next None → Says N text at None
     unfolding words_say
     says_none few h c = first.here _ ∙ rw (same_n few h) (c _)
 
@@ -186,24 +173,21 @@ module _ (N : ℕ) (text : List ℕ) (at : ℕ) where
       unfolding words_say
       says few h = first.here _ ∙ rw (same_n few h) (second.here _)
 
-      pub says_other :
-          N ≤ most_atoms → v ≡ N → (r : Bool) → ((k : ℕ) → count ≡ min most_size k → r ≡ tail_from N k 0 true (tokens (drop from text))) → r ≡ false
-          → Says N text at forms.TheVariants.Other
-      says_other few h r t e = says few h ∙ sym (t second.number second.held) ∙ e
-
-      pub says_all :
-          N ≤ most_atoms → v ≡ N → (r : Bool) → ((k : ℕ) → count ≡ min most_size k → r ≡ tail_from N k 0 true (tokens (drop from text))) → r ≡ true
-          → Says N text at (forms.TheVariants.At from)
-      says_all few h r t e =
+      -- by whether what follows is right
+      pub says_judged :
+          N ≤ most_atoms → v ≡ N → (r : Bool) → ((k : ℕ) → count ≡ min most_size k → r ≡ tail_from N k 0 true (tokens (drop from text)))
+          → Says N text at (then_some r from)
+      says_judged few h false t = says few h ∙ sym (t second.number second.held)
+      says_judged few h true t =
           record {
-            says = says few h ∙ sym (t second.number second.held) ∙ e;
+            says = says few h ∙ sym (t second.number second.held);
             behind = second.behind ∙ ap (drop 1) first.behind ∙ drop-drop 1 1 (tokens (drop at text));
             place = second.place;
           }
 
 -- ---- the text
 module _ (N start : ℕ) (text : List ℕ) (is : drop start text ≡ behind_comments text) where
-  pub form_other : headed_bytes (drop start text) ≡ false → Formed N text forms.TheVariants.Other
+  pub form_other : headed_bytes (drop start text) ≡ false → Formed N text None
   form_other h = form_walk N text ∙ rw (← is, h)
 
   module _ (at : ℕ) (h : headed_bytes (drop start text) ≡ true) (s : Skipped text (start + 5) at) where
@@ -213,8 +197,8 @@ module _ (N start : ℕ) (text : List ℕ) (is : drop start text ≡ behind_comm
     form_is : is_dimacs N text ≡ words_say N (tokens (drop at text))
     form_is = form_walk N text ∙ rw (← is, h) (ap (λ z. words_say N (tokens z)) (drop-drop 5 start text) ∙ ap (words_say N) s.same)
 
-    pub form_says : (r : forms.Form) → Says N text at r → Formed N text r
+    pub form_says : (r : Option ℕ) → Says N text at r → Formed N text r
     unfolding words_in
-    form_says forms.TheVariants.Other x = form_is ∙ x
-    form_says (forms.TheVariants.At from) x =
+    form_says None x = form_is ∙ x
+    form_says (Some from) x =
         record { form = form_is ∙ x.says; clauses = x.behind ∙ ap (drop 2) (sym skipped); place = x.place }

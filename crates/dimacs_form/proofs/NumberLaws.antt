@@ -2,6 +2,7 @@
 use mathlib.Core.Bool.{Bool, true, false, ◌&&◌, ◌||◌, false≢true}
 use mathlib.Core.Path.{◌≡◌, refl, sym, ◌∙◌, ap}
 use mathlib.Core.List.{List, [], ◌∷◌}
+use Rattle.std.proofs.Common.{Option, Some, None}
 use Prim.Native.Nat.{ℕ, suc, ◌+◌, ◌-◌, ◌*◌, ◌≤◌, ◌<◌, min}
 use native.Mathlib.Numerals.{add-one}
 use native.Mathlib.Omega.{arith}
@@ -15,9 +16,8 @@ use Rattle.definitions.proofs.ListLaws.{and_left, and_right}
 use Rattle.definitions.proofs.DimacsNumbers.{value_held}
 use Rattle.dimacs_form.specs.Places.{between}
 use Rattle.dimacs_form.specs.Places.{WordAt, Skipped}
-use Rattle.dimacs_form.specs.Numbers.{most_size, begins, DigitsOf, signed_of, IsNumber, Judged, NumberAt, OtherAt, Scanned}
-use Rattle.dimacs_form.specs.declared.number.Digits as digits
-use Rattle.dimacs_form.specs.declared.number.Word as words
+use Rattle.dimacs_form.specs.Numbers.{most_size, begins, DigitsOf, signed_of, Judged, Scanned}
+use Rattle.dimacs_form.specs.declared.number.Number.{Number}
 
 -- ---- digits
 pub not_begun : (w : List ℕ) → begins w ≡ false → is_numeral w ≡ false
@@ -64,7 +64,7 @@ module _ (w : List ℕ) (size i : ℕ) (r : Reading w size i) where
             ∙ rw (drop-cons w i 0 h, add-one i, n) (sym (value_held most_size (10 * size + (get_or w i 0 - 48)) (drop (suc i) w)));
       }
 
-  pub reading_over : length w ≤ i → DigitsOf w (digits.TheVariants.Size size)
+  pub reading_over : length w ≤ i → DigitsOf w (Some size)
   unfolding value_behind all
   reading_over h =
       let none = drop_of_length-le w h in
@@ -118,10 +118,10 @@ module _ (w : List ℕ) (next : ℕ) where
       go (b ∷ w) e = rw (ne_eqb b 45 e, number_in)
 
   signed_is :
-      (s : Bool) (v : List ℕ) (d : digits.Digits) → DigitsOf v d → is_number w ≡ is_numeral v
+      (s : Bool) (v : List ℕ) (d : Option ℕ) → DigitsOf v d → is_number w ≡ is_numeral v
       → number_in w ≡ record { negative = s; size = value_behind 0 v } → Judged w next (signed_of s d next)
-  signed_is s v digits.TheVariants.Other h is n = is ∙ h
-  signed_is s v (digits.TheVariants.Size k) h is n = (
+  signed_is s v None h is n = is ∙ h
+  signed_is s v (Some k) h is n = (
     record { is = is ∙ h.0; sign = ap (λ z. z.negative) n; size = h.1 ∙ ap (λ z. min most_size z.size) (sym n) },
     refl,
   )
@@ -130,17 +130,17 @@ module _ (w : List ℕ) (next : ℕ) where
   all_behind = take_all (length w - 1) (drop 1 w) (omega (arith, length-drop 1 w))
 
   pub minus_judged :
-      (d : digits.Digits) → 0 < length w → get_or w 0 0 ≡ 45 → DigitsOf (take (length w - 1) (drop 1 w)) d → Judged w next (signed_of true d next)
+      (d : Option ℕ) → 0 < length w → get_or w 0 0 ≡ 45 → DigitsOf (take (length w - 1) (drop 1 w)) d → Judged w next (signed_of true d next)
   minus_judged d h e k = signed_is true (drop 1 w) d (rw all_behind at k) (minus_number h e) (minus_size h e)
 
   pub plain_judged :
-      (d : digits.Digits) → 0 < length w → (get_or w 0 0 ≡ 45 → ⊥) → (eqb (length w) 1 && eqb (get_or w 0 0) 48) ≡ false
+      (d : Option ℕ) → 0 < length w → (get_or w 0 0 ≡ 45 → ⊥) → (eqb (length w) 1 && eqb (get_or w 0 0) 48) ≡ false
       → DigitsOf w d → Judged w next (signed_of false d next)
   plain_judged d h e z k = signed_is false w d k (plain_number h e z) (plain_size e)
 
   pub zero_judged :
       (eqb (length w) 1 && eqb (get_or w 0 0) 48) ≡ true
-      → Judged w next (words.TheVariants.Is (record { minus = false; size = 0; next = next }))
+      → Judged w next (signed_of false (Some 0) next)
   unfolding is_number is_numeral number_in value_behind empty
   zero_judged z =
       go w (eqb-true (length w) 1 (and_left (eqb (length w) 1) (eqb (get_or w 0 0) 48) z))
@@ -148,18 +148,18 @@ module _ (w : List ℕ) (next : ℕ) where
     where
       go :
           (w : List ℕ) → length w ≡ 1 → get_or w 0 0 ≡ 48
-          → Judged w next (words.TheVariants.Is (record { minus = false; size = 0; next = next }))
+          → Judged w next (signed_of false (Some 0) next)
       go [] h e = absurd (omega arith)
       go (b ∷ []) h e = rw e (record { is = refl; sign = refl; size = refl }, refl)
       go (b ∷ (d ∷ w)) h e = absurd (omega arith)
 
 -- ---- the word at a place
 pub scanned :
-    (text : List ℕ) (at end next : ℕ) (r : words.Word) → WordAt text at end → Skipped text end next → Judged (between at end text) next r
+    (text : List ℕ) (at end next : ℕ) (r : Option Number) → WordAt text at end → Skipped text end next → Judged (between at end text) next r
     → Scanned text at r
-scanned text at end next words.TheVariants.Other w s j =
+scanned text at end next None w s j =
     record { word = between at end text; rest = tokens (drop end text); here = w.word; other = j }
-scanned text at end next (words.TheVariants.Is n) w s j =
+scanned text at end next (Some n) w s j =
     record {
       word = between at end text;
       here = w.word ∙ ap (λ z. between at end text ∷ z) (s.same ∙ ap (λ k. tokens (drop k text)) (sym j.1));

@@ -8,7 +8,7 @@ use native.Mathlib.Omega.{arith}
 use lib.Dec.{eqb, leb}
 use lib.ListN.{length, drop}
 use Rattle.definitions.specs.Lists.{all, empty}
-use Rattle.definitions.specs.Dimacs.{onto_first, split, ended, all_ended, behind_comments, tokens, Number}
+use Rattle.definitions.specs.Dimacs.{onto_first, split, ended, all_ended, behind_comments, tokens}
 use Rattle.definitions.specs.Dimacs.{is_number, is_zero}
 use Rattle.definitions.specs.Dimacs.{headed, number_in, words_in, numbers_in, is_the, says_clauses, is_dimacs}
 use Rattle.definitions.proofs.DimacsLaws.{split_some}

@@ -8,37 +8,28 @@ ghost use Rattle.dimacs_form.specs.Walk.{headed_bytes};
 fn stops(inside: bool, b: u8) -> bool
     ensures { result ≡ (not inside && not (eqb b 99)) }
 {
-    if inside {
-        return false;
-    }
-    b != b'c'
+    !inside && b != b'c'
 }
 
 // Whether the byte after `b` is in a comment.
 fn goes_on(inside: bool, b: u8) -> bool
     ensures { result ≡ (not inside || not (eqb b 10)) }
 {
-    if inside {
-        return b != b'\n';
-    }
-    true
+    !inside || b != b'\n'
 }
 
 // The place after the comment lines.
 pub fn behind_comments(text: &[u8]) -> usize
     ensures { (result ≤ length text.now) × (drop result text.now ≡ behind_comments text.now) }
 {
-    let mut at: usize = 0;
     let mut inside = false;
-    while at < text.len() {
-        let b = text[at];
-        if stops(inside, b) {
+    for (at, b) in text.iter().enumerate() {
+        if stops(inside, *b) {
             return at;
         }
-        inside = goes_on(inside, b);
-        at += 1;
+        inside = goes_on(inside, *b);
     }
-    at
+    text.len()
 }
 
 // Whether bytes begin with "p cnf".
@@ -46,19 +37,7 @@ fn is_head(bytes: &[u8]) -> bool
     requires { 6 ≤ length bytes.now }
     ensures { result ≡ is_same (compare_words (take 5 bytes.now) head_bytes) }
 {
-    if bytes[0] != b'p' {
-        return false;
-    }
-    if bytes[1] != b' ' {
-        return false;
-    }
-    if bytes[2] != b'c' {
-        return false;
-    }
-    if bytes[3] != b'n' {
-        return false;
-    }
-    bytes[4] == b'f'
+    bytes.starts_with(b"p cnf")
 }
 
 // Whether "p cnf" and a blank stand at a place.
@@ -66,11 +45,5 @@ pub fn is_headed(text: &[u8], at: usize) -> bool
     requires { at ≤ length text.now }
     ensures { result ≡ headed_bytes (drop at text.now) }
 {
-    if text.len() - at < 6 {
-        return false;
-    }
-    if !is_head(&text[at..]) {
-        return false;
-    }
-    super::word::is_blank(text[at + 5])
+    text.len() - at >= 6 && is_head(&text[at..]) && super::word::is_blank(text[at + 5])
 }

@@ -9,7 +9,7 @@ ghost use Rattle.dimacs_form.specs.Places.{Place};
 ghost use Rattle.dimacs_form.specs.Numbers.{most_size};
 ghost use Rattle.dimacs_form.specs.Form.{plain_of, Counts, Says, Formed};
 
-use number::{Number, Word};
+use number::Number;
 
 pub mod header; // header.rt: comment lines and "p cnf"
 pub mod number; // number.rt: a word as a number
@@ -17,42 +17,34 @@ pub mod word; // word.rt: blanks and words
 
 // A number without a minus, and where the next word begins.
 #[derive(Clone, Copy)]
-pub enum Count {
-    Missing,
-    Is(usize, usize),
-}
-
-// Where the clauses of a text begin.
-#[derive(Clone, Copy)]
-pub enum Form {
-    // The text is not of the form.
-    Other,
-    At(usize),
+pub struct Count {
+    pub size: usize,
+    pub next: usize,
 }
 
 // A number that has to have no minus.
-fn plain(n: Number) -> Count
+fn plain(n: Number) -> Option<Count>
     ensures { result ≡ plain_of n }
 {
     if n.minus {
-        return Count::Missing;
+        return None;
     }
-    Count::Is(n.size, n.next)
+    Some(Count {
+        size: n.size,
+        next: n.next,
+    })
 }
 
-// The number without a minus at a place.
-fn count_at(text: &[u8], at: usize) -> Count
+// The number without a minus at a place, if there is one.
+fn count_at(text: &[u8], at: usize) -> Option<Count>
     requires { Place text.now at }
     ensures { Counts text.now at result }
 {
     if text.len() <= at {
-        return Count::Missing;
+        return None;
     }
-    let word = number::number_at(text, at);
-    match word {
-        Word::Other => Count::Missing,
-        Word::Is(n) => plain(n),
-    }
+    let number = number::number_at(text, at)?;
+    plain(number)
 }
 
 // The number of clauses so far, after a number that is 0 or is not.
@@ -60,10 +52,7 @@ fn one_more(clauses: usize, zero: bool) -> usize
     requires { clauses < most_size }
     ensures { result ≡ cond zero (clauses + 1) clauses }
 {
-    if zero {
-        return clauses + 1;
-    }
-    clauses
+    clauses + usize::from(zero)
 }
 
 // Whether the words from a place on are the numbers of `count` clauses over the atoms.
@@ -75,8 +64,7 @@ fn are_clauses(text: &[u8], from: usize, atoms: usize, count: usize) -> bool
     let mut clauses: usize = 0;
     let mut ended = true;
     while at < text.len() {
-        let word = number::number_at(text, at);
-        let Word::Is(n) = word else {
+        let Some(n) = number::number_at(text, at) else {
             return false;
         };
         if atoms < n.size {
@@ -86,42 +74,31 @@ fn are_clauses(text: &[u8], from: usize, atoms: usize, count: usize) -> bool
         clauses = one_more(clauses, ended);
         at = n.next;
     }
-    if count != clauses {
-        return false;
-    }
-    ended
+    count == clauses && ended
 }
 
-// The words from a place on: N, the number of clauses, and these.
-fn counts(text: &[u8], at: usize, atoms: usize) -> Form
+// Where the clauses begin, if the words from a place on are N, the number of clauses, and these.
+fn counts(text: &[u8], at: usize, atoms: usize) -> Option<usize>
     requires { Place text.now at × (0 < at) × (atoms ≤ most_atoms) }
     ensures { Says atoms text.now at result }
 {
-    let size = count_at(text, at);
-    let Count::Is(variables, next) = size else {
-        return Form::Other;
-    };
-    if variables != atoms {
-        return Form::Other;
+    let variables = count_at(text, at)?;
+    if variables.size != atoms {
+        return None;
     }
-    let number = count_at(text, next);
-    let Count::Is(clauses, from) = number else {
-        return Form::Other;
-    };
-    if !are_clauses(text, from, atoms, clauses) {
-        return Form::Other;
-    }
-    Form::At(from)
+    let clauses = count_at(text, variables.next)?;
+    let from = clauses.next;
+    are_clauses(text, from, atoms, clauses.size).then_some(from)
 }
 
-// Question 24: where the clauses of a text over the atoms begin.
-pub fn check_form(text: &[u8], atoms: usize) -> Form
+// Question 24: where the clauses begin, if a text over the atoms is of the form.
+pub fn check_form(text: &[u8], atoms: usize) -> Option<usize>
     requires { atoms ≤ most_atoms }
     ensures { Formed atoms text.now result }
 {
     let start = header::behind_comments(text);
     if !header::is_headed(text, start) {
-        return Form::Other;
+        return None;
     }
     let at = word::skip_blanks(text, start + 5);
     counts(text, at, atoms)

@@ -7,10 +7,7 @@ ghost use Rattle.dimacs_form.specs.Places.{Place, Skipped, WordAt};
 pub fn is_blank(b: u8) -> bool
     ensures { result ≡ blank b }
 {
-    if b == b' ' {
-        return true;
-    }
-    b == b'\n'
+    b == b' ' || b == b'\n'
 }
 
 // The first place from `at` on with no blank, or the end.
@@ -18,14 +15,12 @@ pub fn skip_blanks(text: &[u8], at: usize) -> usize
     requires { at ≤ length text.now }
     ensures { Skipped text.now at result }
 {
-    let mut i = at;
-    while i < text.len() {
+    for i in at..text.len() {
         if !is_blank(text[i]) {
             return i;
         }
-        i += 1;
     }
-    i
+    text.len()
 }
 
 // The end of the word that begins at `at`.
@@ -33,12 +28,10 @@ pub fn word_end(text: &[u8], at: usize) -> usize
     requires { Place text.now at × (at < length text.now) }
     ensures { WordAt text.now at result }
 {
-    let mut i = at + 1;
-    while i < text.len() {
+    for i in at + 1..text.len() {
         if is_blank(text[i]) {
             return i;
         }
-        i += 1;
     }
-    i
+    text.len()
 }

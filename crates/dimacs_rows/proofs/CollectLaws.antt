@@ -2,6 +2,7 @@
 use mathlib.Core.Bool.{true, false}
 use mathlib.Core.Path.{◌≡◌, refl, sym, ◌∙◌, ap, subst}
 use mathlib.Core.List.{List, [], ◌∷◌, ◌++◌, map, map-append, append_assoc, append-nil}
+use Rattle.std.proofs.Common.{Option, Some, None, ok_or, Result, Ok, Err}
 use Prim.Native.Nat.{ℕ, ◌≤◌, ◌<◌}
 use native.Mathlib.Nat.{mul-zero}
 use native.Mathlib.Omega.{arith}
@@ -26,12 +27,12 @@ use Rattle.clause_set.specs.Held.{ClauseRow}
 use Rattle.dimacs_rows.specs.Reading.{clauses_at, Clauses, RowRead}
 use Rattle.dimacs_rows.specs.Rows.{Fit, Makes, Stores}
 use Rattle.dimacs_rows.specs.Collected.{Set, Comes, Finished, ClausesCollected}
-use Rattle.dimacs_rows.specs.declared.rows.Stored as stores
-use Rattle.dimacs_rows.specs.declared.Collected as collections
+use Rattle.dimacs_rows.specs.declared.Unread.{Unread}
+use Rattle.dimacs_rows.specs.declared.Unread.TheVariants.{Unfit, Full}
 use Rattle.dimacs_rows.proofs.RowsLaws.{none_rows}
 
 -- the clauses from one place to another are read, and their rows stored
-pub record Collecting (text : List ℕ) (from at : ℕ) (w : List ℕ) (stored : stores.Stored) : Type 0 where
+pub record Collecting (text : List ℕ) (from at : ℕ) (w : List ℕ) (stored : Option ℕ) : Type 0 where
   pub read : List (List ℕ)
   pub clauses : clauses_at text from ≡ read ++ clauses_at text at
   pub fits : all fits_row read ≡ true
@@ -43,7 +44,7 @@ width_some : 0 < width
 unfolding width
 width_some = omega arith
 
-pub collecting_start : (text : List ℕ) (from : ℕ) (w : List ℕ) → Clauses text from → Collecting text from from w (stores.TheVariants.Rows 0)
+pub collecting_start : (text : List ℕ) (from : ℕ) (w : List ℕ) → Clauses text from → Collecting text from from w (Some 0)
 unfolding all
 collecting_start text from w c =
     record {
@@ -54,6 +55,18 @@ collecting_start text from w c =
       makes = ap (λ n. insert_all (clauses_of (take n w)) []) (mul-zero width) ∙ ap (λ z. insert_all z []) (clauses_none [] width_some);
       behind = c;
     }
+
+-- why a clause was not read
+pub unread_is : {e : Unread} (r : Option ℕ) → ◌≡◌ {A = Result ℕ Unread} (Err e) (ok_or r Unfit) → e ≡ Unfit
+unread_is r h = ap reason h ∙ go r
+  where
+    reason : Result ℕ Unread → Unread
+    reason (Ok n) = Unfit
+    reason (Err e) = e
+
+    go : (r : Option ℕ) → reason (ok_or r Unfit) ≡ Unfit
+    go None = refl
+    go (Some n) = refl
 
 -- the row that was read is right
 module _ (text : List ℕ) (at : ℕ) (row : List ℕ) (next : ℕ) (r : RowRead text at row next) where
@@ -71,8 +84,8 @@ module _ (text : List ℕ) (at : ℕ) (row : List ℕ) (next : ℕ) (r : RowRead
   row_clause =
       ap clause_of r.row ∙ row_back most_atoms (sorted r.clause) (omega arith) (list_low most_atoms (sorted r.clause) row_good.list)
 
-  module _ (from : ℕ) (w : List ℕ) (stored : stores.Stored) (c : Collecting text from at w stored) where
-    pub collecting_next : (new : List ℕ) (s : stores.Stored) → Stores row w stored new s → Collecting text from next new s
+  module _ (from : ℕ) (w : List ℕ) (stored : Option ℕ) (c : Collecting text from at w stored) where
+    pub collecting_next : (new : List ℕ) (s : Option ℕ) → Stores row w stored new s → Collecting text from next new s
     unfolding all
     collecting_next new s x =
         record {
@@ -87,12 +100,12 @@ module _ (text : List ℕ) (at : ℕ) (row : List ℕ) (next : ℕ) (r : RowRead
         more : map sorted c.read ++ (clause_of row ∷ []) ≡ map sorted (c.read ++ (r.clause ∷ []))
         more = ap (λ z. map sorted c.read ++ (z ∷ [])) row_clause ∙ sym (map-append sorted c.read (r.clause ∷ []))
 
-module _ (text : List ℕ) (from at : ℕ) (w : List ℕ) (stored : stores.Stored) (c : Collecting text from at w stored) where
+module _ (text : List ℕ) (from at : ℕ) (w : List ℕ) (stored : Option ℕ) (c : Collecting text from at w stored) where
   pub collecting_unfit : all fits_row (clauses_at text at) ≡ false → all fits_row (clauses_at text from) ≡ false
   collecting_unfit h = ap (all fits_row) c.clauses ∙ all_append fits_row c.read (clauses_at text at) ∙ rw (c.fits, h)
 
   pub collecting_end :
-      (new : List ℕ) (r : collections.Collected) → length text ≤ at → Finished w stored new r → ClausesCollected text from new r
+      (new : List ℕ) (r : Option ℕ) → length text ≤ at → Finished w stored new r → ClausesCollected text from new (ok_or r Full)
   unfolding distinct
   collecting_end new r h f = go r (f (map sorted c.read) c.makes)
     where
@@ -105,8 +118,6 @@ module _ (text : List ℕ) (from at : ℕ) (w : List ℕ) (stored : stores.Store
       all_fit : all fits_row (clauses_at text from) ≡ true
       all_fit = ap (all fits_row) (sym all_read) ∙ c.fits
 
-      go : (r : collections.Collected) → Comes (insert_all (map sorted c.read) []) new r → ClausesCollected text from new r
-      go collections.TheVariants.Unfit x = absurd x
-      go collections.TheVariants.Full x =
-          (all_fit, subst (λ (D : List (List ℕ)). most_rows < length (insert_all (map sorted D) [])) all_read x)
-      go (collections.TheVariants.Rows k) x = (all_fit, subst (λ (D : List (List ℕ)). Set (insert_all (map sorted D) []) new k) all_read x)
+      go : (r : Option ℕ) → Comes (insert_all (map sorted c.read) []) new r → ClausesCollected text from new (ok_or r Full)
+      go None x = (all_fit, subst (λ (D : List (List ℕ)). most_rows < length (insert_all (map sorted D) [])) all_read x)
+      go (Some k) x = (all_fit, subst (λ (D : List (List ℕ)). Set (insert_all (map sorted D) []) new k) all_read x)

@@ -1,6 +1,11 @@
 -- Rows stored one after the other, and the set that they make. Assumes nothing.
 use mathlib.Core.Path.{◌≡◌, refl, sym, ◌∙◌, ap, subst}
 use mathlib.Core.List.{List, [], ◌∷◌, ◌++◌}
+use Rattle.std.proofs.Common.{Option, Some, None}
+use Rattle.std.specs.Bool.{then_some}
+use mathlib.Core.Bool.{Bool, true, false}
+use lib.Dec.{leb}
+use borrow.Author.Tests.{leb-true, leb-false}
 use Prim.Native.Nat.{ℕ, ◌+◌, ◌*◌, ◌≤◌, ◌<◌}
 use native.Mathlib.Nat.{mul-suc, mul-zero}
 use native.Mathlib.Omega.{arith}
@@ -20,9 +25,8 @@ use Rattle.writing.specs.Writing.{Wrote}
 use Rattle.writing.proofs.Writes.{wrote_between}
 use Rattle.row_sort.specs.Sorted.{Sortable, Sorted}
 use Rattle.row_sort.proofs.SetWords.{clauses_append, one_clause, sortable_append}
-use Rattle.dimacs_rows.specs.Rows.{most_stored, Rows, Makes, Stores}
-use Rattle.dimacs_rows.specs.Collected.{Set}
-use Rattle.dimacs_rows.specs.declared.rows.Stored as stores
+use Rattle.dimacs_rows.specs.Rows.{most_stored, Rows, Fit, Makes, Stores}
+use Rattle.dimacs_rows.specs.Collected.{Set, Comes}
 
 -- nothing is stored
 pub none_rows : (w : List ℕ) → Rows w 0
@@ -72,7 +76,7 @@ module _ (row old new : List ℕ) (k end : ℕ) (r : ClauseRow row) (room : widt
       (clauses_append k (take (width * k) old) row long ∙ ap (λ z. clauses_of (take (width * k) old) ++ z) (one_clause row r.wide))
       ∙ makes_more (clauses_of (take (width * k) old)) E (clause_of row) h
 
-  pub appended : k < most_stored → Rows old k → Stores row old (stores.TheVariants.Rows k) new (stores.TheVariants.Rows (k + 1))
+  pub appended : k < most_stored → Rows old k → Stores row old (Some k) new (Some (k + 1))
   appended h o =
       record {
         fit =
@@ -122,7 +126,7 @@ module _ (old new : List ℕ) (k : ℕ) (s : Sorted old new k) where
 
 -- ---- a row stored where the buffer was full, or too many rows were stored
 module _ (row old mid : List ℕ) (k n : ℕ) (s : Sorted (take (width * n) old) mid k) where
-  pub stored_full : (new : List ℕ) → most_rows < k → Stores row old (stores.TheVariants.Rows n) new stores.TheVariants.Full
+  pub stored_full : (new : List ℕ) → most_rows < k → Stores row old (Some n) new None
   stored_full new h =
       record {
         fit = tt;
@@ -133,21 +137,30 @@ module _ (row old mid : List ℕ) (k n : ℕ) (s : Sorted (take (width * n) old)
       many = sorted_many (take (width * n) old) mid k s h
 
   pub stored_sorted :
-      (new : List ℕ) (r : stores.Stored) → Stores row mid (stores.TheVariants.Rows k) new r → Stores row old (stores.TheVariants.Rows n) new r
+      (new : List ℕ) (r : Option ℕ) → Stores row mid (Some k) new r → Stores row old (Some n) new r
   stored_sorted new r x = record { fit = x.fit; makes = λ E e. x.makes E (sorted_makes (take (width * n) old) mid k s ∙ e) }
 
-pub stores_by : {row old new : List ℕ} {a b r : stores.Stored} → a ≡ b → Stores row old a new r → Stores row old b new r
-stores_by {row = row} {old = old} {new = new} {r = r} e x = subst (λ (z : stores.Stored). Stores row old z new r) e x
+-- so many rows are stored
+pub stored_rows : {w : List ℕ} {stored : Option ℕ} {k : ℕ} → stored ≡ Some k → Fit w stored → Rows w k
+stored_rows {w = w} e f = subst (λ (z : Option ℕ). Fit w z) e f
 
-pub stays_full : (row old new : List ℕ) → Stores row old stores.TheVariants.Full new stores.TheVariants.Full
+-- their words lie in the buffer
+pub stored_inside : {w : List ℕ} {k : ℕ} → Rows w k → length w ≡ width * most_stored → width * k ≤ length w
+unfolding width
+stored_inside r e = let h = r.inside in omega arith
+
+pub stores_by : {row old new : List ℕ} {a b r : Option ℕ} → a ≡ b → Stores row old a new r → Stores row old b new r
+stores_by {row = row} {old = old} {new = new} {r = r} e x = subst (λ (z : Option ℕ). Stores row old z new r) e x
+
+pub stays_full : (row old new : List ℕ) → Stores row old None new None
 stays_full row old new = record { fit = tt; makes = λ E h. more_full E (clause_of row) h }
 
 -- ---- all rows stored, then sorted
 module _ (old last : List ℕ) (k n : ℕ) (s : Sorted (take (width * n) old) last k) where
-  pub comes_full : most_rows < k → (E : List (List ℕ)) → Makes old (stores.TheVariants.Rows n) E → most_rows < length (insert_all E [])
-  comes_full h E e = subst (λ (z : List (List ℕ)). most_rows < length z) e (sorted_many (take (width * n) old) last k s h)
-
-  pub comes_rows :
-      (rest : List ℕ) → k ≤ most_rows → (E : List (List ℕ)) → Makes old (stores.TheVariants.Rows n) E
-      → Set (insert_all E []) (last ++ rest) k
-  comes_rows rest h E e = sorted_set (take (width * n) old) last k s rest h E e
+  pub comes_kept : (rest : List ℕ) (E : List (List ℕ)) → Makes old (Some n) E → Comes (insert_all E []) (last ++ rest) (then_some (leb k most_rows) k)
+  comes_kept rest E e = go (leb k most_rows) refl
+    where
+      go : (b : Bool) → leb k most_rows ≡ b → Comes (insert_all E []) (last ++ rest) (then_some b k)
+      go true h = sorted_set (take (width * n) old) last k s rest (leb-true k most_rows h) E e
+      go false h =
+          subst (λ (z : List (List ℕ)). most_rows < length z) e (sorted_many (take (width * n) old) last k s (leb-false k most_rows h))

@@ -1,5 +1,5 @@
 -- A clause of a text that is read into a row. Assumes nothing.
-use Rattle.std.specs.Prelude.{Bool, true, false, not, ◌&&◌, ◌≡◌, List, ◌∷◌, map, ℕ, ◌<◌, eqb, ltb, length, get_or, drop}
+use Rattle.std.specs.Prelude.{Bool, true, false, not, ◌&&◌, ◌≡◌, List, ◌∷◌, map, Option, Some, None, ℕ, ◌<◌, eqb, ltb, length, get_or, drop}
 use Rattle.definitions.specs.Lists.{all, member}
 use Rattle.definitions.specs.Literal.{most_atoms, most_literals, fill, atom, all_below}
 use Rattle.definitions.specs.Clauses.{width, row_of}
@@ -7,7 +7,6 @@ use Rattle.definitions.specs.Synthesis.{insert_literal}
 use Rattle.definitions.specs.Dimacs.{tokens, fits_row, sorted}
 use Rattle.dimacs_rows.specs.Clauses.{Left, clauses_said}
 use Rattle.dimacs_form.specs.Places.{Place}
-use Rattle.dimacs_rows.specs.declared.reading.Reading as readings
 
 -- the clauses of a text from a place on
 abbrev pub clauses_at : List ℕ → ℕ → List (List ℕ)
@@ -29,9 +28,9 @@ pub record Begins (text : List ℕ) (at : ℕ) : Type 0 where
   pub inside : at < length text
 
 -- a clause ends: it has no literal, or the next one begins
-unfoldable pub end_of : List ℕ → ℕ → readings.Reading
+unfoldable pub end_of : List ℕ → ℕ → Option ℕ
 end_of row next =
-    elim (eqb (get_or row 0 0) fill) [ true ↦ readings.TheVariants.Unfit | false ↦ readings.TheVariants.To next ]
+    elim (eqb (get_or row 0 0) fill) [ true ↦ None | false ↦ Some next ]
 
 -- the clause from one place to the other is in the row
 pub record RowRead (text : List ℕ) (from : ℕ) (words : List ℕ) (next : ℕ) : Type 0 where
@@ -43,6 +42,6 @@ pub record RowRead (text : List ℕ) (from : ℕ) (words : List ℕ) (next : ℕ
   pub behind : Clauses text next
   pub later : from < next
 
-abbrev pub ClauseRead : List ℕ → ℕ → List ℕ → readings.Reading → Type 0
-ClauseRead text from row readings.TheVariants.Unfit = all fits_row (clauses_at text from) ≡ false
-ClauseRead text from row (readings.TheVariants.To next) = RowRead text from row next
+abbrev pub ClauseRead : List ℕ → ℕ → List ℕ → Option ℕ → Type 0
+ClauseRead text from row None = all fits_row (clauses_at text from) ≡ false
+ClauseRead text from row (Some next) = RowRead text from row next

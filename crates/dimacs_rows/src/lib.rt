@@ -8,65 +8,58 @@ ghost use Rattle.dimacs_rows.specs.Rows.{Buffers, Fit};
 ghost use Rattle.dimacs_rows.specs.Collected.{Finished, ClausesCollected};
 
 use clause::{MOST_ROWS, WIDTH};
-use reading::Reading;
-use rows::Stored;
 
 pub mod reading; // reading.rt: one clause, question 25
 pub mod rows; // rows.rt: rows stored in a buffer
 
-// What the clauses of a text come to.
+// Why the clauses of a text are not read.
 #[derive(Clone, Copy)]
-pub enum Collected {
+pub enum Unread {
     // Question 25 is answered no.
     Unfit,
     // More rows, equal ones counted once, than a clause set may have.
     Full,
-    // So many rows.
-    Rows(usize),
 }
 
-// Sorts the rows that are stored, equal ones becoming one.
-fn finish(stored: Stored, rows: &mut [u16], work: &mut [u16]) -> Collected
+// Sorts the rows that are stored, equal ones becoming one. Gives their number, unless they are more than a clause set may have.
+fn finish(stored: Option<usize>, rows: &mut [u16], work: &mut [u16]) -> Option<usize>
     requires { Buffers rows.old work.old × Fit rows.old stored }
     ensures { Finished rows.old stored rows.new result }
 {
-    let Stored::Rows(count) = stored else {
-        return Collected::Full;
-    };
+    let count = stored?;
     let end = WIDTH * count;
     let kept = row_sort::sort(&mut rows[..end], work);
-    if MOST_ROWS < kept {
-        return Collected::Full;
-    }
-    Collected::Rows(kept)
+    (kept <= MOST_ROWS).then_some(kept)
 }
 
-// Reads the clauses from a place on into the first rows of a buffer, with a row to read each into.
+// Reads the clauses from a place on into the first rows of a buffer, with a row to read each into, and gives their number.
 fn collect_by(
     text: &[u8],
     from: usize,
     row: &mut [u16],
     rows: &mut [u16],
     work: &mut [u16],
-) -> Collected
+) -> Result<usize, Unread>
     requires { Clauses text.now from × (length row.old ≡ width) × Buffers rows.old work.old }
     ensures { ClausesCollected text.now from rows.new result }
 {
     let mut at = from;
-    let mut stored = Stored::Rows(0);
+    let mut stored = Some(0);
     while at < text.len() {
-        let read = reading::read_clause(text, at, row);
-        let Reading::To(next) = read else {
-            return Collected::Unfit;
-        };
+        let next = reading::read_clause(text, at, row).ok_or(Unread::Unfit)?;
         stored = rows::store(row, stored, rows, work);
         at = next;
     }
-    finish(stored, rows, work)
+    finish(stored, rows, work).ok_or(Unread::Full)
 }
 
-// Reads the clauses from a place on into the first rows of a buffer, in row order, equal ones once.
-pub fn collect(text: &[u8], from: usize, rows: &mut [u16], work: &mut [u16]) -> Collected
+// Reads the clauses from a place on into the first rows of a buffer, in row order, equal ones once, and gives their number.
+pub fn collect(
+    text: &[u8],
+    from: usize,
+    rows: &mut [u16],
+    work: &mut [u16],
+) -> Result<usize, Unread>
     requires { Clauses text.now from × Buffers rows.old work.old }
     ensures { ClausesCollected text.now from rows.new result }
 {

@@ -1,5 +1,5 @@
 -- `dimacs::line::write_head`: the word and the number of atoms, the number of rows, the line's end.
-use Prim.Native.Nat.{ℕ, ◌+◌}
+use Prim.Native.Nat.{ℕ}
 use mathlib.Core.List.{List, [], ◌∷◌, ◌++◌}
 use Rattle.definitions.specs.Text.{decimal}
 use Rattle.definitions.specs.Dimacs.{head_bytes}
