@@ -100,6 +100,10 @@ module _ {A : Type 0} (m : Answer A) (k : A → Answer Written) (old : List ℕ)
   unfolding written ◌>>=◌
   written_refused r e = rw (verdict_refused m r (sym e))
 
+  pub written_left : (r : Refusal) → refused r ≡ m → outcome (refused r) old ≡ written old (m >>= k)
+  unfolding written ◌>>=◌
+  written_left r e = rw (← e)
+
   pub written_found : (a : A) → m ≡ finding a → written old (k a) ≡ written old (m >>= k)
   unfolding ◌>>=◌
   written_found a e = rw e

@@ -1,38 +1,36 @@
 -- The call's questions one after the other: the first image, the second, 27. Assumes nothing.
-use mathlib.Core.Bool.{true, false}
+use mathlib.Core.Bool.{Bool, true}
 use mathlib.Core.Path.{◌≡◌, sym, ◌∙◌, ap}
 use mathlib.Core.List.{List}
 use Prim.Native.Nat.{ℕ}
 use native.Mathlib.Omega.{arith}
 use lib.ListN.{length}
-use Rattle.definitions.specs.Answer.{Refusal, finding, refused, verdict, outcome, ◌>>=◌}
+use Rattle.definitions.specs.Answer.{Refusal, finding, refused, verdict, outcome, ask, ◌>>=◌}
 use Rattle.definitions.specs.Image.{Task, read_task}
 use Rattle.definitions.specs.Groups.{written}
 use Rattle.definitions.specs.TaskWords.{task_words}
 use Rattle.definitions.specs.Join.{joined, join_fits, join_answer, join_call}
 use Rattle.definitions.proofs.JoinRead.{fits_of}
-use Rattle.answer.specs.Answer.{refusal_at}
-use Rattle.answer.proofs.Laws.{written_refused, written_found}
+use Rattle.answer.proofs.Laws.{written_refused, written_left, written_found}
 use Rattle.writing.specs.Writing.{Wrote}
-use Rattle.writing.proofs.Target.{asked_not, asked_done}
+use Rattle.writing.proofs.Target.{asked_done}
 use Rattle.task.specs.Reads.{task_of, Reads}
 
 -- ---- 27
 module _ (t u : Task) (old : List ℕ) where
-  pub join_not :
-      false ≡ join_fits (joined t u) (length old)
-      → outcome (refused (refusal_at 27 0 0)) old ≡ written old (join_answer t u (length old))
-  unfolding join_answer
-  join_not h = asked_not 27 (length (task_words (joined t u))) (task_words (joined t u)) old (join_fits (joined t u) (length old)) (sym h)
+  module _ (yes : Bool) (fits : yes ≡ join_fits (joined t u) (length old)) where
+    pub join_not : (r : Refusal) → refused r ≡ ask 27 yes → outcome (refused r) old ≡ written old (join_answer t u (length old))
+    unfolding join_answer
+    join_not r e = written_left (ask 27 (join_fits (joined t u) (length old))) _ old r (rw fits at e)
 
-  pub join_done :
-      {new : List ℕ} {end : ℕ} → true ≡ join_fits (joined t u) (length old) → Wrote old 0 (task_words (joined t u)) new end
-      → outcome (finding end) new ≡ written old (join_answer t u (length old))
-  unfolding join_answer
-  join_done {new} h w =
-      let f = fits_of (joined t u) (length old) (sym h) in
-      ap (λ n. outcome (finding n) new) (let e = w.next in omega arith)
-      ∙ asked_done 27 (length (task_words (joined t u))) (task_words (joined t u)) old (join_fits (joined t u) (length old)) (sym h) f.room w
+    pub join_done :
+        {new : List ℕ} {end : ℕ} → yes ≡ true → Wrote old 0 (task_words (joined t u)) new end
+        → outcome (finding end) new ≡ written old (join_answer t u (length old))
+    unfolding join_answer
+    join_done {new} h w =
+        let f = fits_of (joined t u) (length old) (sym fits ∙ h) in
+        ap (λ n. outcome (finding n) new) (let e = w.next in omega arith)
+        ∙ asked_done 27 (length (task_words (joined t u))) (task_words (joined t u)) old (join_fits (joined t u) (length old)) (sym fits ∙ h) f.room w
 
 -- ---- the images
 module _ (w v old : List ℕ) where

@@ -11,7 +11,7 @@ ghost use Rattle.task.specs.Reads.{task_of, Reads};
 ghost use Rattle.writing.specs.Writing.{Wrote};
 ghost use Rattle.joining.specs.Parts.{lists_of, operators_of, Joinable, PartGiven};
 
-use answer::{Counted, Refusal, Verdict};
+use answer::{Question, Refusal, ask};
 
 pub mod parts; // parts.rt: the directory
 pub mod shift; // shift.rt: literals and operators behind other atoms
@@ -71,28 +71,19 @@ fn write(left: &[u16], right: &[u16], target: &mut [u16]) -> usize
 }
 
 // The join of two images that read as tasks. Its length is known before the first word is written.
-fn join_read(left: &[u16], right: &[u16], target: &mut [u16]) -> Counted
+fn join_read(left: &[u16], right: &[u16], target: &mut [u16]) -> Result<usize, Refusal>
     requires { (Reads left.now) × (Reads right.now) }
     ensures { outcome (count_answer result) target.new ≡ written target.old (join_answer (task_of left.now) (task_of right.now) (length target.old)) }
 {
-    if !fits(left, right, target.len()) {
-        return answer::refuse_count(Refusal::JOIN_ROOM);
-    }
-    let words = write(left, right, target);
-    Counted::Count(words)
+    ask(Question::JoinRoom, fits(left, right, target.len()))?;
+    Ok(write(left, right, target))
 }
 
 // The join of two images: 1-7 of the first, 1-7 of the second, 27. Gives the length of the joined image.
-pub fn join(left: &[u16], right: &[u16], target: &mut [u16]) -> Counted
+pub fn join(left: &[u16], right: &[u16], target: &mut [u16]) -> Result<usize, Refusal>
     ensures { outcome (count_answer result) target.new ≡ written target.old (join_call left.now right.now (length target.old)) }
 {
-    let first = task::read(left);
-    if let Verdict::Refused(f) = first {
-        return Counted::Refused(f);
-    }
-    let second = task::read(right);
-    if let Verdict::Refused(f) = second {
-        return Counted::Refused(f);
-    }
+    task::read(left)?;
+    task::read(right)?;
     join_read(left, right, target)
 }
