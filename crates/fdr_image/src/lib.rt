@@ -17,7 +17,8 @@ use answer::{Question, Refusal, ask};
 
 pub mod domain; // domain.rt: the domains of the variables, and values in them
 pub mod atom; // atom.rt: the atoms
-pub mod block; // block.rt: the block of one operator
+pub mod block; // block.rt: whether a block is right, and the places of its parts
+pub mod rows; // rows.rt: the precondition and the rows of a block
 
 // The most words of a re-encoded image.
 pub const MOST_WORDS: usize = 32768;
