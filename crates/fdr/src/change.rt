@@ -10,8 +10,9 @@ ghost use Rattle.fdr_image.specs.Walk.{kind_of, operator_in};
 ghost use Rattle.fdr.specs.Change.{noted, note_set, note_clear, note_kind, note_if, note_fired, become, nones_in, written, unnoted};
 ghost use Rattle.fdr.specs.Post.{LowBlock, Changed, Changes, Writes, NotedAt, NotedFor};
 
-use fdr_image::block::{self, Kind, RowPart};
+use fdr_image::block::{self, Kind};
 use fdr_image::domain;
+use fdr_image::rows::{Row, Rows};
 
 // What becomes of a variable: it stays, it becomes none, or it becomes the value x, noted as x more than `FIRST_VALUE`.
 const STAYS: usize = 0;
@@ -62,23 +63,17 @@ fn note_kind(changes: &mut [usize], state: &[u16], word: u16, variable: usize, v
 }
 
 // Notes a row, if it fires. False at a conflict with what was noted before it.
-fn note_row(
-    changes: &mut [usize],
-    state: &[u16],
-    conditions: &[u16],
-    kind: u16,
-    variable: usize,
-    value: usize,
-) -> bool
-    requires { (variable < length changes.old) × (value < 65536) }
-    ensures { (noted result changes.new ≡ note_if (fdr_all_true state.now (literals_in conditions.now))
-        (note_kind state.now (kind_of kind) variable value changes.old) changes.old)
-        × NotedAt variable changes.old changes.new }
+fn note_row(changes: &mut [usize], state: &[u16], row: Row) -> bool
+    requires { row.variable < length changes.old }
+    ensures { (noted result changes.new ≡ note_if (fdr_all_true state.now (literals_in row.entry.conditions.now))
+        (note_kind state.now (kind_of row.entry.kind) row.entry.variable row.entry.value changes.old) changes.old)
+        × NotedAt row.entry.variable changes.old changes.new }
 {
-    if !super::truth::all_true(state, conditions) {
+    if !super::truth::all_true(state, row.conditions) {
         return true;
     }
-    note_kind(changes, state, kind, variable, value)
+    let value = literal::wide(row.value);
+    note_kind(changes, state, row.kind, row.variable, value)
 }
 
 // Notes the rows that fire in a state. False at a conflict.
@@ -88,23 +83,10 @@ pub fn note(block: &[u16], state: &[u16], changes: &mut [usize]) -> bool
         (fdr_fired state.now (operator_in block.now)) changes.old)
         × NotedFor (operator_in block.now).rows changes.old changes.new }
 {
-    let head = block::head(block);
-    let mut at = head.end + 1;
-    let mut left = head.rows;
-    while 0 < left {
-        let RowPart {
-            kind,
-            variable,
-            value,
-            from,
-            end,
-        } = block::row(block, at, left);
-        let conditions = &block[from..end];
-        if !note_row(changes, state, conditions, kind, variable, value) {
+    for row in Rows::of(block) {
+        if !note_row(changes, state, row) {
             return false;
         }
-        at = end;
-        left -= 1;
     }
     true
 }
@@ -122,18 +104,11 @@ pub fn are_nones_there(block: &[u16], domains: &[u16], changes: &[usize]) -> boo
     requires { LowBlock (length (domains_in domains.now)) block.now × Changes (domains_in domains.now) changes.now }
     ensures { result ≡ nones_in (domains_in domains.now) changes.now (operator_in block.now).rows }
 {
-    let head = block::head(block);
-    let mut at = head.end + 1;
-    let mut left = head.rows;
-    while 0 < left {
-        let row = block::row(block, at, left);
-        let variable = row.variable;
-        let omitted = is_omitted(domains, changes[variable], variable);
-        if omitted {
+    for row in Rows::of(block) {
+        let change = changes[row.variable];
+        if is_omitted(domains, change, row.variable) {
             return false;
         }
-        at = row.end;
-        left -= 1;
     }
     true
 }
@@ -155,15 +130,9 @@ pub fn write(block: &[u16], domains: &[u16], changes: &[usize], state: &mut [u16
     ensures { state.new ≡ written (domains_in domains.now) changes.now
         (operator_in block.now).rows state.old }
 {
-    let head = block::head(block);
-    let mut at = head.end + 1;
-    let mut left = head.rows;
-    while 0 < left {
-        let row = block::row(block, at, left);
+    for row in Rows::of(block) {
         let variable = row.variable;
         state[variable] = new_value(domains, changes[variable], variable, state[variable]);
-        at = row.end;
-        left -= 1;
     }
 }
 
@@ -172,14 +141,7 @@ pub fn unnote(block: &[u16], changes: &mut [usize])
     requires { LowBlock most_atoms block.now × (length changes.old ≡ most_atoms) }
     ensures { changes.new ≡ unnoted (operator_in block.now).rows changes.old }
 {
-    let head = block::head(block);
-    let mut at = head.end + 1;
-    let mut left = head.rows;
-    while 0 < left {
-        let row = block::row(block, at, left);
-        let variable = row.variable;
-        changes[variable] = STAYS;
-        at = row.end;
-        left -= 1;
+    for row in Rows::of(block) {
+        changes[row.variable] = STAYS;
     }
 }

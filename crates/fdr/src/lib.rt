@@ -31,7 +31,7 @@ fn precondition_holds(block: &[u16], state: &[u16]) -> bool
     requires { block_parses block.now ≡ true }
     ensures { result ≡ fdr_all_true state.now (operator_in block.now).precondition }
 {
-    truth::all_true(state, &block[1..fdr_image::block::head(block).end])
+    truth::all_true(state, fdr_image::rows::precondition(block))
 }
 
 // The rows of a block, done in a state, with changes that note nothing before it: questions 21 and 22. What is noted stays.
