@@ -237,6 +237,6 @@ module _ {clauses first now' : List ℕ} {atoms : ℕ} {stops : Bool} {pass : Pa
         pub row_met : answer ≡ Contradictory → RestKept atoms first ms × Passed stops clauses (set_of atoms first) (set_of atoms ms) Contradictory
         row_met e = (
           kept_on,
-          force_clash stops clauses (set_of atoms first) (set_of atoms now') (width * g.number) inside pass g.state (forced_of row u) (set_of atoms ms) forced all
-              (rw e at did),
+          force_clash stops clauses (set_of atoms first) (set_of atoms now') (width * g.number) inside pass g.state (forced_of row u) (set_of atoms ms)
+              forced all (rw e at did),
         )

@@ -165,7 +165,8 @@ fn walk(clauses: &[u16], marks: &mut [u8], atoms: usize, stops: bool) -> Pass
                 pass = Pass::Grown;
             }
             Pass::Contradictory => {
-                return Pass::Contradictory;
+                pass = Pass::Contradictory;
+                break 'walk;
             }
         }
     }

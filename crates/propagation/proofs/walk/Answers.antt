@@ -74,5 +74,5 @@ returns-in-Contradictory c =
     row_met c.requires c.walk.invariant _ _ s.1.0 s.1.1 c.loop-word.invariant c.loop-word-test.false
     _ _ c.force.ensures.0 c.force.ensures.1 c.in-Contradictory.is
 
-pub returns : goal.returns
-returns c = going_end c.requires c.walk.invariant c.in-None.ensures.steps.1.0
+pub returns-in-None : goal.returns-in-None
+returns-in-None c = going_end c.requires c.walk.invariant c.in-None.ensures.steps.1.0

@@ -3,7 +3,7 @@ use Prim.Native.Nat.{ℕ, ◌+◌, ◌/◌, ◌<◌}
 use mathlib.Core.Path.{◌≡◌, sym, ◌∙◌, ap}
 use native.Mathlib.Omega.{arith}
 use lib.Count.{ones}
-use lib.ListN.{get_or, take}
+use lib.ListN.{get_or}
 use lib.Seq.{length-take-le, get_or-take}
 use Rattle.definitions.specs.Marks.{mark_bytes}
 use Rattle.definitions.proofs.MarkBits.{ones_byte, count_none, count_byte}
@@ -22,7 +22,7 @@ loop-byte-preserved c =
     let l = c.loop-byte in
     let a = c.args in
     let size = length-take-le (a.atoms / 4) a.marks.now (omega arith) in
-    let here : get_or (take (a.atoms / 4) a.marks.now) l.byte-index 0 ≡ get_or a.marks.now l.byte-index 0 = get_or-take (a.atoms / 4) a.marks.now l.byte-index 0 (omega arith) in
+    let here = get_or-take (a.atoms / 4) a.marks.now l.byte-index 0 (omega arith) in
     let low : get_or a.marks.now l.byte-index 0 < 256 = (c.type_inv.marks l.byte-index).fits in
     rw here (
       let few = ones_byte _ low in omega arith,
