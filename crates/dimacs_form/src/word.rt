@@ -15,7 +15,12 @@ pub fn skip_blanks(text: &[u8], at: usize) -> usize
     requires { at ≤ length text.now }
     ensures { Skipped text.now at result }
 {
-    at + text[at..].iter().take_while(|b| is_blank(**b)).count()
+    for i in at..text.len() {
+        if !is_blank(text[i]) {
+            return i;
+        }
+    }
+    text.len()
 }
 
 // The end of the word that begins at `at`.
@@ -23,5 +28,10 @@ pub fn word_end(text: &[u8], at: usize) -> usize
     requires { Place text.now at × (at < length text.now) }
     ensures { WordAt text.now at result }
 {
-    at + text[at..].iter().take_while(|b| !is_blank(**b)).count()
+    for i in at + 1..text.len() {
+        if is_blank(text[i]) {
+            return i;
+        }
+    }
+    text.len()
 }

@@ -1,19 +1,30 @@
--- `dimacs_form::word::word_end`: the bytes from the place on that are no blanks are a word.
-use Rattle.std.proofs.Common.{length, not, rules}
-use Rattle.std.proofs.lemmas.Iterator.{YieldsList-from_slice}
-use Rattle.std.proofs.lemmas.Iterator.Search.{YieldsList-from_take_while}
-use Rattle.std.proofs.lemmas.Iterator.Consumers.{count_from_yields_List}
-use Rattle.definitions.specs.Dimacs.{blank}
-use Rattle.dimacs_form.specs.Places.{between}
-use Rattle.dimacs_form.proofs.PlaceLaws.{word_by}
+-- `dimacs_form::word::word_end`: the bytes passed are a word, which ends at a blank or at the end of the text.
+use Rattle.std.proofs.Common.{◌≡◌, length, arith, refl, sym, ◌∙◌}
+use Rattle.dimacs_form.proofs.PlaceLaws.{begins_at, goes_on_at, ends_at, last_at}
 use Rattle.dimacs_form.proofs.word.word_end.Goals as goal
+
+pub loop-i-init : goal.loop-i-init
+loop-i-init c = let p = c.requires in begins_at _ _ p.1 (p.0.word p.1)
+
+pub returns-then-is_blank : goal.returns-then-is_blank
+returns-then-is_blank c =
+    let text = c.args.text.now in
+    record {
+      later = omega arith;
+      inside = omega arith;
+      word = ends_at text c.args.at c.loop-i.i (omega arith) (omega arith) c.loop-i.invariant (sym c.is_blank.ensures ∙ c.if-is_blank.true);
+    }
+
+pub loop-i-preserved : goal.loop-i-preserved
+loop-i-preserved c =
+    goes_on_at c.args.text.now c.args.at c.loop-i.i (omega arith) (omega arith) (sym c.is_blank.ensures ∙ c.if-is_blank.false) c.loop-i.invariant
 
 pub returns : goal.returns
 returns c =
     let text = c.args.text.now in
-    let at = c.args.at in
-    let p = c.requires in
-    word_by text at c.count.result p.1 (p.0.word p.1)
-    (count_from_yields_List c.take_while.result c.count.result c.count.ensures.ran
-    (YieldsList-from_take_while _ (λ b. not (blank b)) (YieldsList-from_slice (between at (length text) text) cc) c.take_while.ensures.closure
-    c.take_while.ensures.done (λ x b q k. search rules)))
+    let end : c.loop-i.i ≡ length text = omega arith in
+    record {
+      later = omega arith;
+      inside = omega arith;
+      word = last_at text c.args.at (length text) (omega arith) refl (rw end at c.loop-i.invariant);
+    }
