@@ -107,3 +107,10 @@ module _ {A : Type 0} (m : Answer A) (k : A → Answer Written) (old : List ℕ)
   pub written_found : (a : A) → m ≡ finding a → written old (k a) ≡ written old (m >>= k)
   unfolding ◌>>=◌
   written_found a e = rw e
+
+-- the exit of a `?` of a call that writes: nothing is written
+pub left_unwritten :
+    (a : Answer Written) (old : List ℕ) (r : Result ℕ code.Refusal) (f : code.Refusal)
+    → IsErrAnd r (λ g. g ≡ f) → refused (placed f) ≡ a → outcome (answer_of r) old ≡ written old a
+unfolding written
+left_unwritten a old r f h e = rw (left_by r f h, ← e)

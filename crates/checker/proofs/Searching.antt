@@ -10,7 +10,7 @@ use native.Mathlib.Decide.{ℕ_discrete}
 use lib.ListN.{length, get_or, take, length-map}
 use lib.Seq.{get_or-take, length-take-le}
 use Rattle.definitions.specs.Answer.{finding, refused, refuse}
-use Rattle.definitions.specs.Image.{Task}
+use Rattle.definitions.specs.Image.{Operator, Task}
 use Rattle.definitions.specs.Step.{operator_at, no_operator}
 use Rattle.definitions.specs.Closure.{bit}
 use Rattle.definitions.specs.Kept.{kept}
@@ -104,6 +104,13 @@ module _ (t : Task) (C : List (List ℕ)) where
               (record { inside = more; before = λ k l. s.keeps i k h l; fails = fails_here h })
               ∙ ap some (zero-add j);
         }
+
+-- the first flag, where a flag for each of the first `low` clauses is lent
+pub first_lent :
+    (C D : List (List ℕ)) (atoms low i : ℕ) (o : Operator) (flags : List ℕ) → low ≤ length flags
+    → FirstFlag (fail_flags atoms C o (take (length (take low flags)) D)) i → FirstFlag (fail_flags atoms C o (take low D)) i
+first_lent C D atoms low i o flags room first =
+    subst (λ (k : ℕ). FirstFlag (fail_flags atoms C o (take k D)) i) (length-take-le low flags room) first
 
 -- one operator more, over so many atoms
 module _

@@ -3,38 +3,37 @@
 
 ghost use Rattle.std.specs.Prelude.{◌≡◌, ◌*◌, ◌≤◌, length, take};
 ghost use Rattle.definitions.specs.Lists.{first_fail};
-ghost use Rattle.definitions.specs.Answer.{refused, verdict};
+ghost use Rattle.definitions.specs.Answer.{verdict};
 ghost use Rattle.definitions.specs.Literal.{holds_in};
 ghost use Rattle.definitions.specs.Step.{operator_at};
 ghost use Rattle.definitions.specs.Checker.{ask_true, ask_kept, check};
 ghost use Rattle.definitions.specs.Marks.{mark_bytes};
-ghost use Rattle.answer.specs.Answer.{refusal_at, verdict_answer};
+ghost use Rattle.answer.specs.Answer.{verdict_answer};
 ghost use Rattle.task.specs.Reads.{task_of};
 ghost use Rattle.clause.specs.Rows.{row_count, clauses_of};
 ghost use Rattle.judge.specs.Judging.{fail_flags};
 ghost use Rattle.judge.specs.Promise.{Read};
-ghost use Rattle.checker.specs.Search.{false_answer, FirstFlag, Judging, Reading, Input};
+ghost use Rattle.checker.specs.Search.{false_answer, FirstFlag, Judging};
 
-use answer::{Refusal, Verdict};
+use answer::{Question, Refusal, ask, ask_at};
 use clause::WIDTH;
 use clause::place::RowPlace;
 
 // Whether all clauses hold in a state, or a refusal that names the lowest one that is false there.
-pub fn check_true(clauses: &[u16], state: &[u8]) -> Verdict
+pub fn check_true(clauses: &[u16], state: &[u8]) -> Result<(), Refusal>
     ensures { verdict_answer result ≡ false_answer (first_fail (holds_in state.now) 0 (clauses_of clauses.now)) }
 {
     let mut place = RowPlace::first();
     while place.is_in(clauses) {
-        if !clause::holds(place.row(clauses), state) {
-            return answer::refuse_at(Refusal::CLAUSE_FALSE, place.number);
-        }
+        let holds = clause::holds(place.row(clauses), state);
+        ask_at(Question::ClauseFalse, place.number, holds)?;
         place = place.next();
     }
-    Verdict::Fine
+    Ok(())
 }
 
 // Question 10.
-fn check_initial(image: &[u16], clauses: &[u16], atoms: usize) -> Verdict
+fn check_initial(image: &[u16], clauses: &[u16], atoms: usize) -> Result<(), Refusal>
     requires { Read image.now clauses.now atoms }
     ensures { verdict_answer result ≡ ask_true (task_of image.now) (clauses_of clauses.now) }
 {
@@ -72,17 +71,6 @@ fn first_failing(
     first_flag(fails)
 }
 
-// The refusal of question 11.
-fn refuse_kept(low: usize, under: usize) -> Verdict
-    ensures { verdict_answer result ≡ refused (refusal_at 11 low under) }
-{
-    Verdict::Refused(Refusal {
-        number: Refusal::CLAUSE_NOT_KEPT,
-        first: low,
-        second: under,
-    })
-}
-
 // Question 11: the refusal names the lowest clause that is not kept, and under it the lowest operator. Under each operator
 // only the clauses below the lowest that failed so far are judged.
 fn check_kept(
@@ -91,67 +79,40 @@ fn check_kept(
     atoms: usize,
     marks: &mut [u8],
     fails: &mut [u8],
-) -> Verdict
+) -> Result<(), Refusal>
     requires { Read image.now clauses.now atoms × (mark_bytes atoms ≤ length marks.old) × (row_count clauses.now ≤ length fails.old) }
     ensures { verdict_answer result ≡ ask_kept (task_of image.now) (clauses_of clauses.now) 0 (clauses_of clauses.now) }
 {
     let count = clause::rows(clauses);
-    let operators = task::operators(image);
     let mut low = count;
-    let mut under: usize = 0;
-    let mut operator: usize = 0;
-    while operator < operators {
+    let mut under = 0;
+    for operator in 0..task::operators(image) {
         let first = first_failing(image, clauses, atoms, operator, marks, &mut fails[..low]);
-        let judged = operator;
-        operator += 1;
-        if low <= first {
-            continue;
+        if first < low {
+            low = first;
+            under = operator;
         }
-        low = first;
-        under = judged;
     }
     if low < count {
-        return refuse_kept(low, under);
+        return Err(Refusal {
+            question: Question::ClauseNotKept,
+            first: low,
+            second: under,
+        });
     }
-    Verdict::Fine
-}
-
-// Questions 1 to 9 and 13, of so many marks.
-fn check_input(image: &[u16], clauses: &[u16], marks: usize) -> Verdict
-    ensures { Input image.now clauses.now marks result }
-{
-    let read = reading::read(image, clauses);
-    if let Verdict::Refused(f) = read {
-        return Verdict::Refused(f);
-    }
-    if marks < propagation::marks::bytes(task::atoms(image)) {
-        return answer::refuse(Refusal::BUFFERS);
-    }
-    Verdict::Fine
-}
-
-// Questions 10 and 11.
-fn check_set(image: &[u16], clauses: &[u16], marks: &mut [u8]) -> Verdict
-    requires { Reading image.now clauses.now (length marks.old) }
-    ensures { verdict_answer result ≡ verdict (check image.now clauses.now (length marks.old)) }
-{
-    let atoms = task::atoms(image);
-    let initial = check_initial(image, clauses, atoms);
-    if let Verdict::Refused(f) = initial {
-        return Verdict::Refused(f);
-    }
-    let mut fails = clause::flags_room();
-    check_kept(image, clauses, atoms, marks, &mut fails[..])
+    Ok(())
 }
 
 // Whether a set of clauses is accepted: questions 1 to 9, 13, 10, 11. 10 names the lowest false clause, 11 the lowest clause that is
 // not kept and under it the lowest operator.
-pub fn accept(image: &[u16], clauses: &[u16], marks: &mut [u8]) -> Verdict
+pub fn accept(image: &[u16], clauses: &[u16], marks: &mut [u8]) -> Result<(), Refusal>
     ensures { verdict_answer result ≡ verdict (check image.now clauses.now (length marks.old)) }
 {
-    let input = check_input(image, clauses, marks.len());
-    if let Verdict::Refused(f) = input {
-        return Verdict::Refused(f);
-    }
-    check_set(image, clauses, marks)
+    reading::read(image, clauses)?;
+    let atoms = task::atoms(image);
+    let needed = propagation::marks::bytes(atoms);
+    ask(Question::Buffers, needed <= marks.len())?;
+    check_initial(image, clauses, atoms)?;
+    let mut fails = clause::flags_room();
+    check_kept(image, clauses, atoms, marks, &mut fails)
 }

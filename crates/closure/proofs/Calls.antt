@@ -5,8 +5,6 @@ use mathlib.Core.List.{List, ◌++◌}
 use Prim.Native.Nat.{ℕ, ◌-◌, ◌≤◌}
 use lib.Dec.{ltb, leb}
 use lib.ListN.{length, take, drop}
-use Rattle.std.proofs.Common.{Result}
-use Rattle.std.specs.Result.{IsErrAnd}
 use Rattle.definitions.specs.Answer.{Refusal, finding, refused, verdict, outcome, ◌>>=◌, ask}
 use Rattle.definitions.specs.Literal.{most_atoms}
 use Rattle.definitions.specs.Image.{Operator, operator_right}
@@ -16,9 +14,6 @@ use Rattle.definitions.specs.Marks.{mark_bytes, marks_of, marked_literals}
 use Rattle.definitions.specs.Groups.{written}
 use Rattle.definitions.specs.ClosureCall.{operator_closure, shown, closure_call}
 use Rattle.definitions.proofs.MarkBits.{new_marks, marks_length, new_literals, front_literals}
-use Rattle.answer.specs.Answer.{placed, count_answer}
-use Rattle.answer.specs.declared.Refusal as code
-use Rattle.answer.proofs.Laws.{left_by}
 use Rattle.clause.specs.Rows.{clauses_of}
 use Rattle.task.specs.Reads.{task_of}
 use Rattle.task.specs.Walk.{operator_in}
@@ -42,13 +37,6 @@ module _ (w c : List ℕ) (i : ℕ) (ms : List ℕ) where
       >>= λ _. finding (shown (task_of w) (clauses_of c) i ms)) ≡ closure_call w c i ms
   unfolding closure_call ◌>>=◌
   call_asks read = rw (read.task.found, read.clauses.read)
-
-  -- a refusal leaves the marks
-  pub call_refused :
-      (v : Result ℕ code.Refusal) (f : code.Refusal) → IsErrAnd v (λ g. g ≡ f) → refused (placed f) ≡ closure_call w c i ms
-      → outcome (count_answer v) ms ≡ written ms (closure_call w c i ms)
-  unfolding written
-  call_refused v f left e = rw (left_by v f left, ← e)
 
 -- ---- what is shown for operator i, whose block is b
 module _ (w c : List ℕ) (i : ℕ) (ms : List ℕ) (a : Asks w c i (length ms)) (atoms : ℕ) (counted : atoms ≡ (task_of w).atoms) (b : List ℕ)

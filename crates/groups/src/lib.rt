@@ -10,7 +10,7 @@ ghost use Rattle.clause.specs.Rows.{clauses_of, ClausesRead};
 ghost use Rattle.cover.specs.Cover.{Room};
 ghost use Rattle.groups.specs.Groups.{groups_answer};
 
-use answer::{Counted, Refusal, Verdict};
+use answer::{Question, Refusal, ask};
 
 // Question 16, and the groups written, with room for the places of the atoms and for the groups.
 fn write_groups(
@@ -20,20 +20,19 @@ fn write_groups(
     sizes: &mut [u16],
     none: &mut [u16],
     target: &mut [u16],
-) -> Counted
+) -> Result<usize, Refusal>
     requires { (ClausesRead atoms clauses.now) × (Room atoms places.old sizes.old none.old) }
     ensures { outcome (count_answer result) target.new ≡ written target.old (groups_answer atoms (clauses_of clauses.now) (length target.old)) }
 {
     let count = cover::cover(clauses, atoms, places, sizes, none);
-    if target.len() < 2 * count + 2 * atoms {
-        return answer::refuse_count(Refusal::TARGET);
-    }
+    let needed = 2 * count + 2 * atoms;
+    ask(Question::Target, needed <= target.len())?;
     cover::write(places, sizes, none, count, target, 0);
-    Counted::Count(count)
+    Ok(count)
 }
 
 // The groups of a task and of clauses that are read.
-pub fn groups_read(image: &[u16], clauses: &[u16], target: &mut [u16]) -> Counted
+pub fn groups_read(image: &[u16], clauses: &[u16], target: &mut [u16]) -> Result<usize, Refusal>
     requires { (Reads image.now) × (ClausesRead (task_of image.now).atoms clauses.now) }
     ensures { outcome (count_answer result) target.new
         ≡ written target.old (groups_answer (task_of image.now).atoms (clauses_of clauses.now) (length target.old)) }
@@ -54,12 +53,14 @@ pub fn groups_read(image: &[u16], clauses: &[u16], target: &mut [u16]) -> Counte
 }
 
 // The groups of a task by a clause set: the checker's questions, then 16.
-pub fn groups(image: &[u16], clauses: &[u16], marks: &mut [u8], target: &mut [u16]) -> Counted
+pub fn groups(
+    image: &[u16],
+    clauses: &[u16],
+    marks: &mut [u8],
+    target: &mut [u16],
+) -> Result<usize, Refusal>
     ensures { outcome (count_answer result) target.new ≡ written target.old (groups_call image.now clauses.now (length marks.old) (length target.old)) }
 {
-    let checked = checker::accept(image, clauses, marks);
-    if let Verdict::Refused(f) = checked {
-        return Counted::Refused(f);
-    }
+    checker::accept(image, clauses, marks)?;
     groups_read(image, clauses, target)
 }

@@ -1,15 +1,15 @@
 -- The words of the image by the places of the atoms are those of the definitions. Assumes nothing.
 use mathlib.Core.Bool.{true}
-use mathlib.Core.Path.{◌≡◌, refl, sym, ◌∙◌, ap, ap₂}
+use mathlib.Core.Path.{◌≡◌, refl, sym, ◌∙◌, ap, ap₂, subst}
 use mathlib.Core.List.{List, [], ◌∷◌, ◌++◌, map, append_assoc}
 use Prim.Native.Nat.{ℕ, suc, ◌+◌, ◌*◌, ◌/◌, ◌≤◌, ◌<◌}
 use native.Mathlib.Omega.{arith}
-use lib.Dec.{ltb}
+use lib.Dec.{ltb, leb}
 use lib.ListN.{length, get_or, take, length-map}
 use lib.Seq.{length-take-le}
 use borrow.Author.Tests.{ltb-true}
 use Rattle.definitions.specs.Lists.{all, each, below, ascending}
-use Rattle.definitions.specs.Answer.{finding, refused, Refusal, outcome, verdict}
+use Rattle.definitions.specs.Answer.{finding, refused, Refusal, outcome, verdict, ask}
 use Rattle.definitions.specs.Literal.{atom, all_below}
 use Rattle.definitions.specs.Image.{Row, Operator, Task, initial_state, row_right, operator_right}
 use Rattle.definitions.specs.Step.{no_operator, operator_at}
@@ -20,7 +20,7 @@ use Rattle.definitions.specs.Fdr.{pair_words, fdr_words}
 use Rattle.definitions.specs.Encoding.{value_in, encode_literal, encode_row, encode_operator, encode, encoded_image, encode_call}
 use Rattle.definitions.proofs.ListLaws.{and_left, and_right, each_map}
 use Rattle.definitions.proofs.ReadLaws.{row_effect, row_conditions, pre_low, rows_right_lem}
-use Rattle.answer.specs.Answer.{refusal_at}
+use Rattle.answer.proofs.Laws.{refused_first, handed_on}
 use Rattle.task.specs.Reads.{task_of, Reads}
 use Rattle.task.proofs.Questions.{task_read, operator_right_lem}
 use Rattle.clause.specs.Rows.{clauses_of}
@@ -35,9 +35,9 @@ use Rattle.writing.proofs.DirectoryLaws.{directory_is, image_size}
 use Rattle.cover.proofs.DomainLaws.{domains_size}
 use Rattle.cover.proofs.Joining.{variable_low}
 use Rattle.cover.proofs.Covering.{domains_are, places_are, domained}
-use Rattle.writing.proofs.Target.{fits_not, fits_done}
+use Rattle.writing.proofs.Target.{fits_done}
 use Rattle.checker.specs.Accepts.{Accepts}
-use Rattle.checker.proofs.Written.{call_refused, call_accepted}
+use Rattle.checker.proofs.Written.{call_accepted}
 use Rattle.reencoding.specs.Words.{atoms_of, literal_by, literals_by, counted_by, row_by, rows_by, operator_by}
 use Rattle.reencoding.specs.Parts.{words_of, lengths_of, lowered, operators_by, task_by, image_by}
 use Rattle.reencoding.specs.Image.{Valued, Laid, encode_answer}
@@ -208,9 +208,11 @@ module _ (w : List ℕ) (rd : Reads w) (C : List (List ℕ)) (ps ss ns : List �
 
   -- question 16, and the image written
   module _ (old : List ℕ) (size : ℕ) (es : size ≡ size_of (lengths_of n t)) where
-    pub encode_not : length old < size → outcome (refused (refusal_at 16 0 0)) old ≡ written old (encode_answer t C (length old))
+    pub encode_not : (r : Refusal) → refused r ≡ ask 16 (leb size (length old)) → refused r ≡ encode_answer t C (length old)
     unfolding encode_answer
-    encode_not h = fits_not 16 (length (encoded_image t C)) (encoded_image t C) old (let a = ap length image_is in let b = image_length in omega arith)
+    encode_not r h =
+        let e : size ≡ length (encoded_image t C) = es ∙ sym image_length ∙ sym (ap length image_is) in
+        handed_on _ _ r (subst (λ (k : ℕ). refused r ≡ ask 16 (leb k (length old))) e h)
 
     pub encode_done :
         size ≤ length old → (new : List ℕ) (end : ℕ) → Wrote old 0 (image_by t ps ss ns n) new end
@@ -225,9 +227,9 @@ module _ (w : List ℕ) (rd : Reads w) (C : List (List ℕ)) (ps ss ns : List �
 
 -- ---- the call
 module _ (w c : List ℕ) (marks : ℕ) (old : List ℕ) where
-  pub encode_refused : (r : Refusal) → refused r ≡ verdict (check w c marks) → outcome (refused r) old ≡ written old (encode_call w c marks (length old))
+  pub encode_refused : (r : Refusal) → refused r ≡ verdict (check w c marks) → refused r ≡ encode_call w c marks (length old)
   unfolding encode_call
-  encode_refused r e = call_refused w c marks _ old r e
+  encode_refused r e = refused_first (check w c marks) _ r e
 
   pub encode_accepted :
       Accepts w c marks → written old (encode_answer (task_of w) (clauses_of c) (length old)) ≡ written old (encode_call w c marks (length old))

@@ -13,7 +13,7 @@ ghost use Rattle.writing.specs.Writing.{Wrote};
 ghost use Rattle.reencoding.specs.Parts.{task_by, image_by};
 ghost use Rattle.reencoding.specs.Image.{Valued, Measured, encode_answer};
 
-use answer::{Counted, Refusal, Verdict};
+use answer::{Question, Refusal, ask};
 
 pub mod block; // block.rt: literals and operators as words of the image
 pub mod initial; // initial.rt: the initial values
@@ -66,7 +66,7 @@ fn write_task(
     sizes: &mut [u16],
     none: &mut [u16],
     target: &mut [u16],
-) -> Counted
+) -> Result<usize, Refusal>
     requires { (Reads image.now) × (ClausesRead (task_of image.now).atoms clauses.now) × (Room (task_of image.now).atoms places.old sizes.old none.old) }
     ensures { outcome (count_answer result) target.new ≡ written target.old (encode_answer (task_of image.now) (clauses_of clauses.now) (length target.old)) }
 {
@@ -75,15 +75,13 @@ fn write_task(
     let mut lengths = [0u16; parts::MOST_PARTS];
     let used = parts::lengths(image, count, &mut lengths);
     let words = writing::directory::size(&lengths[..used]);
-    if target.len() < words {
-        return answer::refuse_count(Refusal::TARGET);
-    }
+    ask(Question::Target, words <= target.len())?;
     write_image(image, places, sizes, none, count, &lengths[..used], target);
-    Counted::Count(words)
+    Ok(words)
 }
 
 // The re-encoding of a task by clauses that are read.
-pub fn reencode_read(image: &[u16], clauses: &[u16], target: &mut [u16]) -> Counted
+pub fn reencode_read(image: &[u16], clauses: &[u16], target: &mut [u16]) -> Result<usize, Refusal>
     requires { (Reads image.now) × (ClausesRead (task_of image.now).atoms clauses.now) }
     ensures { outcome (count_answer result) target.new ≡ written target.old (encode_answer (task_of image.now) (clauses_of clauses.now) (length target.old)) }
 {
@@ -102,12 +100,9 @@ pub fn reencode_read(image: &[u16], clauses: &[u16], target: &mut [u16]) -> Coun
 }
 
 // The re-encoding of a task by a clause set: the checker's questions, then 16. Gives the length of the image.
-pub fn reencode(image: &[u16], clauses: &[u16], marks: &mut [u8], target: &mut [u16]) -> Counted
+pub fn reencode(image: &[u16], clauses: &[u16], marks: &mut [u8], target: &mut [u16]) -> Result<usize, Refusal>
     ensures { outcome (count_answer result) target.new ≡ written target.old (encode_call image.now clauses.now (length marks.old) (length target.old)) }
 {
-    let checked = checker::accept(image, clauses, marks);
-    if let Verdict::Refused(f) = checked {
-        return Counted::Refused(f);
-    }
+    checker::accept(image, clauses, marks)?;
     reencode_read(image, clauses, target)
 }
