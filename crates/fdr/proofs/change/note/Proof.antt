@@ -6,7 +6,6 @@ use Prim.Native.Nat.{ℕ}
 use native.Mathlib.Omega.{arith}
 use lib.Dec.{ltb}
 use lib.ListN.{length}
-use borrow.Author.Tests.{not-true, not-false}
 use Rattle.definitions.specs.Literal.{most_atoms}
 use Rattle.definitions.specs.Lists.{all, keep}
 use Rattle.definitions.specs.Fdr.{fdr_all_true}
