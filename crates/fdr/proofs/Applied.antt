@@ -10,7 +10,7 @@ use native.Mathlib.Omega.{arith}
 use lib.Dec.{eqb}
 use lib.ListN.{length, get_or, length-replicate}
 use lib.Seq.{ext_get_or}
-use borrow.Author.Tests.{eq-eqb, ne_eqb}
+use borrow.Author.Tests.{ne_eqb}
 use Rattle.definitions.specs.Literal.{most_atoms}
 use Rattle.definitions.specs.Lists.{any, all, below}
 use Rattle.definitions.specs.Groups.{Domain}

@@ -1,3 +1,4 @@
+-- `fdr_image::atom_variable`: the places are the atoms, whose variables have domains.
 use mathlib.Core.Path.{◌∙◌, ap}
 use mathlib.Core.List.{List}
 use native.Mathlib.Omega.{arith}
@@ -5,17 +6,12 @@ use lib.ListN.{length, get_or}
 use Rattle.definitions.specs.Groups.{Place}
 use Rattle.fdr_image.specs.Walk.{place}
 use Rattle.fdr_image.proofs.Reading.{variable_low}
-use borrow.Author.Rules.{rules}
-use Rattle.fdr_image.proofs.atom_variable.Statement.{statement}
-use Rattle.fdr_image.proofs.atom_variable.Tie as tie
+use Rattle.fdr_image.proofs.atom_variable.Goals as goal
 
-places-requires : tie.Need-places-requires
-places-requires c κs = search rules
+pub variable-requires : goal.variable-requires
+variable-requires c = omega (arith, c.requires.1, ap length c.places.ensures)
 
-variable-requires : tie.Need-variable-requires
-variable-requires c κs = omega (arith, c.requires.1, ap length c.places.ensures)
-
-returns : tie.Need-returns
+pub returns : goal.returns
 returns c = (
   c.variable.ensures.0
       ∙ ap (λ (P : List Place). (get_or P c.args.atom (place 0 0)).variable) c.places.ensures,
@@ -26,9 +22,3 @@ returns c = (
         ∙ ap (λ (P : List Place). (get_or P c.args.atom (place 0 0)).variable) c.places.ensures,
   ),
 )
-
-pub atom_variable_spec : {M : Type 1} → statement M
-atom_variable_spec = tie.close (tie.spec
-    places-requires
-    variable-requires
-    returns)
