@@ -277,15 +277,6 @@ module _ (w : List ℕ) (atoms n limit rows : ℕ) (c : List ℕ) (count made : 
       let f = s.left ∙ rounds_full t n rows made C h.0 (limit - made) (limit - (made + 1)) (omega arith) h.2 in
       rw (f, same)
 
--- ---- zeros
-pub cleared :
-    {A : Type 0} (x a : Answer A) (y old : List ℕ) → x ≡ a → y ≡ take 0 old ++ replicate (length old - 0) 0
-    → outcome x y ≡ outcome a (replicate (length old) 0)
-unfolding outcome
-cleared x a y old e q =
-    let z : length old - 0 ≡ length old = omega arith in
-    rw (e, q, z)
-
 -- the answer of a finding
 pub end_found :
     (c x : List ℕ) (count made : ℕ) (e : End) → e ≡ Finished → x ≡ take (width * count) c ++ replicate (length c - width * count) 0
