@@ -2,9 +2,9 @@
 use mathlib.Core.Path.{◌≡◌, sym, ◌∙◌, ap, ap₂}
 use mathlib.Core.Bool.{true}
 use mathlib.Core.List.{List, ◌++◌}
-use Prim.Native.Nat.{ℕ, ◌-◌, ◌≤◌}
+use Prim.Native.Nat.{ℕ, ◌≤◌}
 use lib.Dec.{ltb, leb}
-use lib.ListN.{length, take, drop}
+use lib.ListN.{length, drop}
 use Rattle.definitions.specs.Answer.{Refusal, finding, refused, verdict, outcome, ◌>>=◌, ask}
 use Rattle.definitions.specs.Literal.{most_atoms}
 use Rattle.definitions.specs.Image.{Operator, operator_right}
@@ -14,12 +14,12 @@ use Rattle.definitions.specs.Marks.{mark_bytes, marks_of, marked_literals}
 use Rattle.definitions.specs.Groups.{written}
 use Rattle.definitions.specs.ClosureCall.{operator_closure, shown, closure_call}
 use Rattle.definitions.proofs.MarkBits.{new_marks, marks_length, new_literals, front_literals}
+use Rattle.definitions.proofs.ReadLaws.{pre_low}
 use Rattle.clause.specs.Rows.{clauses_of}
 use Rattle.task.specs.Reads.{task_of}
 use Rattle.task.specs.Walk.{operator_in}
-use Rattle.task.specs.Post.{BlockGiven, BlockRead}
+use Rattle.task.specs.Post.{BlockGiven}
 use Rattle.task.proofs.Questions.{operator_right_lem}
-use Rattle.task.proofs.BlockSizes.{operator_pre}
 use Rattle.propagation.specs.Marks.{Asked}
 use Rattle.reading.specs.Reading.{read_both, BothRead}
 use Rattle.reading.proofs.Questions.{both_refused}
@@ -40,31 +40,31 @@ module _ (w c : List ℕ) (i : ℕ) (ms : List ℕ) where
 
 -- ---- what is shown for operator i, whose block is b
 module _ (w c : List ℕ) (i : ℕ) (ms : List ℕ) (a : Asks w c i (length ms)) (atoms : ℕ) (counted : atoms ≡ (task_of w).atoms) (b : List ℕ)
-    (block : BlockGiven b (task_of w) i) (end k : ℕ) (head : BlockRead b (operator_in b) end k) where
-  precondition : take (end - 1) (drop 1 b) ≡ (operator_at (task_of w) i).precondition
-  precondition = head.precondition ∙ ap (λ (o : Operator). o.precondition) block.operator
+    (block : BlockGiven b (task_of w) i) (p : List ℕ) (read : p ≡ (operator_in b).precondition) where
+  precondition : p ≡ (operator_at (task_of w) i).precondition
+  precondition = read ∙ ap (λ (o : Operator). o.precondition) block.operator
 
   -- what propagation asks
-  pub close_asked : atoms ≤ most_atoms → Asked atoms c (take (end - 1) (drop 1 b)) ms
+  pub close_asked : atoms ≤ most_atoms → Asked atoms c p ms
   close_asked few =
       record {
         few = few;
         room = rw counted a.marked;
         rows = rw counted a.clauses;
-        below = operator_pre b (operator_in b) end k head atoms right;
+        below = rw read (pre_low atoms (operator_in b) right);
       }
     where
       right : operator_right atoms (operator_in b) ≡ true
       right = rw (counted, block.operator) (operator_right_lem w a.task i a.operator)
 
-  closed : closure atoms (clauses_of c) (take (end - 1) (drop 1 b)) ≡ operator_closure (task_of w) (clauses_of c) i
+  closed : closure atoms (clauses_of c) p ≡ operator_closure (task_of w) (clauses_of c) i
   unfolding operator_closure
   closed = ap₂ (λ (n : ℕ) (ls : List ℕ). closure n (clauses_of c) ls) counted precondition
 
   -- the marks and the number
   pub show_done :
       (new : List ℕ) (number : ℕ)
-      → new ≡ marks_of atoms (closure atoms (clauses_of c) (take (end - 1) (drop 1 b))) ms ++ drop (mark_bytes atoms) ms
+      → new ≡ marks_of atoms (closure atoms (clauses_of c) p) ms ++ drop (mark_bytes atoms) ms
       → number ≡ length (marked_literals atoms new) → outcome (finding number) new ≡ written ms (finding (shown (task_of w) (clauses_of c) i ms))
   unfolding written shown new_marks
   show_done new number made count =

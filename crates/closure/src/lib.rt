@@ -20,8 +20,8 @@ fn show(image: &[u16], clauses: &[u16], operator: usize, marks: &mut [u8]) -> us
 {
     let atoms = task::atoms(image);
     let block = task::operator_block(image, operator);
-    let head = task::block::head(block);
-    propagation::close_fully(clauses, &block[1..head.end], marks, atoms);
+    let precondition = task::rows::precondition(block);
+    propagation::close_fully(clauses, precondition, marks, atoms);
     propagation::marks::count(marks, atoms)
 }
 

@@ -4,9 +4,9 @@ use Rattle.closure.proofs.show.Goals as goal
 
 pub close_fully-requires : goal.close_fully-requires
 close_fully-requires c =
-    close_asked _ _ _ _ c.requires _ c.atoms-atoms.ensures.0 _ c.operator_block-block.ensures _ _ c.head-head.ensures c.atoms-atoms.ensures.1
+    close_asked _ _ _ _ c.requires _ c.atoms-atoms.ensures.0 _ c.operator_block-block.ensures _ c.precondition-precondition.ensures c.atoms-atoms.ensures.1
 
 pub returns : goal.returns
 returns c =
-    show_done _ _ _ _ c.requires _ c.atoms-atoms.ensures.0 _ c.operator_block-block.ensures _ _ c.head-head.ensures _ _
+    show_done _ _ _ _ c.requires _ c.atoms-atoms.ensures.0 _ c.operator_block-block.ensures _ c.precondition-precondition.ensures _ _
     c.close_fully.ensures c.count.ensures
