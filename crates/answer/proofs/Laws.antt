@@ -75,6 +75,10 @@ module _ (q i : ℕ) (b : Bool) where
   unfolding ask_at
   asked_yes u e = elim b as (λ v. finding u ≡ ask_at q i v → v ≡ true) [ true ↦ λ h. refl | false ↦ λ h. absurd (not_finding (sym h)) ] e
 
+  pub asked_verdict : verdict (ask_at q i b) ≡ ask_at q i b
+  unfolding ask_at verdict
+  asked_verdict = elim b as (λ v. verdict (ask_at q i v) ≡ ask_at q i v) [ true ↦ refl | false ↦ refl ]
+
   pub asked_refusal : b ≡ false → ask_at q i b ≡ refused (refusal_at q i 0)
   unfolding ask_at
   asked_refusal h = rw h

@@ -3,6 +3,7 @@
 
 ghost use Rattle.std.specs.Prelude.{◌≡◌};
 ghost use Rattle.definitions.specs.Answer.{ask, ask_at};
+ghost use Rattle.definitions.specs.StepLists.{refused_after};
 ghost use Rattle.answer.specs.Answer.{placed, refusal_at, verdict_answer};
 ghost use Rattle.answer.specs.Question.{number_of};
 
@@ -96,13 +97,23 @@ impl Refusal {
             second: 0,
         }
     }
+
+    // The refusal of a step of a list, after so many steps.
+    pub fn after(self, steps: usize) -> Refusal
+        ensures { placed result ≡ refused_after steps (placed self) }
+    {
+        Refusal {
+            first: steps,
+            ..self
+        }
+    }
 }
 
 // The refusal of a question, with both places zero.
 impl From<Question> for Refusal {
-    fn from(question: Question) -> Refusal
-        ensures { placed result ≡ refusal_at (number_of question) 0 0 }
-    {
+    ghost from_gives = { λ question refusal. placed refusal ≡ refusal_at (number_of question) 0 0 };
+
+    fn from(question: Question) -> Refusal {
         Refusal::at(question, 0)
     }
 }

@@ -1,7 +1,7 @@
 -- The questions of a call that changes nothing: those up to 18 and then the rest, and questions 19 and 20. Assumes nothing.
 use mathlib.Core.Path.{◌≡◌, sym, ap, ◌∙◌}
 use mathlib.Core.List.{List}
-use mathlib.Core.Bool.{Bool, true, false}
+use mathlib.Core.Bool.{Bool}
 use Prim.Native.Nat.{ℕ, ◌≤◌, ◌<◌}
 use lib.Dec.{ltb}
 use lib.ListN.{length}
@@ -12,6 +12,7 @@ use Rattle.definitions.specs.Image.{Task}
 use Rattle.definitions.specs.Step.{applicable, result, operator_at, step}
 use Rattle.answer.specs.Answer.{refusal_at}
 use Rattle.answer.specs.Reader.{Reader, asking, state_answer, step_call}
+use Rattle.answer.proofs.Laws.{verdict_bind, asked_verdict}
 use Rattle.answer.proofs.ReaderCalls.{question_no, question_yes, rest_asked, state_is, either_refused}
 
 -- ---- the questions up to 18, and the rest, for every kind of image
@@ -41,10 +42,9 @@ module _ (t : Task) (s : List ℕ) (i : ℕ) where
     unfolding step
     asks_20 = sym (question_yes 19 (ltb i (length t.operators)) _ (lt-ltb i (length t.operators) there))
 
-    pub no_20 : all_true s (operator_at t i).precondition ≡ false → refused (refusal_at 20 0 0) ≡ verdict (step t s i)
-    unfolding applicable verdict
-    no_20 h = ap verdict (question_no 20 (applicable s (operator_at t i)) _ h ∙ sym asks_20)
-
-    pub yes_20 : all_true s (operator_at t i).precondition ≡ true → finding tt ≡ verdict (step t s i)
-    unfolding applicable verdict
-    yes_20 h = ap verdict (question_yes 20 (applicable s (operator_at t i)) _ h ∙ sym asks_20)
+    pub asked_20 : (b : Bool) → b ≡ all_true s (operator_at t i).precondition → ask 20 b ≡ verdict (step t s i)
+    unfolding applicable ask
+    asked_20 b e =
+        let p = all_true s (operator_at t i).precondition in
+        ap (ask 20) e
+        ∙ sym (ap verdict asks_20 ∙ verdict_bind (ask 20 p) (λ _. result s (operator_at t i)) ∙ asked_verdict 20 0 p)

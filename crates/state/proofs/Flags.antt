@@ -4,11 +4,10 @@ use mathlib.Core.Logic.{◌⊎◌, inl, inr}
 use mathlib.Core.List.{List, [], ◌∷◌, map, Memᴰ}
 use mathlib.Core.Bool.{Bool, true, false, cond, beq, ◌&&◌, ◌||◌, and-true, and-false}
 use Prim.Native.Nat.{ℕ, zero, suc, ◌+◌, ◌*◌, ◌≤◌, ◌<◌}
-use native.Mathlib.Numerals.{add-one}
 use native.Mathlib.Nat.{not-suc-le-zero, le_of_suc-le-suc}
 use native.Mathlib.Omega.{arith}
-use lib.ListN.{length, get_or, take, drop, set, drop_of_length-le, length-set, replicate, length-replicate, get_or-replicate}
-use lib.Seq.{drop-cons, get_or-set_same, get_or-set_other, ext_get_or}
+use lib.ListN.{length, get_or, take, set, length-set, replicate, length-replicate, get_or-replicate}
+use lib.Seq.{get_or-set_same, get_or-set_other, ext_get_or}
 use lib.Dec.{eqb}
 use borrow.Author.Tests.{eqb-true, eqb-false, eq-eqb}
 use Rattle.definitions.specs.Lists.{any, below, member}
@@ -22,57 +21,13 @@ use Rattle.definitions.proofs.LiteralLaws.{positive_even}
 use Rattle.definitions.proofs.StepLaws.{fired_in, fired_of, value_at_lem}
 use Rattle.definitions.proofs.EncodeLaws.{same_bool_lem}
 use Rattle.literal.specs.Literal.{literal_of, has_sign}
-use Rattle.literal.specs.Mark.{mark_if}
-use Rattle.literal.proofs.Mark.{mark_is, put_at, put_each_at, put_length}
+use Rattle.literal.proofs.Mark.{put_at, put_each_at, put_length}
 use Rattle.literal.proofs.Sign.{literal_atom, literal_positive, sign_self, sign_own, other_atom}
 use Rattle.state.specs.Flags.{set_true, flag_fired, make_true, changed, unflagged}
 
 -- the effects of rows, fired or not
 abbrev effects_of : List Row → List ℕ
 effects_of rows = map (λ r. r.effect) rows
-
--- ---- the initial state's walk: one atom, and the end
-pub set_on :
-    (s s' xs : List ℕ) (i x : ℕ) → i < length xs → x ≡ get_or xs i 0 → s' ≡ set s x 1
-    → set_true (drop i xs) s ≡ set_true (drop (i + 1) xs) s'
-set_on s s' xs i x h ex es = let one = add-one i in rw (drop-cons xs i 0 h, ← ex, es, one)
-
-pub set_end : (s xs : List ℕ) (i : ℕ) → length xs ≤ i → set_true (drop i xs) s ≡ s
-set_end s xs i h = rw (drop_of_length-le xs {i = i} h)
-
--- ---- the walks over the rows: one row of each, and the end
-pub fired_next :
-    (s : List ℕ) (rows rest : List Row) (r : Row) (t : Bool) (m m' : List ℕ)
-    → rows ≡ r ∷ rest → t ≡ fires s r → m' ≡ mark_if t m r.effect
-    → flag_fired s rows m ≡ flag_fired s rest m'
-fired_next s rows rest r t m m' er et em = rw (er, em, et, mark_is (fires s r) m r.effect)
-
-pub fired_end : (s : List ℕ) (rows : List Row) (m : List ℕ) → rows ≡ [] → flag_fired s rows m ≡ m
-fired_end s rows m e = rw e
-
--- a row of the other sign, and one of the sign
-module _ (adds : Bool) (m : List ℕ) (rows rest : List Row) (r : Row) (er : rows ≡ r ∷ rest) where
-  pub changed_other : (s : List ℕ) → has_sign adds r.effect ≡ false → changed adds rows m s ≡ changed adds rest m s
-  changed_other s e = rw (er, e)
-
-  pub unflagged_other : has_sign adds r.effect ≡ false → unflagged adds rows m ≡ unflagged adds rest m
-  unflagged_other e = rw (er, e)
-
-  module _ (e : has_sign adds r.effect ≡ true) (m' : List ℕ) (em : m' ≡ set m r.effect 0) where
-    pub changed_next :
-        (s s' : List ℕ) (b : Bool) → b ≡ has m r.effect → s' ≡ make_true b s r.effect
-        → changed adds rows m s ≡ changed adds rest m' s'
-    changed_next s s' b eb es = rw (er, e, em, es, eb)
-
-    pub unflagged_next : unflagged adds rows m ≡ unflagged adds rest m'
-    unflagged_next = rw (er, e, em)
-
-module _ (adds : Bool) (rows : List Row) (er : rows ≡ []) where
-  pub changed_end : (m s : List ℕ) → changed adds rows m s ≡ s
-  changed_end m s = rw er
-
-  pub unflagged_end : (m : List ℕ) → unflagged adds rows m ≡ m
-  unflagged_end m = rw er
 
 -- ---- one pass: the value of an atom, and the flags
 -- a row of the sign has effect l

@@ -9,21 +9,16 @@ ghost use Rattle.state.specs.Flags.{flag_fired, make_true, changed, unflagged};
 ghost use Rattle.state.specs.Post.{Applies};
 
 use literal::Literal;
+use task::rows::{Row, Rows};
 
 // Flags the effects of the rows of a block that fire in a state. The state stays as it is, so each row fires by the state before the step.
 fn flag_fired(block: &[u16], state: &[u8], flags: &mut [u8])
     requires { block_parses block.now ≡ true }
     ensures { flags.new ≡ flag_fired state.now (operator_in block.now).rows flags.old }
 {
-    let head = task::block::head(block);
-    let mut at = head.end + 1;
-    let mut left = head.rows;
-    while 0 < left {
-        let task::block::RowPart { effect, from, end } = task::block::row(block, at, left);
-        let fires = literal::all_true(state, &block[from..end]);
-        literal::flags::mark_if(fires, flags, effect);
-        at = end;
-        left -= 1;
+    for Row { effect, conditions } in Rows::of(block) {
+        let fires = literal::all_true(state, conditions);
+        literal::flags::mark_if(fires, flags, literal::wide(effect));
     }
 }
 
@@ -31,18 +26,15 @@ fn flag_fired(block: &[u16], state: &[u8], flags: &mut [u8])
 fn truth(l: Literal) -> u8
     ensures { result ≡ cond (positive l.code) 1 0 }
 {
-    if l.is_positive() { 1 } else { 0 }
+    u8::from(l.is_positive())
 }
 
 // Makes a literal true, if `flagged`.
 fn make_true(flagged: bool, state: &mut [u8], l: Literal)
     ensures { state.new ≡ make_true flagged state.old l.code }
 {
-    let a = l.atom();
     if flagged {
-        if a < state.len() {
-            state[a] = truth(l);
-        }
+        literal::flags::put(state, l.atom(), truth(l));
     }
 }
 
@@ -52,21 +44,13 @@ fn change(block: &[u16], flags: &mut [u8], adds: bool, state: &mut [u8])
     ensures { (state.new ≡ changed adds (operator_in block.now).rows flags.old state.old)
         × (flags.new ≡ unflagged adds (operator_in block.now).rows flags.old) }
 {
-    let head = task::block::head(block);
-    let mut at = head.end + 1;
-    let mut left = head.rows;
-    while 0 < left {
-        let row = task::block::row(block, at, left);
-        let index = row.effect;
-        at = row.end;
-        left -= 1;
-        let effect = Literal { code: index as u16 };
-        if !effect.has_sign(adds) {
-            continue;
+    for row in Rows::of(block) {
+        let effect = Literal { code: row.effect };
+        if effect.has_sign(adds) {
+            let flagged = literal::flags::has(flags, effect.index());
+            make_true(flagged, state, effect);
+            literal::flags::put(flags, effect.index(), 0);
         }
-        let flagged = literal::flags::has(flags, index);
-        make_true(flagged, state, effect);
-        literal::flags::put(flags, index, 0);
     }
 }
 

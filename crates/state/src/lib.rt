@@ -14,22 +14,17 @@ ghost use Rattle.task.specs.Walk.{block_parses, operator_in};
 ghost use Rattle.state.specs.Flags.{set_true};
 ghost use Rattle.state.specs.Post.{task_reader, Standing, Applies, applied};
 
-use answer::{Counted, Refusal, Tested, Verdict};
+use answer::{Question, Refusal, ask};
 
 mod effect; // effect.rt: the effects of one operator in a state
 
 // Reads an image and a state: questions 1 to 7 and 18.
-pub fn read_state(image: &[u16], state: &[u8]) -> Verdict
+pub fn read_state(image: &[u16], state: &[u8]) -> Result<(), Refusal>
     ensures { verdict_answer result ≡ state_answer task_reader image.now state.now }
 {
-    let reading = task::read(image);
-    if let Verdict::Refused(f) = reading {
-        return Verdict::Refused(f);
-    }
-    if !literal::is_state(state, task::atoms(image)) {
-        return answer::refuse(Refusal::STATE);
-    }
-    Verdict::Fine
+    task::read(image)?;
+    let is_state = literal::is_state(state, task::atoms(image));
+    ask(Question::State, is_state)
 }
 
 // Whether the precondition of a block holds in a state.
@@ -37,66 +32,62 @@ fn precondition_holds(block: &[u16], state: &[u8]) -> bool
     requires { block_parses block.now ≡ true }
     ensures { result ≡ all_true state.now (operator_in block.now).precondition }
 {
-    let head = task::block::head(block);
-    let end = head.end;
-    literal::all_true(state, &block[1..end])
+    literal::all_true(state, task::rows::precondition(block))
 }
 
 // Whether an operator can be applied in a task's state: questions 19 and 20.
-fn check_operator(image: &[u16], state: &[u8], operator: usize) -> Verdict
+fn check_operator(image: &[u16], state: &[u8], operator: usize) -> Result<(), Refusal>
     requires { Reads image.now }
     ensures { verdict_answer result ≡ verdict (step (task_of image.now) state.now operator) }
 {
     if task::operators(image) <= operator {
-        return answer::refuse(Refusal::OPERATOR_NUMBER);
+        return Err(Question::OperatorNumber.into());
     }
-    if precondition_holds(task::operator_block(image, operator), state) {
-        Verdict::Fine
-    } else {
-        answer::refuse(Refusal::PRECONDITION)
-    }
+    let block = task::operator_block(image, operator);
+    ask(Question::Precondition, precondition_holds(block, state))
 }
 
 // Whether a step can be made: its questions, and nothing is changed.
-pub fn check_step(image: &[u16], state: &[u8], operator: u16) -> Verdict
+pub fn check_step(image: &[u16], state: &[u8], operator: u16) -> Result<(), Refusal>
     ensures { verdict_answer result ≡ verdict (step_task image.now state.now operator) }
 {
-    let reading = read_state(image, state);
-    if let Verdict::Refused(f) = reading {
-        return Verdict::Refused(f);
-    }
+    read_state(image, state)?;
     check_operator(image, state, literal::wide(operator))
 }
 
 // A step by the block of its operator, with flags that are all zero before and after: question 20.
-fn step_block(block: &[u16], state: &mut [u8], flags: &mut [u8]) -> Verdict
+fn step_block(block: &[u16], state: &mut [u8], flags: &mut [u8]) -> Result<(), Refusal>
     requires { Applies block.now state.old flags.old }
     ensures { (outcome (verdict_answer result) state.new
         ≡ becomes state.old (applied state.old (operator_in block.now)))
         × (flags.new ≡ flags.old) }
 {
-    if !precondition_holds(block, state) {
-        return answer::refuse(Refusal::PRECONDITION);
-    }
+    let holds = precondition_holds(block, state);
+    ask(Question::Precondition, holds)?;
     effect::apply(block, state, flags);
-    Verdict::Fine
+    Ok(())
 }
 
 // A step in a task's state, with flags for its literals that are all zero before and after: questions 19 and 20.
-fn step_flagged(image: &[u16], state: &mut [u8], operator: usize, flags: &mut [u8]) -> Verdict
+fn step_flagged(
+    image: &[u16],
+    state: &mut [u8],
+    operator: usize,
+    flags: &mut [u8],
+) -> Result<(), Refusal>
     requires { Standing image.now state.old × (flags.old ≡ replicate (2 * (task_of image.now).atoms) 0) }
     ensures { (outcome (verdict_answer result) state.new
         ≡ becomes state.old (step (task_of image.now) state.old operator))
         × (flags.new ≡ flags.old) }
 {
     if task::operators(image) <= operator {
-        return answer::refuse(Refusal::OPERATOR_NUMBER);
+        return Err(Question::OperatorNumber.into());
     }
     step_block(task::operator_block(image, operator), state, flags)
 }
 
 // A step in a task's state: questions 19 and 20.
-pub fn step_read(image: &[u16], state: &mut [u8], operator: u16) -> Verdict
+pub fn step_read(image: &[u16], state: &mut [u8], operator: u16) -> Result<(), Refusal>
     requires { Standing image.now state.old }
     ensures { outcome (verdict_answer result) state.new
         ≡ becomes state.old (step (task_of image.now) state.old operator) }
@@ -107,43 +98,36 @@ pub fn step_read(image: &[u16], state: &mut [u8], operator: u16) -> Verdict
 }
 
 // A step, done in the lent state.
-pub fn step(image: &[u16], state: &mut [u8], operator: u16) -> Verdict
+pub fn step(image: &[u16], state: &mut [u8], operator: u16) -> Result<(), Refusal>
     ensures { outcome (verdict_answer result) state.new
         ≡ becomes state.old (step_task image.now state.old operator) }
 {
-    let reading = read_state(image, state);
-    if let Verdict::Refused(f) = reading {
-        return Verdict::Refused(f);
-    }
+    read_state(image, state)?;
     step_read(image, state, operator)
 }
 
 // The steps of a list in a task's state, with flags for its literals that are all zero: questions 19 and 20 of each operator of the list.
-fn run_flagged(image: &[u16], state: &mut [u8], list: &[u16], flags: &mut [u8]) -> Counted
+fn run_flagged(
+    image: &[u16],
+    state: &mut [u8],
+    list: &[u16],
+    flags: &mut [u8],
+) -> Result<usize, Refusal>
     requires { Standing image.now state.old × (flags.old ≡ replicate (2 * (task_of image.now).atoms) 0) }
     ensures { outcome (count_answer result) state.new
         ≡ run_from (step (task_of image.now)) state.old 0 list.now }
 {
-    let mut steps: usize = 0;
-    while steps < list.len() {
-        let stepped = step_flagged(image, state, literal::wide(list[steps]), flags);
-        match stepped {
-            Verdict::Refused(f) => {
-                return Counted::Refused(Refusal {
-                    number: f.number,
-                    first: steps,
-                    second: f.second,
-                });
-            }
-            Verdict::Fine => {}
+    for (steps, operator) in list.iter().enumerate() {
+        let stepped = step_flagged(image, state, literal::wide(*operator), flags);
+        if let Err(refusal) = stepped {
+            return Err(refusal.after(steps));
         }
-        steps += 1;
     }
-    Counted::Count(steps)
+    Ok(list.len())
 }
 
 // The steps of a list in a task's state: questions 19 and 20 of each operator of the list.
-fn run_read(image: &[u16], state: &mut [u8], list: &[u16]) -> Counted
+fn run_read(image: &[u16], state: &mut [u8], list: &[u16]) -> Result<usize, Refusal>
     requires { Standing image.now state.old }
     ensures { outcome (count_answer result) state.new
         ≡ run_from (step (task_of image.now)) state.old 0 list.now }
@@ -154,35 +138,27 @@ fn run_read(image: &[u16], state: &mut [u8], list: &[u16]) -> Counted
 }
 
 // A list run, done in the lent state. A refused one keeps the steps that it took.
-pub fn run(image: &[u16], state: &mut [u8], list: &[u16]) -> Counted
+pub fn run(image: &[u16], state: &mut [u8], list: &[u16]) -> Result<usize, Refusal>
     ensures { outcome (count_answer result) state.new ≡ run_task image.now state.old list.now }
 {
-    let reading = read_state(image, state);
-    if let Verdict::Refused(f) = reading {
-        return Counted::Refused(f);
-    }
+    read_state(image, state)?;
     run_read(image, state, list)
 }
 
 // Whether the goal is met in a state.
-pub fn goal_met(image: &[u16], state: &[u8]) -> Tested
+pub fn goal_met(image: &[u16], state: &[u8]) -> Result<bool, Refusal>
     ensures { test_answer result ≡ goal_task image.now state.now }
 {
-    let reading = read_state(image, state);
-    if let Verdict::Refused(f) = reading {
-        return Tested::Refused(f);
-    }
-    answer::whether(literal::all_true(state, task::goal(image)))
+    read_state(image, state)?;
+    Ok(literal::all_true(state, task::goal(image)))
 }
 
 // Makes the atoms of a list true.
 fn set_true(state: &mut [u8], atoms: &[u16])
     ensures { state.new ≡ set_true atoms.now state.old }
 {
-    let mut i: usize = 0;
-    while i < atoms.len() {
-        literal::flags::mark_if(true, state, literal::wide(atoms[i]));
-        i += 1;
+    for atom in atoms {
+        literal::flags::mark_if(true, state, literal::wide(*atom));
     }
 }
 
@@ -196,17 +172,13 @@ pub fn write_initial(image: &[u16], state: &mut [u8])
 }
 
 // Sets a state to the initial one.
-pub fn set_initial(image: &[u16], state: &mut [u8]) -> Verdict
+pub fn set_initial(image: &[u16], state: &mut [u8]) -> Result<(), Refusal>
     ensures { outcome (verdict_answer result) state.new
         ≡ becomes state.old (start_task image.now state.old) }
 {
-    let reading = task::read(image);
-    if let Verdict::Refused(f) = reading {
-        return Verdict::Refused(f);
-    }
-    if state.len() != task::atoms(image) {
-        return answer::refuse(Refusal::STATE);
-    }
+    task::read(image)?;
+    let atoms = task::atoms(image);
+    ask(Question::State, state.len() == atoms)?;
     write_initial(image, state);
-    Verdict::Fine
+    Ok(())
 }

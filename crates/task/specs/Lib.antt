@@ -1,3 +1,4 @@
 pub mod Reads
 pub mod Walk
 pub mod Post
+pub mod Rows

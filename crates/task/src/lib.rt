@@ -12,7 +12,8 @@ ghost use Rattle.task.specs.Post.{Laid, BlockGiven};
 
 use answer::{Question, Refusal, ask};
 
-pub mod block; // block.rt: the block of one operator
+pub mod block; // block.rt: questions 6 and 7 of the block of one operator
+pub mod rows; // rows.rt: the precondition and the rows of a block
 
 // The most words of a task image.
 pub const MOST_WORDS: usize = 8192;

@@ -1,10 +1,10 @@
 -- The definitions' state with a count, ticket and answer of an ask, of those of the code. Assumes nothing.
-use Rattle.std.specs.Prelude.{ℕ, List}
+use Rattle.std.specs.Prelude.{ℕ, List, Result, Ok, Err}
 use Rattle.definitions.specs.Answer.{Answer, finding, refused}
 use Rattle.definitions.specs.Ticket as paper
+use Rattle.answer.specs.declared.Refusal.{Refusal}
 use Rattle.answer.specs.Answer.{placed}
 use Rattle.ticket.specs.declared.Ticket.{Ticket}
-use Rattle.ticket.specs.declared.Asked as asked
 
 abbrev pub counted : List ℕ → ℕ → paper.CountedState
 counted s n = record { state = s; count = n }
@@ -15,6 +15,6 @@ ticket_with n i = record { count = n; operator = i }
 abbrev pub ticket_of : Ticket → paper.Ticket
 ticket_of k = ticket_with k.count k.operator
 
-abbrev pub asked_answer : asked.Asked → Answer paper.Ticket
-asked_answer (asked.TheVariants.Given k) = finding (ticket_of k)
-asked_answer (asked.TheVariants.Refused f) = refused (placed f)
+abbrev pub asked_answer : Result Ticket Refusal → Answer paper.Ticket
+asked_answer (Ok k) = finding (ticket_of k)
+asked_answer (Err f) = refused (placed f)

@@ -10,37 +10,24 @@ ghost use Rattle.state.specs.Post.{Standing};
 ghost use Rattle.task.specs.Reads.{task_of};
 ghost use Rattle.ticket.specs.Answer.{counted, ticket_of, asked_answer};
 
-use answer::{Refusal, Verdict};
+use answer::{Question, Refusal};
 
 // The count at which nothing more is committed.
 pub const LAST_COUNT: u16 = 65535;
 
 // A commit count and an operator.
-#[derive(Clone, Copy)]
+#[derive(Clone, Copy, Debug, PartialEq, Eq)]
 pub struct Ticket {
     pub count: u16,
     pub operator: u16,
 }
 
-// The answer of an ask.
-#[derive(Clone, Copy)]
-pub enum Asked {
-    Given(Ticket),
-    Refused(Refusal),
-}
-
 // Asks for a step in a state with its commit count: questions 1 to 7 and 18 to 20. Nothing is changed.
-pub fn ask(image: &[u16], state: &[u8], count: u16, operator: u16) -> Asked
+pub fn ask(image: &[u16], state: &[u8], count: u16, operator: u16) -> Result<Ticket, Refusal>
     ensures { asked_answer result ≡ ask_task image.now (counted state.now count) operator }
 {
-    let checked = state::check_step(image, state, operator);
-    if let Verdict::Refused(f) = checked {
-        return Asked::Refused(f);
-    }
-    Asked::Given(Ticket {
-        count: count,
-        operator: operator,
-    })
+    state::check_step(image, state, operator)?;
+    Ok(Ticket { count, operator })
 }
 
 // Whether `given`, the count of a ticket, is the state's, and something can be committed at it: question 28.
@@ -51,32 +38,34 @@ fn is_valid(given: u16, count: u16) -> bool
 }
 
 // Commits a ticket in a task's state: questions 28, 19 and 20.
-fn commit_read(image: &[u16], state: &mut [u8], count: &mut u16, ticket: Ticket) -> Verdict
+fn commit_read(
+    image: &[u16],
+    state: &mut [u8],
+    count: &mut u16,
+    ticket: Ticket,
+) -> Result<(), Refusal>
     requires { Standing image.now state.old }
     ensures { outcome_of_call (verdict_answer result) (counted state.new count.new)
         ≡ call_becomes (counted state.old count.old)
         (commit (task_of image.now) (counted state.old count.old) (ticket_of ticket)) }
 {
-    if !is_valid(ticket.count, *count) {
-        return answer::refuse(Refusal::TICKET);
-    }
-    let stepped = state::step_read(image, state, ticket.operator);
-    if let Verdict::Refused(f) = stepped {
-        return Verdict::Refused(f);
-    }
+    answer::ask(Question::Ticket, is_valid(ticket.count, *count))?;
+    state::step_read(image, state, ticket.operator)?;
     *count += 1;
-    Verdict::Fine
+    Ok(())
 }
 
 // Commits a ticket: makes its step in the lent state, and adds one to the lent count. Questions 1 to 7, 18, 28, 19 and 20.
-pub fn commit(image: &[u16], state: &mut [u8], count: &mut u16, ticket: Ticket) -> Verdict
+pub fn commit(
+    image: &[u16],
+    state: &mut [u8],
+    count: &mut u16,
+    ticket: Ticket,
+) -> Result<(), Refusal>
     ensures { outcome_of_call (verdict_answer result) (counted state.new count.new)
         ≡ call_becomes (counted state.old count.old)
         (commit_task image.now (counted state.old count.old) (ticket_of ticket)) }
 {
-    let reading = state::read_state(image, state);
-    if let Verdict::Refused(f) = reading {
-        return Verdict::Refused(f);
-    }
+    state::read_state(image, state)?;
     commit_read(image, state, count, ticket)
 }
