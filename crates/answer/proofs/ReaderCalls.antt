@@ -62,12 +62,6 @@ module _ {T B : Type 0} (a : Answer T) (right : T → Bool) (rest : T → Answer
     pub rest_asked : right t ≡ true → rest t ≡ asking a right rest
     rest_asked h = question_yes 18 (right t) (λ _. rest t) h ∙ read_on
 
--- a question with nothing after it
-asked_last : (q : ℕ) (b : Bool) → ask q b ≡ (ask q b >>= λ _. finding tt)
-unfolding ask ask_at ◌>>=◌
-asked_last q true = refl
-asked_last q false = refl
-
 -- ---- the calls of a kind of image
 module _ {T : Type 0} (R : Reader T) (w s : List ℕ) where
   pub first_refused : (r : Refusal) → refused r ≡ verdict (R.read w) → refused r ≡ state_answer R w s
@@ -80,13 +74,6 @@ module _ {T : Type 0} (R : Reader T) (w s : List ℕ) where
 
   -- where an image is read
   module _ (t : T) (found : R.read w ≡ finding t) where
-    -- question 18 decides
-    pub state_asked : (right : Bool) → right ≡ R.is_state t s → ask 18 right ≡ state_answer R w s
-    unfolding state_answer
-    state_asked right er =
-        asked_last 18 right ∙ ap (λ (b : Bool). ask 18 b >>= λ _. finding tt) er
-        ∙ read_on (R.read w) (λ t. R.is_state t s) (λ _. finding tt) t found
-
     module _ (right : Bool) (er : right ≡ R.is_state t s) where
       pub first_fine : right ≡ true → finding tt ≡ state_answer R w s
       unfolding state_answer
