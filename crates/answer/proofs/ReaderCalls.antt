@@ -83,6 +83,12 @@ module _ {T : Type 0} (R : Reader T) (w s : List ℕ) where
       unfolding state_answer
       first_not h = state_refused (R.read w) (λ t. R.is_state t s) (λ _. finding tt) t found (sym er ∙ h)
 
+      pub first_asked : ask 18 right ≡ state_answer R w s
+      unfolding state_answer ask ask_at ◌>>=◌
+      first_asked =
+          rw (found, er)
+          (elim (R.is_state t s) as (λ b. ask_at 18 0 b ≡ (ask_at 18 0 b >>= λ _. finding tt)) [ true ↦ refl | false ↦ refl ])
+
     module _ (long : ℕ) (el : long ≡ R.size t) where
       pub start_long : (length s ≡ long → ⊥) → outcome (refused (refusal_at 18 0 0)) s ≡ becomes s (start_call R w s)
       start_long h =
