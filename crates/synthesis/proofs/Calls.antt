@@ -87,11 +87,6 @@ pub left_call :
     → IsErrAnd r (λ g. g ≡ f) → outcome (refused (placed f)) old ≡ x → outcome (synthesis_answer r) old ≡ x
 left_call r f old x left e = left_as (λ v. outcome (synthesis_answer v) old ≡ x) r f left e
 
-pub call_by :
-    (w : List ℕ) (n n' limit limit' : ℕ) (old : List ℕ) (work marks : ℕ) → n ≡ n' → limit ≡ limit'
-    → synthesis_call w n limit old work marks ≡ synthesis_call w n' limit' old work marks
-call_by w n n' limit limit' old work marks e f = rw (e, f)
-
 -- ---- the call after these questions
 module _ (w : List ℕ) (n limit : ℕ) (old : List ℕ) (work marks : ℕ) (asked : Asked w n limit (length old) work marks) where
   abbrev t : Task

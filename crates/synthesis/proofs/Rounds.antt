@@ -184,7 +184,7 @@ module _ (w : List ℕ) (atoms n limit rows : ℕ) (c : List ℕ) (count made : 
   abbrev C : List (List ℕ)
   C = clauses_of (take (width * count) c)
 
-  pub standing_words : width * count ≤ length c
+  standing_words : width * count ≤ length c
   standing_words =
       let h = mul-le-mul_left width s.inside in
       let r = s.room in
@@ -193,15 +193,15 @@ module _ (w : List ℕ) (atoms n limit rows : ℕ) (c : List ℕ) (count made : 
   below_limit : made ≤ limit → (made ≡ limit → ⊥) → made < limit
   below_limit h ne = omega arith
 
-  pub standing_below : eqb made limit ≡ false → made < limit
+  standing_below : eqb made limit ≡ false → made < limit
   standing_below e = below_limit s.allowed (eqb-false made limit e)
 
   -- a round that has a next set, of k rows, in the work buffer v
   module _ (k : ℕ) (v c' : List ℕ) (h : Advanced t n rows (eqb made limit) C v k) where
-    pub next_words : width * k ≤ length v
+    next_words : width * k ≤ length v
     next_words = held_room rows k v h.room
 
-    pub next_room : width * k ≤ length c
+    next_room : width * k ≤ length c
     next_room =
         let i = mul-le-mul_left width h.room.inside in
         let r = s.room in

@@ -196,14 +196,11 @@ fn run(
         (buffer_after clauses.old (rounds (task_of image.now) n rows 1 (limit - 1) (first_set (task_of image.now)))) }
 {
     let mut count = atoms;
-    let mut made: usize = 1;
+    let mut made = 1;
     loop {
         let last = made == limit;
-        let step = round(image, clauses, count, atoms, n, rows, last, marks, work);
-        match step {
-            Step::Ended(end) => {
-                return finish(clauses, count, made, end);
-            }
+        match round(image, clauses, count, atoms, n, rows, last, marks, work) {
+            Step::Ended(end) => return finish(clauses, count, made, end),
             Step::Next(next) => {
                 take_rows(work, next, clauses);
                 count = next;
