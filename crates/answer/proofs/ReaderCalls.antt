@@ -75,14 +75,6 @@ module _ {T : Type 0} (R : Reader T) (w s : List ℕ) where
   -- where an image is read
   module _ (t : T) (found : R.read w ≡ finding t) where
     module _ (right : Bool) (er : right ≡ R.is_state t s) where
-      pub first_fine : right ≡ true → finding tt ≡ state_answer R w s
-      unfolding state_answer
-      first_fine h = rest_asked (R.read w) (λ t. R.is_state t s) (λ _. finding tt) t found (sym er ∙ h)
-
-      pub first_not : right ≡ false → refused (refusal_at 18 0 0) ≡ state_answer R w s
-      unfolding state_answer
-      first_not h = state_refused (R.read w) (λ t. R.is_state t s) (λ _. finding tt) t found (sym er ∙ h)
-
       pub first_asked : ask 18 right ≡ state_answer R w s
       unfolding state_answer ask ask_at ◌>>=◌
       first_asked =
