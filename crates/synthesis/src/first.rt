@@ -14,8 +14,10 @@ fn write_units(state: &[u8], words: &mut [u16])
     requires { (length state.now ≤ most_atoms) × (is_state (length state.now) state.now ≡ true) × (words.old ≡ replicate (width * length state.now) fill) }
     ensures { words.new ≡ clause_words (units_from state.now 0 (length state.now)) }
 {
+    let mut at: usize = 0;
     for (a, truth) in state.iter().enumerate() {
-        words[WIDTH * a] = Literal::new(a as u16, *truth == 1).code;
+        words[at] = Literal::new(a as u16, *truth == 1).code;
+        at += WIDTH;
     }
 }
 

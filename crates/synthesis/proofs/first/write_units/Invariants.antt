@@ -6,4 +6,7 @@ use Rattle.synthesis.proofs.first.write_units.Given as goal
 
 -- the rows of the atoms below `a` are written, the others are fill
 abbrev pub invariant-loop-a : goal.invariant-loop-a
-invariant-loop-a l = l.words ≡ clause_words (units_from l.state 0 l.a) ++ replicate (width * (length l.state - l.a)) fill
+invariant-loop-a l = record {
+  position : l.at ≡ width * l.a;
+  words : l.words ≡ clause_words (units_from l.state 0 l.a) ++ replicate (width * (length l.state - l.a)) fill;
+}
