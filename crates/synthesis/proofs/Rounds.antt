@@ -27,8 +27,7 @@ use Rattle.clause.proofs.ReadLaws.{read_right}
 use Rattle.clause.proofs.WordLaws.{words_back, words_read, words_clauses}
 use Rattle.task.specs.Reads.{task_of, Reads}
 use Rattle.clause_set.specs.Held.{held, Holds}
-use Rattle.clause_set.specs.declared.Built.{Built}
-use Rattle.clause_set.specs.declared.Built.TheVariants.{Rows, Full}
+use Rattle.std.specs.Prelude as std
 use Rattle.clause_set.proofs.Insertion.{held_room, held_size, held_words}
 use Rattle.next_set.specs.Build.{fails_below, fitted}
 use Rattle.next_set.specs.Post.{Round}
@@ -68,10 +67,10 @@ fits_some rows D E e = go (fits rows D) e
 
 -- the step to the next set that was built
 pub step_built :
-    (t : Task) (n rows : ℕ) (last : Bool) (C : List (List ℕ)) (w : List ℕ) (b : Built) → Holds rows b w (fitted rows (next t n C))
+    (t : Task) (n rows : ℕ) (last : Bool) (C : List (List ℕ)) (w : List ℕ) (b : std.Option ℕ) → Holds rows b w (fitted rows (next t n C))
     → all passes (tested t C) ≡ false → last ≡ false → Stepped t n rows last C w (step_of b)
-step_built t n rows last C w Full h fails more = (fails, more, fits_none rows (next t n C) h)
-step_built t n rows last C w (Rows k) h fails more =
+step_built t n rows last C w std.None h fails more = (fails, more, fits_none rows (next t n C) h)
+step_built t n rows last C w (std.Some k) h fails more =
     let q = fits_some rows (next t n C) (held k w) h.1 in
     record { fails = fails; more = more; few = q.0; room = h.0; set = q.1 }
 

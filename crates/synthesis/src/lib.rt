@@ -16,7 +16,6 @@ ghost use Rattle.synthesis.specs.Rounds.{Ready, Stepped, step_of, Begun, ended};
 
 use answer::{Question, Refusal, ask};
 use clause::{MOST_ROWS, WIDTH};
-use clause_set::Built;
 
 pub mod first; // first.rt: the first set
 
@@ -61,12 +60,12 @@ fn due_room() -> [u8; (task::MOST_OPERATORS + 1) * WIDTH] {
 }
 
 // The step to the next set that was built.
-fn step_to(built: Built) -> Step
+fn step_to(built: Option<usize>) -> Step
     ensures { result ≡ step_of built }
 {
     match built {
-        Built::Full => Step::Ended(End::OutOfRows),
-        Built::Rows(count) => Step::Next(count),
+        None => Step::Ended(End::OutOfRows),
+        Some(count) => Step::Next(count),
     }
 }
 
