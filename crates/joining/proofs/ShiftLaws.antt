@@ -4,10 +4,10 @@ use mathlib.Core.Path.{◌≡◌, refl, ◌∙◌, ap, ap₂, subst}
 use mathlib.Core.List.{List, [], ◌∷◌, ◌++◌, map}
 use Prim.Native.Nat.{ℕ, ◌+◌, ◌-◌, ◌*◌, ◌≤◌, ◌<◌}
 use native.Mathlib.Omega.{arith}
-use lib.ListN.{length, get_or, set, take, drop, length-append, length-map, drop_of_length-le}
-use Rattle.definitions.specs.Lists.{all, each}
+use lib.ListN.{length, get_or, set, drop, length-append, length-map, drop_of_length-le}
+use Rattle.definitions.specs.Lists.{each}
 use Rattle.definitions.specs.Literal.{most_atoms, most_literals, all_below}
-use Rattle.definitions.specs.Image.{most_image, Row, Operator, row_right, operator_right}
+use Rattle.definitions.specs.Image.{Row, Operator, operator_right}
 use Rattle.definitions.specs.Step.{operator_at}
 use Rattle.definitions.specs.TaskWords.{counted_literals, row_words, operator_words}
 use Rattle.definitions.specs.Join.{shifted, shifted_row, shifted_operator}
@@ -17,13 +17,13 @@ use Rattle.definitions.proofs.ReadLaws.{row_effect, row_conditions}
 use Rattle.definitions.proofs.Walks.{left_here}
 use Rattle.definitions.proofs.JoinLaws.{shifted_length}
 use Rattle.definitions.proofs.JoinRead.{operator_first}
-use Rattle.task.specs.Walk.{row, operator_in, rows_at}
+use Rattle.task.specs.Walk.{row, operator_in}
 use Rattle.task.specs.Reads.{task_of, Reads}
-use Rattle.task.specs.Post.{BlockGiven, BlockRead, OperatorOver}
-use Rattle.task.proofs.BlockSizes.{first_right, rows_same, precondition_few, operator_pre, block_over}
+use Rattle.task.specs.Post.{BlockGiven, RowsOver, OperatorOver}
+use Rattle.task.proofs.BlockSizes.{block_over, row_over, precondition_over, rows_over}
 use Rattle.task.proofs.BlockSizes.{each_next, each_end}
 use Rattle.writing.specs.Writing.{Wrote, Writing}
-use Rattle.writing.proofs.Writes.{write_same, write_word, write_part, write_end, word_room, part_room}
+use Rattle.writing.proofs.Writes.{write_start, write_same, write_word, write_part, write_last, write_end, write_room, word_room, part_room}
 use Rattle.joining.specs.Behind.{rows_behind, operator_behind, operators_behind, NumbersGiven, CountedGiven, RowGiven}
 
 -- ---- numbers
@@ -101,65 +101,81 @@ module _ {n e : ℕ} {cs target : List ℕ} {at : ℕ} (g : RowGiven n e cs targ
         room = (let r = g.room in omega arith);
       }
 
--- ---- rows: xs are what is left, the first of them r
-module _ (n : ℕ) (xs : List Row) (r : Row) (rs : List Row) (e : xs ≡ r ∷ rs) where
-  pub rows_next : rows_behind n xs ≡ row_words (shifted_row n r) ++ rows_behind n rs
-  unfolding rows_behind each
-  rows_next = rw e
+-- ---- rows: those that are left are xs, the first of them r
+module _
+    (n : ℕ) {xs rs : List Row} {r : Row} (e : xs ≡ r ∷ rs) {words : List ℕ} {at to : ℕ} {old now' : List ℕ}
+    (left : Writing old at words now' to (rows_behind n xs))
+  where
+    row_next : Writing old at words now' to (row_words (shifted_row n r) ++ rows_behind n rs)
+    unfolding rows_behind each
+    row_next = rw e at left
 
-  rows_room : length (rows_behind n xs) ≡ 2 + length r.conditions + length (rows_behind n rs)
-  rows_room =
-      ap length rows_next ∙ length-append (row_words (shifted_row n r)) (rows_behind n rs) ∙ ap (λ k. k + length (rows_behind n rs)) (row_length n r)
+    -- what writing it asks
+    pub row_given :
+        n ≤ most_atoms → RowsOver (most_atoms - n) xs → at + length words ≤ length old → RowGiven n r.effect r.conditions now' to
+    row_given few over room =
+        let o = row_over over e in
+        let p = part_room (row_words (shifted_row n r)) (rows_behind n rs) row_next room in
+        let l = row_length n r in
+        record { few = few; right = o.0; short = o.1; room = omega arith }
 
-  pub row_given :
-      {target : List ℕ} {to : ℕ} → n ≤ most_atoms → all (row_right (most_atoms - n)) xs ≡ true → length r.conditions ≤ most_image
-      → to + length (rows_behind n xs) ≤ length target → RowGiven n r.effect r.conditions target to
-  row_given few right short room =
-      record { few = few; right = first_right (most_atoms - n) xs r rs e right; short = short; room = (let a = rows_room in omega arith) }
+    pub row_written : {new : List ℕ} {end : ℕ} → Wrote now' to (row_words (shifted_row n r)) new end → Writing old at words new end (rows_behind n rs)
+    row_written w = write_part row_next w
 
-pub rows_end : (n : ℕ) (xs : List Row) → xs ≡ [] → rows_behind n xs ≡ []
+pub rows_written :
+    (n : ℕ) {xs : List Row} → xs ≡ [] → {words : List ℕ} {at to : ℕ} {old now' : List ℕ}
+    → Writing old at words now' to (rows_behind n xs) → Wrote old at words now' to
 unfolding rows_behind each
-rows_end n xs e = rw e
+rows_written n e left = write_end (rw e at left)
 
--- ---- an operator
+-- ---- an operator of a block, over the atoms that are left behind n: its precondition, the number of rows, the rows
 rows_are : (n : ℕ) (rs : List Row) → each row_words (map (shifted_row n) rs) ≡ rows_behind n rs
 unfolding rows_behind
 rows_are n rs = each_map row_words (shifted_row n) rs
 
--- as its block gives it: the precondition, the number of rows, the rows
-module _ (n : ℕ) (b : List ℕ) (o : Operator) (end k : ℕ) (read : BlockRead b o end k) where
-  abbrev pre : List ℕ
-  pre = take (end - 1) (drop 1 b)
+operator_words_lem :
+    (n : ℕ) (o : Operator)
+    → operator_behind n o ≡ counted_literals (shifted (2 * n) o.precondition) ++ (length o.rows ∷ rows_behind n o.rows)
+unfolding operator_behind operator_words shifted_operator
+operator_words_lem n o =
+    ap₂ (λ c l. counted_literals (shifted (2 * n) o.precondition) ++ (c ∷ l)) (length-map o.rows (shifted_row n)) (rows_are n o.rows)
 
-  abbrev rows : List Row
-  rows = rows_at b (end + 1) k
+module _
+    {n : ℕ} {b target : List ℕ} {at : ℕ} (few : n ≤ most_atoms) (over : OperatorOver (most_atoms - n) b)
+    (room : at + length (operator_behind n (operator_in b)) ≤ length target)
+  where
+    operator_start :
+        Writing target at (operator_behind n (operator_in b)) target at
+        (counted_literals (shifted (2 * n) (operator_in b).precondition) ++ (length (operator_in b).rows ∷ rows_behind n (operator_in b).rows))
+    operator_start = write_same (operator_words_lem n (operator_in b)) write_start
 
-  pub operator_words_lem : operator_behind n o ≡ counted_literals (shifted (2 * n) pre) ++ (k ∷ rows_behind n rows)
-  unfolding operator_behind operator_words shifted_operator
-  operator_words_lem =
-      rw (read.precondition, read.rows)
-      (ap₂ (λ c l. counted_literals (shifted (2 * n) o.precondition) ++ (c ∷ l)) (length-map o.rows (shifted_row n) ∙ rows_same b o end k read)
-      (rows_are n o.rows))
+    module _ {p : List ℕ} (ep : p ≡ (operator_in b).precondition) where
+      pub precondition_given : CountedGiven n p target at
+      precondition_given =
+          let o = precondition_over over in
+          let r = part_room (counted_literals (shifted (2 * n) (operator_in b).precondition)) (length (operator_in b).rows ∷ rows_behind n (operator_in b).rows) operator_start room in
+          let c = ap length (counted_words_lem n (operator_in b).precondition) in
+          let l = shifted_length (2 * n) (operator_in b).precondition in
+          rw ep (record { few = few; low = o.0; short = o.1; room = omega arith })
 
-  pub operator_length : length (operator_behind n o) ≡ 2 + length pre + length (rows_behind n rows)
-  operator_length =
-      let a = ap length operator_words_lem in
-      let c = length-append (counted_literals (shifted (2 * n) pre)) (k ∷ rows_behind n rows) in
-      let d = ap length (counted_words_lem n pre) in
-      let s = shifted_length (2 * n) pre in
-      omega arith
+      module _ {mid : List ℕ} {to : ℕ} (w : Wrote target at (counted_literals (shifted (2 * n) p)) mid to) where
+        pub rows_next : Writing target at (operator_behind n (operator_in b)) mid to (length (operator_in b).rows ∷ rows_behind n (operator_in b).rows)
+        rows_next = write_part operator_start (rw ep at w)
 
--- the precondition of an operator over the atoms that are left behind n
-pub precondition_given :
-    {n : ℕ} {b target : List ℕ} {end k at : ℕ} → n ≤ most_atoms → OperatorOver (most_atoms - n) b → BlockRead b (operator_in b) end k
-    → at + length (operator_behind n (operator_in b)) ≤ length target → CountedGiven n (take (end - 1) (drop 1 b)) target at
-precondition_given {n} {b} {target} {end} {k} few over read room =
-    record {
-      few = few;
-      low = operator_pre b (operator_in b) end k read (most_atoms - n) over.right;
-      short = (let a = precondition_few b (operator_in b) end k read in let s = over.short in omega arith);
-      room = (let a = operator_length n b (operator_in b) end k read in omega arith);
-    }
+        pub count_room : to < length mid
+        count_room = word_room rows_next room
+
+        module _ {k : ℕ} {rs : List Row} (ek : k ≡ length rs) (er : rs ≡ (operator_in b).rows) where
+          rows_counted : Writing target at (operator_behind n (operator_in b)) (set mid to k) (to + 1) (rows_behind n rs)
+          rows_counted = rw (ek, er) (write_word rows_next)
+
+          pub rows_given :
+              (n ≤ most_atoms) × (RowsOver (most_atoms - n) rs) × (to + 1 + length (rows_behind n rs) ≤ length (set mid to k))
+          rows_given = (few, rw er (rows_over over), write_room rows_counted room)
+
+          pub block_written :
+              {new : List ℕ} {end : ℕ} → Wrote (set mid to k) (to + 1) (rows_behind n rs) new end → Wrote target at (operator_behind n (operator_in b)) new end
+          block_written v = write_last rows_counted v
 
 -- ---- the operators of an image
 module _ (n : ℕ) (w : List ℕ) (i : ℕ) where

@@ -4,11 +4,14 @@ ghost use Rattle.std.specs.Prelude.{◌++◌, ◌+◌, ◌-◌, ◌*◌, ◌≤�
 ghost use Rattle.definitions.specs.Literal.{most_atoms};
 ghost use Rattle.definitions.specs.TaskWords.{counted_literals, row_words};
 ghost use Rattle.definitions.specs.Join.{shifted, shifted_row};
-ghost use Rattle.task.specs.Walk.{row, operator_in, rows_at};
+ghost use Rattle.task.specs.Walk.{row, operator_in};
+ghost use Rattle.task.specs.Rows.{rows_left};
 ghost use Rattle.task.specs.Reads.{task_of, Reads};
 ghost use Rattle.task.specs.Post.{RowsOver, OperatorOver};
 ghost use Rattle.writing.specs.Writing.{Wrote};
 ghost use Rattle.joining.specs.Behind.{rows_behind, operator_behind, operators_behind, NumbersGiven, CountedGiven, RowGiven};
+
+use task::rows::{Row, Rows, precondition};
 
 // Writes numbers, each higher by `by`.
 fn numbers(list: &[u16], by: u16, target: &mut [u16], at: usize) -> usize
@@ -50,31 +53,15 @@ fn row(effect: u16, conditions: &[u16], before: u16, target: &mut [u16], at: usi
     counted(conditions, before, target, at + 1)
 }
 
-// Writes the `count` rows of a block that begin at `from`, behind `before` atoms.
-fn rows(
-    block: &[u16],
-    from: usize,
-    count: usize,
-    before: u16,
-    target: &mut [u16],
-    at: usize,
-) -> usize
-    requires { (before ≤ most_atoms) × (RowsOver (most_atoms - before) block.now from count)
-        × (at + length (rows_behind before (rows_at block.now from count)) ≤ length target.old) }
-    ensures { Wrote target.old at (rows_behind before (rows_at block.now from count)) target.new result }
+// Writes rows, behind `before` atoms.
+fn rows(list: Rows, before: u16, target: &mut [u16], at: usize) -> usize
+    requires { (before ≤ most_atoms) × (RowsOver (most_atoms - before) (rows_left list))
+        × (at + length (rows_behind before (rows_left list)) ≤ length target.old) }
+    ensures { Wrote target.old at (rows_behind before (rows_left list.entry)) target.new result }
 {
     let mut to = at;
-    let mut next = from;
-    let mut left = count;
-    while 0 < left {
-        let task::block::RowPart {
-            effect,
-            from: start,
-            end,
-        } = task::block::row(block, next, left);
-        to = row(effect as u16, &block[start..end], before, target, to);
-        next = end;
-        left -= 1;
+    for Row { effect, conditions } in list {
+        to = row(effect, conditions, before, target, to);
     }
     to
 }
@@ -85,10 +72,10 @@ fn operator(block: &[u16], before: u16, target: &mut [u16], at: usize) -> usize
         × (at + length (operator_behind before (operator_in block.now)) ≤ length target.old) }
     ensures { Wrote target.old at (operator_behind before (operator_in block.now)) target.new result }
 {
-    let task::block::BlockHead { end, rows: count } = task::block::head(block);
-    let to = counted(&block[1..end], before, target, at);
-    target[to] = count as u16;
-    rows(block, end + 1, count, before, target, to + 1)
+    let list = Rows::of(block);
+    let to = counted(precondition(block), before, target, at);
+    target[to] = list.len() as u16;
+    rows(list, before, target, to + 1)
 }
 
 // Writes the operators of a task, behind `before` atoms.

@@ -1,23 +1,13 @@
 -- Sizes: what an operator of a block becomes, and that an operator of L words becomes 2L - 2 words. Assumes nothing.
 use mathlib.Core.Path.{◌≡◌, refl}
 use mathlib.Core.List.{List, [], ◌∷◌, ◌++◌}
-use Prim.Native.Nat.{ℕ, ◌+◌, ◌-◌, ◌*◌}
+use Prim.Native.Nat.{ℕ, ◌+◌, ◌*◌}
 use native.Mathlib.Omega.{arith}
-use lib.ListN.{length, take, drop, length-append}
+use lib.ListN.{length, length-append}
 use Rattle.definitions.specs.Lists.{each}
 use Rattle.definitions.specs.Image.{Row, Operator, rows_size, operator_size}
-use Rattle.task.specs.Walk.{rows_at}
-use Rattle.task.specs.Post.{BlockRead}
-use Rattle.task.proofs.BlockSizes.{rows_same}
 use Rattle.reencoding.specs.Words.{counted_by, row_by, rows_by, operator_by}
 use Rattle.reencoding.proofs.WordLaws.{counted_length, row_length}
-
--- ---- a block that holds operator o, as its accessors give it
-pub operator_words_lem :
-    (b : List ℕ) (o : Operator) (end k : ℕ) → BlockRead b o end k → (places : List ℕ)
-    → operator_by places o ≡ counted_by places (take (end - 1) (drop 1 b)) ++ (k ∷ rows_by places (rows_at b (end + 1) k))
-unfolding operator_by
-operator_words_lem b o end k read places = rw (read.precondition, read.rows, rows_same b o end k read)
 
 -- ---- the words that an operator becomes
 rows_length : (places : List ℕ) (rs : List Row) → length (rows_by places rs) ≡ 2 * rows_size rs

@@ -2,12 +2,14 @@
 ghost use Rattle.std.specs.Prelude.{◌≡◌, true, ◌+◌, ◌*◌, ◌%◌, ◌<◌, length};
 ghost use Rattle.definitions.specs.Literal.{all_below};
 ghost use Rattle.definitions.specs.Image.{row_right};
-ghost use Rattle.task.specs.Walk.{row, operator_in, rows_at};
+ghost use Rattle.task.specs.Walk.{row, operator_in};
+ghost use Rattle.task.specs.Rows.{rows_left};
 ghost use Rattle.task.specs.Post.{RowsOver, OperatorOver};
 ghost use Rattle.writing.specs.Writing.{Wrote};
 ghost use Rattle.reencoding.specs.Words.{atoms_of, literal_by, literals_by, counted_by, row_by, rows_by, operator_by, Ready};
 
 use literal::Literal;
+use task::rows::{Row, Rows, precondition};
 
 // 1 if a literal is negative, else 0.
 fn sign(l: Literal) -> u16
@@ -64,31 +66,17 @@ fn row(effect: Literal, conditions: &[u16], places: &[u16], target: &mut [u16], 
     counted(conditions, places, target, at + 3)
 }
 
-// Writes the `count` rows of a block that begin at `from`.
-fn rows(
-    block: &[u16],
-    from: usize,
-    count: usize,
-    places: &[u16],
-    target: &mut [u16],
-    at: usize,
-) -> usize
-    requires { (Ready places.now (rows_by places.now (rows_at block.now from count)) target.old at) × (RowsOver (atoms_of places.now) block.now from count) }
-    ensures { Wrote target.old at (rows_by places.now (rows_at block.now from count)) target.new result }
+// Writes rows.
+fn rows(list: Rows, places: &[u16], target: &mut [u16], at: usize) -> usize
+    requires { (Ready places.now (rows_by places.now (rows_left list)) target.old at) × (RowsOver (atoms_of places.now) (rows_left list)) }
+    ensures { Wrote target.old at (rows_by places.now (rows_left list.entry)) target.new result }
 {
     let mut to = at;
-    let mut next = from;
-    let mut left = count;
-    while 0 < left {
-        let task::block::RowPart {
-            effect,
-            from: start,
-            end,
-        } = task::block::row(block, next, left);
-        let code = effect as u16;
-        to = row(Literal { code }, &block[start..end], places, target, to);
-        next = end;
-        left -= 1;
+    for Row {
+        effect: code,
+        conditions,
+    } in list {
+        to = row(Literal { code }, conditions, places, target, to);
     }
     to
 }
@@ -98,8 +86,8 @@ pub fn operator(block: &[u16], places: &[u16], target: &mut [u16], at: usize) ->
     requires { (Ready places.now (operator_by places.now (operator_in block.now)) target.old at) × (OperatorOver (atoms_of places.now) block.now) }
     ensures { Wrote target.old at (operator_by places.now (operator_in block.now)) target.new result }
 {
-    let task::block::BlockHead { end, rows: count } = task::block::head(block);
-    let to = counted(&block[1..end], places, target, at);
-    target[to] = count as u16;
-    rows(block, end + 1, count, places, target, to + 1)
+    let list = Rows::of(block);
+    let to = counted(precondition(block), places, target, at);
+    target[to] = list.len() as u16;
+    rows(list, places, target, to + 1)
 }

@@ -122,10 +122,28 @@ module _ (w : List ℕ) (rd : Reads w) (i : ℕ) (h : i < length (task_of w).ope
   pub block_over : OperatorOver (task_of w).atoms b
   block_over = record { parses = given.parses; right = rw given.operator (operator_right_lem w rd i h); short = block_most }
 
--- its rows, after its head
-pub rows_over : {N : ℕ} {b : List ℕ} → OperatorOver N b → {end k : ℕ} → BlockRead b (operator_in b) end k → RowsOver N b (end + 1) k
-rows_over {N} {b} o {end} {k} read =
-    record { parses = read.parses; right = operator_rows b (operator_in b) end k read N o.right; short = o.short }
+-- its precondition and its rows
+module _ {N : ℕ} {b : List ℕ} (o : OperatorOver N b) where
+  pub precondition_over : (all_below (2 * N) (operator_in b).precondition ≡ true) × (length (operator_in b).precondition ≤ most_image)
+  unfolding operator_size
+  precondition_over = let a = block_sized b o.parses in let s = o.short in (pre_low N (operator_in b) o.right, omega arith)
+
+  pub rows_over : RowsOver N (operator_in b).rows
+  unfolding operator_size
+  rows_over = let a = block_sized b o.parses in let s = o.short in record { right = rows_right_lem N (operator_in b) o.right; short = omega arith }
+
+  pub rows_few : length (operator_in b).rows ≤ most_image
+  rows_few = let a = rows_many (operator_in b).rows in let s = rows_over.short in omega arith
+
+-- the first row, and the others
+module _ {N : ℕ} {xs rs : List Row} {r : Row} (over : RowsOver N xs) (e : xs ≡ r ∷ rs) where
+  pub row_over : (row_right N r ≡ true) × (length r.conditions ≤ most_image)
+  unfolding rows_size
+  row_over = let s = rw e at over.short in (first_right N xs r rs e over.right, omega arith)
+
+  pub others_over : RowsOver N rs
+  unfolding rows_size
+  others_over = let s = rw e at over.short in record { right = others_right N xs r rs e over.right; short = omega arith }
 
 -- ---- all operators: what is left at i
 module _ (w : List ℕ) (i : ℕ) where

@@ -2,7 +2,7 @@
 use Rattle.std.specs.Prelude.{ℕ, ◌+◌, ◌-◌, ◌≤◌, ◌<◌, ◌≡◌, true, List, ◌∷◌, length, take, drop}
 use Rattle.definitions.specs.Literal.{most_atoms}
 use Rattle.definitions.specs.Lists.{all}
-use Rattle.definitions.specs.Image.{most_image, most_operators, Operator, Task, directory, row_right, operator_right}
+use Rattle.definitions.specs.Image.{most_image, most_operators, Row, Operator, Task, rows_size, directory, row_right, operator_right}
 use Rattle.definitions.specs.Step.{operator_at}
 use Rattle.task.specs.Walk.{row, block_parses, operator_in, parses_at, rows_at}
 
@@ -34,13 +34,12 @@ pub record RowRead (b : List ℕ) (p k effect from end : ℕ) : Type 0 where
   pub next : parses_at b end (k - 1) ≡ true
   pub row : rows_at b p k ≡ row effect (take (end - from) (drop from b)) ∷ rows_at b end (k - 1)
 
--- the `count` rows that begin at `from` in a block, which is no longer than an image, are over N atoms
-pub record RowsOver (N : ℕ) (b : List ℕ) (from count : ℕ) : Type 0 where
-  pub parses : parses_at b from count ≡ true
-  pub right : all (row_right N) (rows_at b from count) ≡ true
-  pub short : length b ≤ most_image
+-- rows over N atoms, of a block that is no longer than an image
+pub record RowsOver (N : ℕ) (rs : List Row) : Type 0 where
+  pub right : all (row_right N) rs ≡ true
+  pub short : rows_size rs ≤ most_image
 
--- and so is the operator of such a block
+-- and the operator of such a block
 pub record OperatorOver (N : ℕ) (b : List ℕ) : Type 0 where
   pub parses : block_parses b ≡ true
   pub right : operator_right N (operator_in b) ≡ true

@@ -1,5 +1,5 @@
 // What stands in the block of an operator that parses: its precondition, and its rows one after the other.
-ghost use Rattle.std.specs.Prelude.{◌≡◌, true};
+ghost use Rattle.std.specs.Prelude.{◌≡◌, true, length};
 ghost use Rattle.task.specs.Walk.{block_parses, operator_in, parses_at};
 
 use super::block::{BlockHead, RowPart, head, row};
@@ -34,6 +34,13 @@ impl<'a> Rows<'a> {
             at: end + 1,
             left: rows,
         }
+    }
+
+    // How many rows are left.
+    pub fn len(&self) -> usize
+        ensures { result ≡ length (rows_left self.now) }
+    {
+        self.left
     }
 }
 
