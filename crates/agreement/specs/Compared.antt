@@ -10,7 +10,8 @@ use Rattle.definitions.specs.Coding.{to_atoms_call, from_atoms_call}
 use Rattle.definitions.specs.Checker.{Accepted, check}
 use Rattle.definitions.specs.Encoding.{encoded_image}
 use Rattle.answer.specs.Answer.{test_answer}
-use Rattle.answer.specs.declared.Tested.{Tested}
+use Rattle.std.specs.Prelude.{Result}
+use Rattle.answer.specs.declared.Refusal.{Refusal}
 use Rattle.task.specs.Reads.{task_of, Reads}
 use Rattle.clause.specs.Rows.{clauses_of}
 use Rattle.fdr_image.specs.Reads.{fdr_of, ReadsFdr}
@@ -77,7 +78,7 @@ demanded (finding a) = finding true
 demanded (refused r) = refused r
 
 -- what `agree` promises: its answer is that of the comparison, and it is what demand 3 demands
-pub record Agreed (w c : List ℕ) (marks : ℕ) (is : List ℕ) (r : Tested) : Type 0 where
+pub record Agreed (w c : List ℕ) (marks : ℕ) (is : List ℕ) (r : Result Bool Refusal) : Type 0 where
   pub compared : test_answer r ≡ comparison w c marks is
   pub demand : test_answer r ≡ demanded (check w c marks)
 

@@ -8,7 +8,7 @@ ghost use Rattle.answer.specs.Answer.{test_answer};
 ghost use Rattle.checker.specs.Accepts.{Accepts};
 ghost use Rattle.agreement.specs.Compared.{list_same, images_same, comparison, Agreed, Images, Small};
 
-use answer::{Counted, Tested, Verdict};
+use answer::Refusal;
 
 mod same; // same.rt: comparisons of answers
 mod states; // states.rt: a state of the task and a finite-domain state
@@ -64,30 +64,26 @@ fn compare_accepted(
     list: &[u16],
     marks: &mut [u8],
     room: &mut [u16],
-) -> Tested
+) -> Result<bool, Refusal>
     requires { Accepts image.now clauses.now (length marks.old) × (length room.old ≡ most_fdr_image) }
     ensures { test_answer result ≡ comparison image.now clauses.now (length marks.old) list.now }
 {
-    let written = reencoding::reencode(image, clauses, marks, room);
-    match written {
-        Counted::Refused(f) => Tested::Fails,
-        Counted::Count(words) => answer::whether(compare_images(
-            image,
-            &room[..words],
-            clauses,
-            list,
-        )),
+    match reencoding::reencode(image, clauses, marks, room) {
+        Ok(words) => Ok(compare_images(image, &room[..words], clauses, list)),
+        Err(_) => Ok(false),
     }
 }
 
 // Whether task and re-encoding agree along a list, for a set that is accepted; else the checker's refusal.
-pub fn agree(image: &[u16], clauses: &[u16], list: &[u16], marks: &mut [u8]) -> Tested
+pub fn agree(
+    image: &[u16],
+    clauses: &[u16],
+    list: &[u16],
+    marks: &mut [u8],
+) -> Result<bool, Refusal>
     ensures { Agreed image.now clauses.now (length marks.old) list.now result }
 {
-    let checked = checker::accept(image, clauses, marks);
-    if let Verdict::Refused(f) = checked {
-        return Tested::Refused(f);
-    }
+    checker::accept(image, clauses, marks)?;
     let mut room = image_room();
     compare_accepted(image, clauses, list, marks, &mut room[..])
 }

@@ -5,8 +5,6 @@ ghost use Rattle.definitions.specs.FdrStep.{run_fdr};
 ghost use Rattle.agreement.specs.Same.{same_answer, Both};
 ghost use Rattle.agreement.specs.Compared.{left_by_steps, runs_from_start, Walked, Small, SameLengths};
 
-use answer::Verdict;
-
 // The list run in both states: whether the answers are the same.
 fn run_both(
     image: &[u16],
@@ -26,17 +24,11 @@ fn run_both(
 fn walk_both(image: &[u16], encoded: &[u16], list: &[u16], state: &mut [u8], values: &mut [u16])
     ensures { Walked image.now encoded.now list.now state.old values.old state.new values.new }
 {
-    let mut i: usize = 0;
-    while i < list.len() {
-        let stepped = state::step(image, state, list[i]);
-        match stepped {
-            Verdict::Refused(f) => {
-                return;
-            }
-            Verdict::Fine => {}
+    for operator in list {
+        if state::step(image, state, *operator).is_err() {
+            return;
         }
-        fdr::step(encoded, values, list[i]);
-        i += 1;
+        let _ = fdr::step(encoded, values, *operator);
     }
 }
 

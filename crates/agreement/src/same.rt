@@ -3,81 +3,50 @@ ghost use Rattle.std.specs.Prelude.{◌≡◌, eqb};
 ghost use Rattle.answer.specs.Answer.{placed, verdict_answer, test_answer, count_answer};
 ghost use Rattle.agreement.specs.Same.{same_refusal, same_answer, both_found, same_unit, same_bool};
 
-use answer::{Counted, Refusal, Tested, Verdict};
+use answer::Refusal;
 
 // Two refusals, with their places.
 pub fn refusals(a: Refusal, b: Refusal) -> bool
     ensures { result ≡ same_refusal (placed a) (placed b) }
 {
-    if a.number != b.number {
-        return false;
-    }
-    if a.first != b.first {
-        return false;
-    }
-    a.second == b.second
+    a.question.number() == b.question.number() && a.first == b.first && a.second == b.second
 }
 
 // What two steps answer.
-pub fn verdicts(a: Verdict, b: Verdict) -> bool
+pub fn verdicts(a: Result<(), Refusal>, b: Result<(), Refusal>) -> bool
     ensures { result ≡ same_answer same_unit (verdict_answer a) (verdict_answer b) }
 {
-    match a {
-        Verdict::Fine => match b {
-            Verdict::Fine => true,
-            Verdict::Refused(g) => false,
-        },
-        Verdict::Refused(f) => match b {
-            Verdict::Fine => false,
-            Verdict::Refused(g) => refusals(f, g),
-        },
+    match (a, b) {
+        (Ok(()), Ok(())) => true,
+        (Err(f), Err(g)) => refusals(f, g),
+        _ => false,
     }
 }
 
 // Whether neither of two calls was refused.
-pub fn both_fine(a: Verdict, b: Verdict) -> bool
+pub fn both_fine(a: Result<(), Refusal>, b: Result<(), Refusal>) -> bool
     ensures { result ≡ both_found same_unit (verdict_answer a) (verdict_answer b) }
 {
-    match a {
-        Verdict::Fine => match b {
-            Verdict::Fine => true,
-            Verdict::Refused(g) => false,
-        },
-        Verdict::Refused(f) => false,
-    }
+    a.is_ok() && b.is_ok()
 }
 
 // What two goal tests say. A refused one says nothing.
-pub fn tests(a: Tested, b: Tested) -> bool
+pub fn tests(a: Result<bool, Refusal>, b: Result<bool, Refusal>) -> bool
     ensures { result ≡ both_found same_bool (test_answer a) (test_answer b) }
 {
-    match a {
-        Tested::Holds => match b {
-            Tested::Holds => true,
-            Tested::Fails => false,
-            Tested::Refused(g) => false,
-        },
-        Tested::Fails => match b {
-            Tested::Holds => false,
-            Tested::Fails => true,
-            Tested::Refused(g) => false,
-        },
-        Tested::Refused(f) => false,
+    match (a, b) {
+        (Ok(x), Ok(y)) => x == y,
+        _ => false,
     }
 }
 
 // What two list runs answer.
-pub fn counts(a: Counted, b: Counted) -> bool
+pub fn counts(a: Result<usize, Refusal>, b: Result<usize, Refusal>) -> bool
     ensures { result ≡ same_answer eqb (count_answer a) (count_answer b) }
 {
-    match a {
-        Counted::Count(j) => match b {
-            Counted::Count(k) => j == k,
-            Counted::Refused(g) => false,
-        },
-        Counted::Refused(f) => match b {
-            Counted::Count(k) => false,
-            Counted::Refused(g) => refusals(f, g),
-        },
+    match (a, b) {
+        (Ok(j), Ok(k)) => j == k,
+        (Err(f), Err(g)) => refusals(f, g),
+        _ => false,
     }
 }

@@ -10,8 +10,6 @@ ghost use Rattle.clause.specs.Rows.{clauses_of};
 ghost use Rattle.agreement.specs.Same.{both_found, same_unit, same_bool, is_found, Both};
 ghost use Rattle.agreement.specs.Compared.{same_states, Small};
 
-use answer::Verdict;
-
 // Sets both states to the initial ones: whether neither call was refused.
 pub fn set_both(image: &[u16], encoded: &[u16], state: &mut [u8], values: &mut [u16]) -> bool
     ensures { Both (both_found same_unit) (becomes state.old (start_task image.now state.old))
@@ -26,11 +24,7 @@ pub fn set_both(image: &[u16], encoded: &[u16], state: &mut [u8], values: &mut [
 fn all_hold(clauses: &[u16], state: &[u8]) -> bool
     ensures { result ≡ all (holds_in state.now) (clauses_of clauses.now) }
 {
-    let held = checker::check_true(clauses, state);
-    match held {
-        Verdict::Refused(f) => false,
-        Verdict::Fine => true,
-    }
+    checker::check_true(clauses, state).is_ok()
 }
 
 // Whether the goal tests say the same.
@@ -47,11 +41,7 @@ fn codes_in(encoded: &[u16], state: &[u8], values: &[u16], target: &mut [u16]) -
     requires { length target.old ≡ length values.now }
     ensures { result ≡ is_found (from_atoms_call encoded.now state.now (length values.now)) values.now }
 {
-    let coded = coding::encode(encoded, state, target);
-    match coded {
-        Verdict::Refused(f) => false,
-        Verdict::Fine => *target == *values,
-    }
+    coding::encode(encoded, state, target).is_ok() && *target == *values
 }
 
 // Whether the task's state, coded, gives the values.
@@ -69,11 +59,7 @@ fn decodes_in(encoded: &[u16], values: &[u16], state: &[u8], target: &mut [u8]) 
     requires { length target.old ≡ length state.now }
     ensures { result ≡ is_found (to_atoms_call encoded.now values.now (length state.now)) state.now }
 {
-    let coded = coding::decode(encoded, values, target);
-    match coded {
-        Verdict::Refused(f) => false,
-        Verdict::Fine => *target == *state,
-    }
+    coding::decode(encoded, values, target).is_ok() && *target == *state
 }
 
 // Whether the values, coded back, give the task's state.

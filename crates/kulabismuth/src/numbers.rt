@@ -6,6 +6,8 @@ ghost use Rattle.synthesis.specs.Answer.{synthesis_answer};
 ghost use Rattle.ticket.specs.Answer.{asked_answer};
 
 use answer::Refusal;
+use synthesis::Found;
+use ticket::Ticket;
 
 fn findings(value: usize, other: usize, first: &mut u64, second: &mut u64) -> u32
     ensures { returned result first.new second.new ≡ returned 0 value other }
@@ -26,51 +28,52 @@ fn refusal(f: Refusal, first: &mut u64, second: &mut u64) -> u32
 {
     *first = f.first as u64;
     *second = f.second as u64;
-    f.number as u32
+    u32::from(f.question.number())
 }
 
-pub fn verdict(v: answer::Verdict, first: &mut u64, second: &mut u64) -> u32
+pub fn verdict(v: Result<(), Refusal>, first: &mut u64, second: &mut u64) -> u32
     ensures { returned result first.new second.new ≡ returned_verdict (verdict_answer v) }
 {
     match v {
-        answer::Verdict::Fine => finding(0, first, second),
-        answer::Verdict::Refused(f) => refusal(f, first, second),
+        Ok(()) => finding(0, first, second),
+        Err(f) => refusal(f, first, second),
     }
 }
 
-pub fn test(t: answer::Tested, first: &mut u64, second: &mut u64) -> u32
+pub fn test(t: Result<bool, Refusal>, first: &mut u64, second: &mut u64) -> u32
     ensures { returned result first.new second.new ≡ returned_test (test_answer t) }
 {
     match t {
-        answer::Tested::Holds => finding(1, first, second),
-        answer::Tested::Fails => finding(0, first, second),
-        answer::Tested::Refused(f) => refusal(f, first, second),
+        Ok(holds) => finding(usize::from(holds), first, second),
+        Err(f) => refusal(f, first, second),
     }
 }
 
-pub fn count(c: answer::Counted, first: &mut u64, second: &mut u64) -> u32
+pub fn count(c: Result<usize, Refusal>, first: &mut u64, second: &mut u64) -> u32
     ensures { returned result first.new second.new ≡ returned_count (count_answer c) }
 {
     match c {
-        answer::Counted::Count(k) => finding(k, first, second),
-        answer::Counted::Refused(f) => refusal(f, first, second),
+        Ok(number) => finding(number, first, second),
+        Err(f) => refusal(f, first, second),
     }
 }
 
-pub fn made(s: synthesis::Synthesis, first: &mut u64, second: &mut u64) -> u32
+pub fn made(s: Result<Found, Refusal>, first: &mut u64, second: &mut u64) -> u32
     ensures { returned result first.new second.new ≡ returned_made (synthesis_answer s) }
 {
     match s {
-        synthesis::Synthesis::Found(rows, rounds) => findings(rows, rounds, first, second),
-        synthesis::Synthesis::Refused(f) => refusal(f, first, second),
+        Ok(Found { rows, rounds }) => findings(rows, rounds, first, second),
+        Err(f) => refusal(f, first, second),
     }
 }
 
-pub fn ticket(a: ticket::Asked, first: &mut u64, second: &mut u64) -> u32
+pub fn ticket(a: Result<Ticket, Refusal>, first: &mut u64, second: &mut u64) -> u32
     ensures { returned result first.new second.new ≡ returned_ticket (asked_answer a) }
 {
     match a {
-        ticket::Asked::Given(k) => findings(k.count as usize, k.operator as usize, first, second),
-        ticket::Asked::Refused(f) => refusal(f, first, second),
+        Ok(Ticket { count, operator }) => {
+            findings(usize::from(count), usize::from(operator), first, second)
+        }
+        Err(f) => refusal(f, first, second),
     }
 }

@@ -1,19 +1,19 @@
--- `agreement::states::codes_in`: what was coded is compared, unless it was refused.
-use Rattle.std.proofs.Common.{sym, ap, ◌∙◌}
+-- What was coded is compared, unless it was refused.
+use Rattle.std.proofs.Common.{◌∙◌, sym, ap}
 use Rattle.definitions.specs.Coding.{from_atoms_call}
-use Rattle.answer.specs.Answer.{placed, verdict_answer}
 use Rattle.answer.proofs.Laws.{outcome_of}
-use Rattle.agreement.proofs.SameLaws.{list_compared, coding_refused, coding_found}
+use Rattle.agreement.proofs.SameLaws.{coding_refused, coding_found, list_compared}
+use Rattle.agreement.proofs.OkLaws.{ok_answer, err_answer}
 use Rattle.agreement.proofs.states.codes_in.Goals as goal
 
-pub returns-in-Refused : goal.returns-in-Refused
-returns-in-Refused c =
-    coding_refused _ _ _ _ _ (ap (from_atoms_call _ _) c.requires) (placed c.in-Refused.f)
-    (outcome_of _ _ _ _ (ap verdict_answer (sym c.in-Refused.is)) c.encode-coded.ensures)
-
-pub returns-in-Fine : goal.returns-in-Fine
-returns-in-Fine c =
+pub returns-then-is_ok : goal.returns-then-is_ok
+returns-then-is_ok c =
     c.eq.ensures
     ∙ list_compared _ _
     ∙ coding_found _ _ _ _ _ (ap (from_atoms_call _ _) c.requires)
-    (outcome_of _ _ _ _ (ap verdict_answer (sym c.in-Fine.is)) c.encode-coded.ensures)
+    (outcome_of _ _ _ _ (sym (ok_answer _ (sym c.is_ok.ensures.value ∙ c.if-is_ok.true))) c.encode.ensures)
+
+pub returns-else-is_ok : goal.returns-else-is_ok
+returns-else-is_ok c =
+    let no = err_answer _ (sym c.is_ok.ensures.value ∙ c.if-is_ok.false) in
+    c.if-is_ok.false ∙ coding_refused _ _ _ _ _ (ap (from_atoms_call _ _) c.requires) _ (outcome_of _ _ _ _ (sym no.1) c.encode.ensures)
