@@ -4,9 +4,12 @@ use mathlib.Core.List.{List}
 use Prim.Native.Nat.{ℕ}
 use Rattle.definitions.specs.Answer.{Refusal, Answer, finding, refused, verdict, Outcome, outcome, ask_at, ◌>>=◌}
 use Rattle.std.specs.Result.{IsErrAnd, MatchResult}
-use Rattle.std.proofs.Common.{Result, Ok, Err}
+use Rattle.std.specs.Option.{ok_or}
+use Rattle.std.proofs.Common.{Result, Ok, Err, Option, None}
 use Rattle.std.proofs.lemmas.Result.{err_from_is_err_and}
 use Rattle.answer.specs.declared.Refusal as code
+use Rattle.answer.specs.declared.Question.{Question}
+use Rattle.answer.specs.Question.{number_of}
 use Rattle.answer.specs.Answer.{refusal_at, placed, answer_of}
 use mathlib.Core.Bool.{Bool, true, false}
 use Rattle.definitions.specs.Groups.{Written, written}
@@ -41,6 +44,16 @@ module _ {A B : Type 0} (m : Answer A) (k : A → Answer B) where
 -- the exit of a `?`: the refusal of the call is handed on
 pub left_by : {A : Type 0} (r : Result A code.Refusal) (f : code.Refusal) → IsErrAnd r (λ g. g ≡ f) → answer_of r ≡ refused (placed f)
 left_by r f h = let p = err_from_is_err_and r h in rw (p.1, p.2)
+
+-- the exit of a `?` after `ok_or` of a question
+pub left_none :
+    {A B : Type 0} (r : Result A code.Refusal) (o : Option B) (q x : Question) → IsErrAnd r (λ f. placed f ≡ refusal_at (number_of x) 0 0)
+    → o ≡ None → ◌≡◌ {A = Result B Question} (Err x) (ok_or o q) → answer_of r ≡ refused (refusal_at (number_of q) 0 0)
+left_none {B = B} r o q x h none e =
+    let p = err_from_is_err_and r h in
+    let z : ◌≡◌ {A = Result B Question} (Err x) (Err q) = rw none at e in
+    let same : x ≡ q = cc in
+    rw p.1 (ap refused (p.2 ∙ ap (λ (k : Question). refusal_at (number_of k) 0 0) same))
 
 -- what `map_err` made of a call's answer
 pub mapped_ok :

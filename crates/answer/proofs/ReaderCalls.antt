@@ -62,12 +62,6 @@ module _ {T B : Type 0} (a : Answer T) (right : T → Bool) (rest : T → Answer
     pub rest_asked : right t ≡ true → rest t ≡ asking a right rest
     rest_asked h = question_yes 18 (right t) (λ _. rest t) h ∙ read_on
 
--- a question with nothing after it
-asked_last : (q : ℕ) (b : Bool) → ask q b ≡ (ask q b >>= λ _. finding tt)
-unfolding ask ask_at ◌>>=◌
-asked_last q true = refl
-asked_last q false = refl
-
 -- ---- the calls of a kind of image
 module _ {T : Type 0} (R : Reader T) (w s : List ℕ) where
   pub first_refused : (r : Refusal) → refused r ≡ verdict (R.read w) → refused r ≡ state_answer R w s
@@ -80,21 +74,12 @@ module _ {T : Type 0} (R : Reader T) (w s : List ℕ) where
 
   -- where an image is read
   module _ (t : T) (found : R.read w ≡ finding t) where
-    -- question 18 decides
-    pub state_asked : (right : Bool) → right ≡ R.is_state t s → ask 18 right ≡ state_answer R w s
-    unfolding state_answer
-    state_asked right er =
-        asked_last 18 right ∙ ap (λ (b : Bool). ask 18 b >>= λ _. finding tt) er
-        ∙ read_on (R.read w) (λ t. R.is_state t s) (λ _. finding tt) t found
-
     module _ (right : Bool) (er : right ≡ R.is_state t s) where
-      pub first_fine : right ≡ true → finding tt ≡ state_answer R w s
-      unfolding state_answer
-      first_fine h = rest_asked (R.read w) (λ t. R.is_state t s) (λ _. finding tt) t found (sym er ∙ h)
-
-      pub first_not : right ≡ false → refused (refusal_at 18 0 0) ≡ state_answer R w s
-      unfolding state_answer
-      first_not h = state_refused (R.read w) (λ t. R.is_state t s) (λ _. finding tt) t found (sym er ∙ h)
+      pub first_asked : ask 18 right ≡ state_answer R w s
+      unfolding state_answer ask ask_at ◌>>=◌
+      first_asked =
+          rw (found, er)
+          (elim (R.is_state t s) as (λ b. ask_at 18 0 b ≡ (ask_at 18 0 b >>= λ _. finding tt)) [ true ↦ refl | false ↦ refl ])
 
     module _ (long : ℕ) (el : long ≡ R.size t) where
       pub start_long : (length s ≡ long → ⊥) → outcome (refused (refusal_at 18 0 0)) s ≡ becomes s (start_call R w s)

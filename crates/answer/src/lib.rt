@@ -3,6 +3,7 @@
 
 ghost use Rattle.std.specs.Prelude.{◌≡◌};
 ghost use Rattle.definitions.specs.Answer.{ask, ask_at};
+ghost use Rattle.definitions.specs.StepLists.{refused_after};
 ghost use Rattle.answer.specs.Answer.{placed, refusal_at, verdict_answer};
 ghost use Rattle.answer.specs.Question.{number_of};
 
@@ -94,6 +95,16 @@ impl Refusal {
             question,
             first,
             second: 0,
+        }
+    }
+
+    // The refusal of a step of a list, after so many steps.
+    pub fn after(self, steps: usize) -> Refusal
+        ensures { placed result ≡ refused_after steps (placed self) }
+    {
+        Refusal {
+            first: steps,
+            ..self
         }
     }
 }

@@ -66,10 +66,11 @@ pub fill_start : {f : ℕ → ℕ} {old : List ℕ} → Filling f old old 0
 fill_start = record { inside = omega arith; size = refl; same = refl }
 
 module _ {f : ℕ → ℕ} {old t : List ℕ} {i : ℕ} (s : Filling f old t i) where
-  pub fill_next : (x : ℕ) → i < length t → x ≡ f i → Filling f old (set t i x) (i + 1)
-  fill_next x h e =
+  pub fill_next : (x : ℕ) → i < length old → x ≡ f i → Filling f old (set t i x) (i + 1)
+  fill_next x low e =
       let n = length old in
       let size = s.size in
+      let h : i < length t = omega arith in
       let long = table_length f n in
       let inside : i < length (map f (below n)) = omega arith in
       let here : x ≡ get_or (map f (below n)) i 0 = e ∙ sym (table_at f n i (omega arith)) in
@@ -79,11 +80,11 @@ module _ {f : ℕ → ℕ} {old t : List ℕ} {i : ℕ} (s : Filling f old t i) 
         same = rw (add-one i, take-suc-set t i x h, take-suc (map f (below n)) i 0 inside, s.same, here);
       }
 
-  pub fill_end : length t ≤ i → t ≡ map f (below (length old))
+  pub fill_end : length old ≤ i → t ≡ map f (below (length old))
   fill_end h =
       let long = table_length f (length old) in
       let size = s.size in
-      sym (take_all i t h) ∙ s.same ∙ take_all i (map f (below (length old))) (omega arith)
+      sym (take_all i t (omega arith)) ∙ s.same ∙ take_all i (map f (below (length old))) (omega arith)
 
 -- ---- the words of bytes
 pub words_few : (bs : List ℕ) → 2 * length (words_of bs) ≤ length bs

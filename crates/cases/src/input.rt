@@ -45,15 +45,14 @@ pub fn bytes_room() -> [u8; MOST_BYTES]
 pub fn word(words: &[u16], i: usize) -> u16
     ensures { result ≡ get_or words.now i 0 }
 {
-    if i < words.len() { words[i] } else { 0 }
+    words.get(i).copied().unwrap_or(0)
 }
 
 // Word `i` of the input, or `most` if it is greater.
 fn word_to(words: &[u16], i: usize, most: usize) -> usize
     ensures { result ≡ min (get_or words.now i 0) most }
 {
-    let w = word(words, i) as usize;
-    if w < most { w } else { most }
+    usize::from(word(words, i)).min(most)
 }
 
 // The length of list `k`, a list of words, in the case at word `at`.
@@ -86,10 +85,8 @@ fn start(words: &[u16], at: usize, k: usize) -> usize
     ensures { result ≡ values_at words.now at k }
 {
     let mut from = at + HEADER;
-    let mut i: usize = 0;
-    while i < k {
+    for i in 0..k {
         from += stored(words, at, i);
-        i += 1;
     }
     from
 }
@@ -114,10 +111,8 @@ fn load_words(words: &[u16], from: usize, count: usize, target: &mut [u16])
     requires { from + count ≤ last_end }
     ensures { target.new ≡ words_from words.now from count (length target.old) }
 {
-    let mut i: usize = 0;
-    while i < target.len() {
-        target[i] = value(words, from, count, i);
-        i += 1;
+    for (i, word) in target.iter_mut().enumerate() {
+        *word = value(words, from, count, i);
     }
 }
 
@@ -125,10 +120,8 @@ fn load_bytes(words: &[u16], from: usize, count: usize, target: &mut [u8])
     requires { from + count ≤ last_end }
     ensures { target.new ≡ bytes_from words.now from count (length target.old) }
 {
-    let mut i: usize = 0;
-    while i < target.len() {
-        target[i] = (value(words, from, count, i) % 256) as u8;
-        i += 1;
+    for (i, byte) in target.iter_mut().enumerate() {
+        *byte = (value(words, from, count, i) % 256) as u8;
     }
 }
 

@@ -29,26 +29,10 @@ fn end_line<W: Write>(out: &mut W) -> io::Result<()> {
     writeln!(out)
 }
 
-fn wide(x: u16) -> u64 {
-    x as u64
-}
-
-fn wide_byte(x: u8) -> u64 {
-    x as u64
-}
-
-fn write_words<W: Write>(out: &mut W, list: &[u16]) -> io::Result<()> {
+fn write_list<W: Write, T: Copy + Into<u64>>(out: &mut W, list: &[T]) -> io::Result<()> {
     bar(out)?;
     for x in list {
-        field(out, wide(*x))?;
-    }
-    Ok(())
-}
-
-fn write_bytes<W: Write>(out: &mut W, list: &[u8]) -> io::Result<()> {
-    bar(out)?;
-    for x in list {
-        field(out, wide_byte(*x))?;
+        field(out, (*x).into())?;
     }
     Ok(())
 }
@@ -62,12 +46,12 @@ fn write_lent<W: Write>(
     small: &[u8],
 ) -> io::Result<()> {
     match which {
-        1 | 2 | 4 | 15 | 17 | 20 => write_bytes(out, small),
-        7 | 10 | 11 | 13 | 14 | 18 => write_words(out, list),
-        8 | 9 | 19 => write_words(out, other),
+        1 | 2 | 4 | 15 | 17 | 20 => write_list(out, small),
+        7 | 10 | 11 | 13 | 14 | 18 => write_list(out, list),
+        8 | 9 | 19 => write_list(out, other),
         22 => {
-            write_bytes(out, small)?;
-            write_words(out, list)
+            write_list(out, small)?;
+            write_list(out, list)
         }
         _ => Ok(()),
     }
@@ -166,8 +150,8 @@ fn commit_call(
 ) -> u32 {
     let mut count = input::word(list, 0);
     let number = kulabismuth::kb_commit(image, state, &mut count, y, x, first, second);
-    if 0 < list.len() {
-        list[0] = count;
+    if let Some(word) = list.first_mut() {
+        *word = count;
     }
     number
 }
@@ -202,25 +186,15 @@ fn call(
     first: &mut u64,
     second: &mut u64,
 ) -> u32 {
-    if which < 5 {
-        return task_call(which, x, image, list, small, first, second);
+    match which {
+        0..=4 => task_call(which, x, image, list, small, first, second),
+        5..=9 => clause_call(which, x, y, image, list, other, small, first, second),
+        10..=16 => fdr_call(which, x, image, list, other, small, first, second),
+        17 | 18 => dimacs_call(which, image, list, small, first, second),
+        19 => kulabismuth::kb_join(image, list, other, first, second),
+        20 => kulabismuth::kb_closure(image, list, x, small, first, second),
+        _ => ticket_call(which, x, y, image, list, small, first, second),
     }
-    if which < 10 {
-        return clause_call(which, x, y, image, list, other, small, first, second);
-    }
-    if which < 17 {
-        return fdr_call(which, x, image, list, other, small, first, second);
-    }
-    if which < 19 {
-        return dimacs_call(which, image, list, small, first, second);
-    }
-    if which < 20 {
-        return kulabismuth::kb_join(image, list, other, first, second);
-    }
-    if which < 21 {
-        return kulabismuth::kb_closure(image, list, x, small, first, second);
-    }
-    ticket_call(which, x, y, image, list, small, first, second)
 }
 
 // ---- The cases
@@ -254,7 +228,7 @@ fn run_lists<W: Write>(
         &mut first,
         &mut second,
     );
-    field(out, number as u64)?;
+    field(out, number.into())?;
     field(out, first)?;
     field(out, second)?;
     write_lent(out, which, list, other, small)?;

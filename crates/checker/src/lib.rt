@@ -17,17 +17,13 @@ ghost use Rattle.checker.specs.Search.{false_answer, FirstFlag, Judging};
 
 use answer::{Question, Refusal, ask, ask_at};
 use clause::WIDTH;
-use clause::place::RowPlace;
 
 // Whether all clauses hold in a state, or a refusal that names the lowest one that is false there.
 pub fn check_true(clauses: &[u16], state: &[u8]) -> Result<(), Refusal>
     ensures { verdict_answer result ≡ false_answer (first_fail (holds_in state.now) 0 (clauses_of clauses.now)) }
 {
-    let mut place = RowPlace::first();
-    while place.is_in(clauses) {
-        let holds = clause::holds(place.row(clauses), state);
-        ask_at(Question::ClauseFalse, place.number, holds)?;
-        place = place.next();
+    for (number, row) in clauses.chunks_exact(WIDTH).enumerate() {
+        ask_at(Question::ClauseFalse, number, clause::holds(row, state))?;
     }
     Ok(())
 }

@@ -9,4 +9,5 @@ pub mod ClauseLaws
 pub mod WordLaws
 pub mod Rest
 pub mod RowWalks
+pub mod ClauseWalks
 pub mod Insert

@@ -9,7 +9,9 @@ use lib.ListN.{length, take, drop, length-append, length-drop}
 use lib.Seq.{drop-drop, take_at, drop_at}
 use denote.Ref.{Bor}
 use Rattle.std.specs.Prelude.{Some, None}
+use Rattle.std.specs.declared.iter.Enumerate.{Enumerate}
 use Rattle.std.specs.declared.slice.ChunksExact.{ChunksExact}
+use Rattle.std.specs.Iterator.Adapters.{enumerate_source, enumerate_count, enumerate_steps}
 use Rattle.std.specs.Slice.Iter.{chunks_exact_rest, chunks_exact_size, chunks_exact_steps}
 use Rattle.std.specs.Iterator.{AlwaysYields}
 use Rattle.std.proofs.lemmas.Iterator.{YieldsList}
@@ -27,10 +29,6 @@ pub walk_start : {w : List ℕ} {it : ChunksExact ℕ} → chunks_exact_size it 
 walk_start {w} size rest = record { size = size; rest = rest ∙ sym (ap (λ (k : ℕ). drop k w) (mul-zero width)); inside = omega arith }
 
 module _ {w : List ℕ} {it : ChunksExact ℕ} {n : ℕ} (walked : Walked w it n) where
-  pub walk_can : 0 < chunks_exact_size it
-  unfolding width
-  walk_can = omega (arith, walked.size)
-
   left : length (chunks_exact_rest it) ≡ length w - width * n
   left = ap length walked.rest ∙ length-drop (width * n) w
 
@@ -80,3 +78,32 @@ pub rows_yielded :
     → YieldsList (chunks_exact_steps {A = ℕ}) (λ x. x.now) it (map (row_at w) (below (row_count w)))
 unfolding below
 rows_yielded w {it} size rest = record { runs = rows_always w (row_count w) 0 it (walk_start size rest) (omega arith) }
+
+-- ---- walks by `chunks_exact(WIDTH).enumerate()`: the rows before row n are passed, and the next number is n
+pub record Numbered (w : List ℕ) (it : Enumerate (ChunksExact ℕ)) (n : ℕ) : Type 0 where
+  pub number : enumerate_count it ≡ n
+  pub walk : Walked w (enumerate_source it) n
+
+pub numbered_start :
+    {w : List ℕ} {it : Enumerate (ChunksExact ℕ)} {rows : ChunksExact ℕ} → enumerate_source it ≡ rows → enumerate_count it ≡ 0
+    → chunks_exact_size rows ≡ width → chunks_exact_rest rows ≡ w → Numbered w it 0
+numbered_start source number size rest = record { number = number; walk = rw source (walk_start size rest) }
+
+module _ {w : List ℕ} {it : Enumerate (ChunksExact ℕ)} {n : ℕ} (numbered : Numbered w it n) where
+  pub numbered_end : (it' : Enumerate (ChunksExact ℕ)) → enumerate_steps (chunks_exact_steps {A = ℕ}) it None it' → row_count w ≤ n
+  numbered_end it' step = walk_end numbered.walk (enumerate_source it') step.0
+
+  module _
+      (i : ℕ) (row : Bor (List ℕ)) (it' : Enumerate (ChunksExact ℕ)) (step : enumerate_steps (chunks_exact_steps {A = ℕ}) it (Some (i, row)) it') where
+    pub numbered_is : i ≡ n
+    numbered_is = step.1 ∙ numbered.number
+
+    pub numbered_row : row.now ≡ row_at w n
+    numbered_row = walk_row numbered.walk row (enumerate_source it') step.0
+
+    pub numbered_inside : n < row_count w
+    numbered_inside = walk_inside numbered.walk row (enumerate_source it') step.0
+
+    pub numbered_on : Numbered w it' (n + 1)
+    numbered_on =
+        record { number = omega (arith, step.2, numbered.number); walk = walk_on numbered.walk row (enumerate_source it') step.0 }

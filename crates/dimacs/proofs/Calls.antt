@@ -1,16 +1,17 @@
 -- The answers of `write`: a refusal of questions 1 to 9, question 26, the text. Assumes nothing.
 use mathlib.Core.Path.{◌≡◌, sym, ap}
 use mathlib.Core.List.{List}
-use Prim.Native.Nat.{ℕ, ◌≤◌, ◌<◌}
+use Prim.Native.Nat.{ℕ, ◌≤◌}
+use lib.Dec.{leb}
 use lib.ListN.{length}
-use Rattle.definitions.specs.Answer.{Refusal, finding, refused, outcome, verdict, ◌>>=◌}
+use Rattle.definitions.specs.Answer.{Refusal, finding, refused, outcome, verdict, ask, ◌>>=◌}
 use Rattle.definitions.specs.Groups.{written}
 use Rattle.definitions.specs.Dimacs.{dimacs_text, write_dimacs}
-use Rattle.answer.specs.Answer.{refusal_at}
+use Rattle.answer.proofs.Laws.{written_left}
 use Rattle.task.specs.Reads.{task_of}
 use Rattle.clause.specs.Rows.{clauses_of}
 use Rattle.writing.specs.Writing.{Wrote}
-use Rattle.writing.proofs.Target.{fits_not, fits_done}
+use Rattle.writing.proofs.Target.{fits_done}
 use Rattle.reading.specs.Reading.{read_both, BothRead}
 use Rattle.reading.proofs.Questions.{both_refused}
 use Rattle.dimacs.specs.Write.{text_answer}
@@ -27,9 +28,9 @@ module _ (w c old : List ℕ) where
   write_rest both atoms counted = rw (both.task.found, counted, both.clauses.read)
 
 module _ (N : ℕ) (C : List (List ℕ)) (old : List ℕ) (n : ℕ) (size : n ≡ length (dimacs_text N C)) where
-  pub text_not : length old < n → outcome (refused (refusal_at 26 0 0)) old ≡ written old (text_answer N C (length old))
+  pub text_not : (r : Refusal) → refused r ≡ ask 26 (leb n (length old)) → outcome (refused r) old ≡ written old (text_answer N C (length old))
   unfolding text_answer
-  text_not h = fits_not 26 (length (dimacs_text N C)) (dimacs_text N C) old (rw size at h)
+  text_not r e = written_left (ask 26 (leb (length (dimacs_text N C)) (length old))) _ old r (rw size at e)
 
   pub text_done :
       n ≤ length old → {new : List ℕ} {end : ℕ} → Wrote old 0 (dimacs_text N C) new end

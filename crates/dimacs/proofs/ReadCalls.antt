@@ -3,7 +3,6 @@ use mathlib.Core.Bool.{Bool, true, false, ◌&&◌}
 use mathlib.Core.Path.{◌≡◌, refl, sym, ◌∙◌, ap, subst}
 use mathlib.Core.List.{List, ◌++◌}
 use Prim.Native.Nat.{ℕ, ◌*◌, ◌≤◌, ◌<◌}
-use native.Mathlib.Omega.{arith}
 use lib.Dec.{leb}
 use lib.ListN.{length, take, drop}
 use lib.Seq.{length-take-le}
@@ -20,8 +19,6 @@ use Rattle.dimacs_rows.proofs.Clauses.{left_most, form_left, clauses_said_lem}
 use Rattle.answer.specs.Answer.{refusal_at}
 use Rattle.answer.proofs.Laws.{verdict_refused}
 use Rattle.task.specs.Reads.{task_of, Reads}
-use Rattle.writing.specs.Writing.{Wrote}
-use Rattle.writing.proofs.Writes.{wrote_front}
 use Rattle.dimacs_form.specs.Form.{FormAt}
 use Rattle.dimacs_rows.specs.Reading.{clauses_at, Clauses}
 use Rattle.dimacs.specs.Read.{rows_answer, form_answer, RowsRead}
@@ -57,15 +54,15 @@ module _ (D : List (List ℕ)) (old : List ℕ) where
         rw (le-leb (length (distinct D)) most_rows (rw r.set.count at few), le-leb (width * length (distinct D)) (length old) (rw r.set.count at h))
 
     pub rows_done :
-        width * k ≤ length w → width * k ≤ length old → {new : List ℕ} {end : ℕ} → Wrote old 0 (take (width * k) w) new end
-        → outcome (finding k) new ≡ written old (rows_answer D (length old))
+        width * k ≤ length w → width * k ≤ length old → (ws : List ℕ) → ws ≡ take (width * k) w
+        → outcome (finding k) (ws ++ drop (width * k) old) ≡ written old (rows_answer D (length old))
     unfolding rows_answer written ◌>>=◌ ask ask_at
-    rows_done inside h {new = new} v =
+    rows_done inside h ws e =
+        let size = ap length e ∙ length-take-le (width * k) w inside in
         rw (r.fits, enough h)
-        (ap (λ n. outcome (finding n) new) r.set.count
+        (ap (λ n. outcome (finding n) (ws ++ drop (width * k) old)) r.set.count
         ∙ ap (outcome (finding (length (distinct D))))
-        (wrote_front (let l = length-take-le (width * k) w inside in omega arith) v
-        ∙ ap (λ z. z ++ drop (length z) old) r.set.words))
+        (ap (λ n. ws ++ drop n old) (sym size) ∙ ap (λ z. z ++ drop (length z) old) (e ∙ r.set.words)))
 
 -- ---- question 24
 module _ (N : ℕ) (text old : List ℕ) where

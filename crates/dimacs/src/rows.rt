@@ -9,22 +9,22 @@ ghost use Rattle.dimacs_rows.specs.Reading.{clauses_at, Clauses};
 ghost use Rattle.dimacs_rows.specs.Rows.{Buffers};
 ghost use Rattle.dimacs.specs.Read.{rows_answer, form_answer, RowsRead};
 
-use answer::{Counted, Refusal};
+use answer::{Question, Refusal};
 use clause::WIDTH;
 use dimacs_rows::Unread;
 
 // Question 26 of the target, and the first rows written.
-fn write_rows(rows: &[u16], count: usize, clauses: &mut [u16]) -> Counted
+fn write_rows(rows: &[u16], count: usize, clauses: &mut [u16]) -> Result<usize, Refusal>
     requires { width * count ≤ length rows.now }
     ensures { (D : List (List ℕ)) → RowsRead D rows.now count → outcome (count_answer result) clauses.new
         ≡ written clauses.old (rows_answer D (length clauses.old)) }
 {
     let end = WIDTH * count;
     if clauses.len() < end {
-        return answer::refuse_count(Refusal::TEXT_ROOM);
+        return Err(Question::TextRoom.into());
     }
-    writing::words(&rows[..end], clauses, 0);
-    Counted::Count(count)
+    clauses[..end].copy_from_slice(&rows[..end]);
+    Ok(count)
 }
 
 // Questions 25 and 26 of the clauses from a place on, and their rows written, with two buffers for these.
@@ -34,19 +34,19 @@ fn read_rows(
     rows: &mut [u16],
     work: &mut [u16],
     clauses: &mut [u16],
-) -> Counted
+) -> Result<usize, Refusal>
     requires { Clauses text.now from × Buffers rows.old work.old }
     ensures { outcome (count_answer result) clauses.new ≡ written clauses.old (rows_answer (clauses_at text.now from) (length clauses.old)) }
 {
     match dimacs_rows::collect(text, from, rows, work) {
         Ok(count) => write_rows(rows, count, clauses),
-        Err(Unread::Unfit) => answer::refuse_count(Refusal::TEXT_CLAUSE),
-        Err(Unread::Full) => answer::refuse_count(Refusal::TEXT_ROOM),
+        Err(Unread::Unfit) => Err(Question::TextClause.into()),
+        Err(Unread::Full) => Err(Question::TextRoom.into()),
     }
 }
 
 // Questions 25 and 26 of the clauses from a place on, and their rows written.
-fn read_from(text: &[u8], from: usize, clauses: &mut [u16]) -> Counted
+fn read_from(text: &[u8], from: usize, clauses: &mut [u16]) -> Result<usize, Refusal>
     requires { Clauses text.now from }
     ensures { outcome (count_answer result) clauses.new ≡ written clauses.old (rows_answer (clauses_at text.now from) (length clauses.old)) }
 {
@@ -56,12 +56,10 @@ fn read_from(text: &[u8], from: usize, clauses: &mut [u16]) -> Counted
 }
 
 // Questions 24 to 26 of a text over the atoms, and its rows written.
-pub fn read_form(text: &[u8], atoms: usize, clauses: &mut [u16]) -> Counted
+pub fn read_form(text: &[u8], atoms: usize, clauses: &mut [u16]) -> Result<usize, Refusal>
     requires { atoms ≤ most_atoms }
     ensures { outcome (count_answer result) clauses.new ≡ written clauses.old (form_answer atoms text.now (length clauses.old)) }
 {
-    match dimacs_form::check_form(text, atoms) {
-        Some(from) => read_from(text, from, clauses),
-        None => answer::refuse_count(Refusal::TEXT_FORM),
-    }
+    let from = dimacs_form::check_form(text, atoms).ok_or(Question::TextForm)?;
+    read_from(text, from, clauses)
 }

@@ -115,7 +115,7 @@ fn run_noted(
     ensures { outcome (count_answer result) state.new ≡ run_from (fdr_step (fdr_of image.now)) state.old 0 list.now }
 {
     for (steps, operator) in list.iter().enumerate() {
-        step_noted(image, state, *operator, changes).map_err(|f| Refusal { first: steps, ..f })?;
+        step_noted(image, state, *operator, changes).map_err(|f| f.after(steps))?;
     }
     Ok(list.len())
 }

@@ -1,20 +1,18 @@
 -- The rows that are to be weakened, and what is added for them. Assumes nothing.
-use mathlib.Core.Bool.{true, false, not, ◌||◌, cond, false≢true, and-true, and-false}
-use mathlib.Core.Logic.{◌⊎◌, inl, inr}
-use mathlib.Core.Option.{Option, none, some}
-use mathlib.Core.Path.{◌≡◌, sym, ◌∙◌, ap, subst}
-use mathlib.Core.List.{List, [], ◌∷◌, ◌++◌, map}
-use Prim.Native.Nat.{ℕ, zero, suc, ◌+◌, ◌-◌, ◌*◌, ◌≤◌, ◌<◌}
+use mathlib.Core.Bool.{true, false, and-true, and-false}
+use mathlib.Core.Option.{Option}
+use mathlib.Core.Path.{◌≡◌, sym, ◌∙◌, ap}
+use mathlib.Core.List.{List, []}
+use Prim.Native.Nat.{ℕ, ◌<◌}
 use native.Mathlib.Omega.{arith}
 use lib.Dec.{eqb}
 use lib.ListN.{length, get_or}
 use borrow.Author.Tests.{eqb-true}
-use Rattle.definitions.specs.Lists.{any, each, range}
+use Rattle.definitions.specs.Lists.{each}
 use Rattle.definitions.specs.Closure.{has}
-use Rattle.definitions.specs.Clauses.{width, clause_of, row_at}
+use Rattle.definitions.specs.Clauses.{clause_of, row_at}
 use Rattle.definitions.proofs.ListLaws.{and_left}
-use Rattle.definitions.specs.Clauses.{GoodClause}
-use Rattle.clause.specs.Rows.{row_count, clauses_of, RightRows}
+use Rattle.clause.specs.Rows.{row_count, clauses_of}
 use Rattle.clause.proofs.RowLaws.{clauses_at_lem, clause_in}
 use Rattle.clause.proofs.ClauseLaws.{clause_good}
 use Rattle.clause_set.specs.Put.{put_all, extended}

@@ -1,34 +1,32 @@
 -- All clauses tested under all operators. Assumes nothing.
-use mathlib.Core.Bool.{Bool, true, false, not, ◌&&◌, ◌||◌, cond, false≢true}
-use mathlib.Core.Path.{◌≡◌, refl, sym, ◌∙◌, ap, subst}
+use mathlib.Core.Bool.{Bool, true, false, not, ◌&&◌, ◌||◌}
+use mathlib.Core.Path.{◌≡◌, refl, ◌∙◌, ap}
 use mathlib.Core.List.{List, [], ◌∷◌, ◌++◌, map, Memᴰ}
-use Prim.Native.Nat.{ℕ, zero, suc, ◌+◌, ◌-◌, ◌*◌, ◌≤◌, ◌<◌}
+use Prim.Native.Nat.{ℕ, zero, suc, ◌+◌, ◌≤◌, ◌<◌}
 use native.Mathlib.Numerals.{add-one}
 use native.Mathlib.Omega.{arith}
 use lib.Dec.{eqb}
-use lib.ListN.{length, get_or, take, drop, replicate}
+use lib.ListN.{length, get_or, take, replicate}
 use lib.Seq.{take-suc, take-length}
-use Rattle.definitions.specs.Lists.{any, all, keep}
+use Rattle.definitions.specs.Lists.{any, all}
 use Rattle.definitions.specs.Image.{most_operators, Operator, Task}
 use Rattle.definitions.specs.Clauses.{width}
 use Rattle.definitions.specs.Step.{no_operator, operator_at}
-use Rattle.definitions.specs.Closure.{has, bit}
+use Rattle.definitions.specs.Closure.{bit}
 use Rattle.definitions.specs.Kept.{kept}
 use Rattle.definitions.specs.Synthesis.{tested, passes}
-use Rattle.clause.specs.Rows.{row_count, clauses_of, ClausesRead}
+use Rattle.clause.specs.Rows.{clauses_of}
 use Rattle.clause.proofs.ClauseLaws.{clause_good}
 use Rattle.clause.proofs.ReadLaws.{read_right}
-use Rattle.clause.proofs.RowLaws.{clauses_length}
 use Rattle.task.specs.Reads.{task_of, Reads}
 use Rattle.task.proofs.Questions.{task_read}
-use Rattle.task.specs.Walk.{operator_in}
 use Rattle.task.specs.Post.{BlockGiven}
 use Rattle.judge.specs.Judging.{flag_more}
 use Rattle.judge.specs.Promise.{Judged, BulkGiven, Read}
 use Rattle.judge.proofs.Keeping.{given_operator}
 use Rattle.propagation.proofs.MarkedSets.{bit_back}
-use Rattle.next_set.specs.Build.{fails_below, survivors}
-use Rattle.next_set.specs.Post.{ReadWithRoom, TestedWithRoom, WeakensAt}
+use Rattle.next_set.specs.Build.{fails_below}
+use Rattle.next_set.specs.Post.{ReadWithRoom}
 use Rattle.next_set.proofs.Flags.{flag_map}
 use Rattle.next_set.proofs.NextSet.{all_pass}
 
@@ -57,24 +55,6 @@ pub read_sizes : (w c : List ℕ) (atoms : ℕ) → Read w c atoms → (f : List
 read_sizes w c atoms r f m =
     let g = clause_good atoms c (read_right atoms c r.clauses) f m in
     (g.some_literal, g.most)
-
--- room of the same length serves as well
-module _ (w c : List ℕ) (atoms : ℕ) where
-  pub tested_on :
-      (due marks fails marks' fails' : List ℕ) → length marks' ≡ length marks → length fails' ≡ length fails
-      → TestedWithRoom w c atoms due marks fails → TestedWithRoom w c atoms due marks' fails'
-  tested_on due marks fails marks' fails' m f r =
-      let g = r.given in
-      record {
-        given = record { read = g.read; room = (let h = g.room in omega arith); flagged = f ∙ g.flagged };
-        noted = r.noted;
-      }
-
-  pub weakens_on :
-      (k : ℕ) (due marks fails marks' fails' : List ℕ) → length marks' ≡ length marks → length fails' ≡ length fails
-      → WeakensAt w c atoms k due marks fails → WeakensAt w c atoms k due marks' fails'
-  weakens_on k due marks fails marks' fails' m f r =
-      record { tested = tested_on due marks fails marks' fails' m f r.tested; some_literal = r.some_literal; short = r.short }
 
 -- ---- all operators
 module _ (t : Task) (C : List (List ℕ)) where

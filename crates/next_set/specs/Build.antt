@@ -1,5 +1,5 @@
 -- The next set as it is built: the survivors, then the weakened clauses by rising length. Assumes nothing.
-use Rattle.std.specs.Prelude.{Bool, true, false, not, ◌&&◌, ◌||◌, cond, List, [], ◌∷◌, ℕ, zero, suc, eqb, length, get_or}
+use Rattle.std.specs.Prelude.{Bool, false, not, ◌&&◌, ◌||◌, cond, List, [], ℕ, zero, suc, eqb, length, get_or}
 use Rattle.std.proofs.Math.Option.{Option, none, some}
 use Rattle.definitions.specs.Lists.{any, all, keep, each, range}
 use Rattle.definitions.specs.Image.{Operator, Task}

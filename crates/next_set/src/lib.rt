@@ -9,8 +9,7 @@ ghost use Rattle.clause_set.specs.Held.{Holds};
 ghost use Rattle.next_set.specs.Build.{fitted};
 ghost use Rattle.next_set.specs.Post.{Copied, TestedRound};
 
-use clause::place::RowPlace;
-use clause_set::Built;
+use clause::WIDTH;
 
 pub mod test; // test.rt: the test of all clauses under all operators
 pub mod weaken; // weaken.rt: failing clauses with one literal more
@@ -20,19 +19,13 @@ fn copy_unflagged(clauses: &[u16], flags: &[u8], work: &mut [u16]) -> usize
     requires { (length flags.now ≡ row_count clauses.now) × (length clauses.now ≤ length work.old) }
     ensures { Copied clauses.now flags.now work.new result }
 {
-    let mut to = RowPlace::first();
-    let mut from = RowPlace::first();
-    while from.is_in(clauses) {
-        let here = from;
-        from = from.next();
-        let number = here.number;
-        if flags[number] == 1 {
-            continue;
+    let mut to: usize = 0;
+    for (i, row) in clauses.chunks_exact(WIDTH).enumerate() {
+        if flags[i] != 1 {
+            to = writing::words(row, work, to);
         }
-        writing::words(here.row(clauses), work, to.at);
-        to = to.next();
     }
-    to.number
+    to / WIDTH
 }
 
 // Builds the next set in `work`, where the clauses that fail have their flag and `due` says which operators fail clauses of how many literals.
@@ -47,7 +40,7 @@ pub fn next_set(
     marks: &mut [u8],
     fails: &mut [u8],
     work: &mut [u16],
-) -> Built
+) -> Option<usize>
     requires { TestedRound image.now clauses.now atoms most rows failing.now due.now marks.old fails.old work.old }
     ensures { Holds rows result work.new (fitted rows (next (task_of image.now) most (clauses_of clauses.now))) }
 {

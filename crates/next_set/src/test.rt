@@ -13,7 +13,6 @@ ghost use Rattle.next_set.specs.Build.{fails_below};
 ghost use Rattle.next_set.specs.Post.{ReadWithRoom, FlagsAdded, FailuresNoted};
 
 use clause::WIDTH;
-use clause::place::RowPlace;
 
 // Adds flags of clauses to those of `to`. In `due`, from position `at` on, it flags the numbers of literals of the flagged clauses.
 fn add_flags(clauses: &[u16], flags: &[u8], to: &mut [u8], due: &mut [u8], at: usize)
@@ -21,17 +20,11 @@ fn add_flags(clauses: &[u16], flags: &[u8], to: &mut [u8], due: &mut [u8], at: u
     ensures { (p : List ℕ → Bool) → flags.now
         ≡ map (λ f. bit (p f)) (clauses_of clauses.now) → FlagsAdded p (clauses_of clauses.now) at to.old to.new due.old due.new }
 {
-    let mut place = RowPlace::first();
-    while place.number < flags.len() {
-        let here = place;
-        place = place.next();
-        let number = here.number;
-        if flags[number] != 1 {
-            continue;
+    for (i, row) in clauses.chunks_exact(WIDTH).enumerate() {
+        if flags[i] == 1 {
+            to[i] = 1;
+            literal::flags::put(due, at + clause::literals(row).len(), 1);
         }
-        to[number] = 1;
-        let literals = clause::literals(here.row(clauses));
-        literal::flags::put(due, at + literals.len(), 1);
     }
 }
 
@@ -39,14 +32,7 @@ fn add_flags(clauses: &[u16], flags: &[u8], to: &mut [u8], due: &mut [u8], at: u
 pub fn some_flag(flags: &[u8]) -> bool
     ensures { result ≡ any (λ x. eqb x 1) flags.now }
 {
-    let mut i: usize = 0;
-    while i < flags.len() {
-        if flags[i] == 1 {
-            return true;
-        }
-        i += 1;
-    }
-    false
+    flags.contains(&1)
 }
 
 // Flags the clauses that fail under an operator.
@@ -99,12 +85,9 @@ pub fn test(
     ensures { (failing.new ≡ map (λ f. bit (fails_below (task_of image.now) (clauses_of clauses.now) (length (task_of image.now).operators) f))
         (clauses_of clauses.now)) × FailuresNoted (task_of image.now) (clauses_of clauses.now) due.new }
 {
-    let operators = task::operators(image);
     literal::flags::clear(failing);
     literal::flags::clear(due);
-    let mut operator: usize = 0;
-    while operator < operators {
+    for operator in 0..task::operators(image) {
         test_operator(image, clauses, atoms, operator, marks, fails, failing, due);
-        operator += 1;
     }
 }

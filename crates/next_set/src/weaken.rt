@@ -19,7 +19,6 @@ ghost use Rattle.next_set.specs.Post.{Listed, ListedGuarantees, Weakening, Weake
 
 use clause::WIDTH;
 use clause::place::RowPlace;
-use clause_set::Built;
 
 // Lists the literals that have their flag.
 fn list_flagged(flags: &[u8], list: &mut [u16]) -> usize
@@ -27,15 +26,11 @@ fn list_flagged(flags: &[u8], list: &mut [u16]) -> usize
     ensures { Listed flags.now list.new result }
 {
     let mut count: usize = 0;
-    let mut l: usize = 0;
-    while l < flags.len() {
-        let at = l;
-        l += 1;
-        if flags[at] != 1 {
-            continue;
+    for (l, flag) in flags.iter().enumerate() {
+        if *flag == 1 {
+            list[count] = l as u16;
+            count += 1;
         }
-        list[count] = at as u16;
-        count += 1;
     }
     count
 }
@@ -75,15 +70,11 @@ fn is_due(clauses: &[u16], flags: &[u8], k: usize, place: RowPlace) -> bool
     requires { (length flags.now ≡ row_count clauses.now) × AtRow clauses.now place }
     ensures { result ≡ is_due (clauses_of clauses.now) flags.now k place.number }
 {
-    let number = place.number;
-    if flags[number] != 1 {
-        return false;
-    }
-    let literals = clause::literals(place.row(clauses));
-    literals.len() == k
+    flags[place.number] == 1 && clause::literals(place.row(clauses)).len() == k
 }
 
-// Puts the clause of the row at a place in with each literal of a list, if it has `k` literals and its flag.
+// Puts the clause of the row at a place in with each literal of a list, if it has `k` literals and its flag. Here and below, what is
+// given is the number of rows then, or `None` if a clause did not fit.
 fn weaken_row(
     clauses: &[u16],
     flags: &[u8],
@@ -93,14 +84,14 @@ fn weaken_row(
     work: &mut [u16],
     count: usize,
     rows: usize,
-) -> Built
+) -> Option<usize>
     requires { Weakening clauses.now flags.now list.now k × Room rows count work.old × AtRow clauses.now place }
     ensures { Holds rows result work.new
         (put_all rows (added_row (clauses_of clauses.now) flags.now list.now k place.number)
         (some (held count work.old))) }
 {
     if !is_due(clauses, flags, k, place) {
-        return Built::Rows(count);
+        return Some(count);
     }
     let literals = clause::literals(place.row(clauses));
     clause_set::put_with_each(literals, list, work, count, rows)
@@ -115,7 +106,7 @@ fn weaken_rows(
     work: &mut [u16],
     count: usize,
     rows: usize,
-) -> Built
+) -> Option<usize>
     requires { Weakening clauses.now flags.now list.now k × Room rows count work.old }
     ensures { Holds rows result work.new (put_all rows
         (each (added_row (clauses_of clauses.now) flags.now list.now k) (range 0 (row_count clauses.now))) (some (held count work.old))) }
@@ -123,18 +114,10 @@ fn weaken_rows(
     let mut taken = count;
     let mut place = RowPlace::first();
     while place.number < flags.len() {
-        let built = weaken_row(clauses, flags, list, k, place, work, taken, rows);
-        match built {
-            Built::Full => {
-                return Built::Full;
-            }
-            Built::Rows(more) => {
-                taken = more;
-            }
-        }
+        taken = weaken_row(clauses, flags, list, k, place, work, taken, rows)?;
         place = place.next();
     }
-    Built::Rows(taken)
+    Some(taken)
 }
 
 // Puts each clause of `k` literals that fails under the operator of a block in with each literal that the operator guarantees.
@@ -148,7 +131,7 @@ fn weaken_under(
     work: &mut [u16],
     count: usize,
     rows: usize,
-) -> Built
+) -> Option<usize>
     requires { BulkGiven atoms clauses.now clauses.now block.now marks.old fails.old × (k < width) × Room rows count work.old }
     ensures { (t : Task) → t.atoms ≡ atoms
         → Holds rows result work.new (put_all rows (added_by t (clauses_of clauses.now) k (operator_in block.now)) (some (held count work.old))) }
@@ -172,14 +155,14 @@ fn weaken_operator(
     work: &mut [u16],
     count: usize,
     rows: usize,
-) -> Built
+) -> Option<usize>
     requires { WeakensAt image.now clauses.now atoms k due.now marks.old fails.old × (operator < length (task_of image.now).operators)
         × Room rows count work.old }
     ensures { Holds rows result work.new (put_all rows
         (added_by (task_of image.now) (clauses_of clauses.now) k (operator_at (task_of image.now) operator)) (some (held count work.old))) }
 {
     if literal::flags::is_zero(due, WIDTH * operator + k) {
-        return Built::Rows(count);
+        return Some(count);
     }
     let block = task::operator_block(image, operator);
     weaken_under(clauses, block, atoms, k, marks, fails, work, count, rows)
@@ -197,28 +180,17 @@ fn weaken_operators(
     work: &mut [u16],
     count: usize,
     rows: usize,
-) -> Built
+) -> Option<usize>
     requires { WeakensAt image.now clauses.now atoms k due.now marks.old fails.old × Room rows count work.old }
     ensures { Holds rows result work.new (put_all rows (added_at (task_of image.now) (clauses_of clauses.now) k) (some (held count work.old))) }
 {
-    let operators = task::operators(image);
     let mut taken = count;
-    let mut operator: usize = 0;
-    while operator < operators {
-        let built = weaken_operator(
+    for operator in 0..task::operators(image) {
+        taken = weaken_operator(
             image, clauses, atoms, operator, k, due, marks, fails, work, taken, rows,
-        );
-        match built {
-            Built::Full => {
-                return Built::Full;
-            }
-            Built::Rows(more) => {
-                taken = more;
-            }
-        }
-        operator += 1;
+        )?;
     }
-    Built::Rows(taken)
+    Some(taken)
 }
 
 // Puts in the weakened clauses, those of 2 literals first, up to those of `most`.
@@ -233,25 +205,15 @@ pub fn weaken(
     work: &mut [u16],
     count: usize,
     rows: usize,
-) -> Built
+) -> Option<usize>
     requires { WeakensBelow image.now clauses.now atoms most due.now marks.old fails.old × Room rows count work.old }
     ensures { Holds rows result work.new (put_all rows (added_from (task_of image.now) (clauses_of clauses.now) 1 (most - 1)) (some (held count work.old))) }
 {
     let mut taken = count;
-    let mut k: usize = 1;
-    while k < most {
-        let built = weaken_operators(
+    for k in 1..most {
+        taken = weaken_operators(
             image, clauses, atoms, k, due, marks, fails, work, taken, rows,
-        );
-        match built {
-            Built::Full => {
-                return Built::Full;
-            }
-            Built::Rows(more) => {
-                taken = more;
-            }
-        }
-        k += 1;
+        )?;
     }
-    Built::Rows(taken)
+    Some(taken)
 }

@@ -72,11 +72,12 @@ fn write_task(
 {
     let atoms = task::atoms(image);
     let count = cover::cover(clauses, atoms, places, sizes, none);
-    let mut lengths = [0u16; parts::MOST_PARTS];
-    let used = parts::lengths(image, count, &mut lengths);
-    let words = writing::directory::size(&lengths[..used]);
+    let mut room = [0u16; parts::MOST_PARTS];
+    let used = parts::lengths(image, count, &mut room);
+    let lengths = &room[..used];
+    let words = writing::directory::size(lengths);
     ask(Question::Target, words <= target.len())?;
-    write_image(image, places, sizes, none, count, &lengths[..used], target);
+    write_image(image, places, sizes, none, count, lengths, target);
     Ok(words)
 }
 
@@ -100,7 +101,12 @@ pub fn reencode_read(image: &[u16], clauses: &[u16], target: &mut [u16]) -> Resu
 }
 
 // The re-encoding of a task by a clause set: the checker's questions, then 16. Gives the length of the image.
-pub fn reencode(image: &[u16], clauses: &[u16], marks: &mut [u8], target: &mut [u16]) -> Result<usize, Refusal>
+pub fn reencode(
+    image: &[u16],
+    clauses: &[u16],
+    marks: &mut [u8],
+    target: &mut [u16],
+) -> Result<usize, Refusal>
     ensures { outcome (count_answer result) target.new ≡ written target.old (encode_call image.now clauses.now (length marks.old) (length target.old)) }
 {
     checker::accept(image, clauses, marks)?;

@@ -118,10 +118,7 @@ fn run_flagged(
         ≡ run_from (step (task_of image.now)) state.old 0 list.now }
 {
     for (steps, operator) in list.iter().enumerate() {
-        step_flagged(image, state, literal::wide(*operator), flags).map_err(|f| Refusal {
-            first: steps,
-            ..f
-        })?;
+        step_flagged(image, state, literal::wide(*operator), flags).map_err(|f| f.after(steps))?;
     }
     Ok(list.len())
 }

@@ -16,16 +16,18 @@ use Rattle.definitions.specs.Clauses.{width, most_rows, clause_words}
 use Rattle.definitions.specs.Synthesis.{first_set, Found, Made, fits, rounds, rows_in, synthesis, buffer_after, made_of, synthesis_call}
 use Rattle.definitions.specs.Marks.{mark_bytes}
 use Rattle.definitions.proofs.ListLaws.{and_left, and_right}
-use Rattle.definitions.proofs.AnswerLaws.{not_finding, same_refusal_lem}
+use Rattle.definitions.proofs.AnswerLaws.{same_refusal_lem}
 use Rattle.definitions.proofs.QuestionNumbers.{task_numbers}
 use Rattle.definitions.proofs.RoundLaws.{EndOfRounds, found, out_of_rounds, out_of_rows, end_from_first}
-use Rattle.answer.specs.Answer.{refusal_at, placed, verdict_answer}
-use Rattle.answer.specs.declared.Refusal as declared
-use Rattle.answer.specs.declared.Verdict.{Verdict}
-use Rattle.answer.specs.declared.Verdict.TheVariants.{Fine, Refused}
-use Rattle.answer.proofs.Laws.{verdict_refused}
+use Rattle.std.specs.Result.{IsErrAnd}
+use Rattle.std.proofs.Common.{Result}
+use Rattle.answer.specs.Answer.{refusal_at, placed}
+use Rattle.answer.specs.declared.Refusal as code
+use Rattle.answer.proofs.Laws.{verdict_refused, left_as, asked_no, asked_refusal}
+use Rattle.synthesis.specs.declared.Found as made
+use Rattle.synthesis.specs.Answer.{synthesis_answer}
 use Rattle.task.specs.Reads.{task_of, Reads}
-use Rattle.synthesis.specs.Asked.{limits_right, buffers_right, Asked, Checked}
+use Rattle.synthesis.specs.Asked.{limits_right, buffers_right, Asked}
 use Rattle.synthesis.specs.Rounds.{Begun}
 use Rattle.synthesis.proofs.Rounds.{first_size}
 use Rattle.synthesis.proofs.Units.{first_length}
@@ -39,6 +41,11 @@ ended_buffer c c' e (found r f small) = rw e
 ended_buffer c c' e (out_of_rounds h) = rw e
 ended_buffer c c' e out_of_rows = rw e
 
+refusal_of :
+    (f q : Refusal) (old : List ℕ) (y : Outcome Made) → ◌≡◌ {A = Answer (Unit {0})} (refused f) (refused q)
+    → outcome (refused q) old ≡ y → outcome (refused f) old ≡ y
+refusal_of f q old y e h = ap (λ (x : Refusal). outcome (refused x) old) (same_refusal_lem f q e) ∙ h
+
 -- ---- the questions before the first set
 module _ (w : List ℕ) (n limit : ℕ) (old : List ℕ) (work marks : ℕ) where
   pub call_read : (r : Refusal) → refused r ≡ verdict (read_task w) → outcome (refused r) old ≡ synthesis_call w n limit old work marks
@@ -48,50 +55,37 @@ module _ (w : List ℕ) (n limit : ℕ) (old : List ℕ) (work marks : ℕ) wher
       rw (e, lt-leb 14 r.number (let l = task_numbers w r e in omega arith))
 
   module _ (reads : Reads w) where
-    pub call_limits : limits_right n limit ≡ false → outcome (refused (refusal_at 12 0 0)) old ≡ synthesis_call w n limit old work marks
+    limits_no : limits_right n limit ≡ false → outcome (refused (refusal_at 12 0 0)) old ≡ synthesis_call w n limit old work marks
     unfolding synthesis_call synthesis ◌>>=◌ ask ask_at made_of buffer_after outcome
-    call_limits h = rw (reads.found, h)
+    limits_no h = rw (reads.found, h)
 
-    pub call_buffers :
+    buffers_no :
         limits_right n limit ≡ true → buffers_right (task_of w).atoms (length old) work marks ≡ false
         → outcome (refused (refusal_at 13 0 0)) old ≡ synthesis_call w n limit old work marks
     unfolding synthesis_call synthesis ◌>>=◌ ask ask_at made_of buffer_after outcome
-    call_buffers limits h = rw (reads.found, limits, h)
+    buffers_no limits h = rw (reads.found, limits, h)
 
-refusal_of :
-    (f q : Refusal) (old : List ℕ) (y : Outcome Made) → ◌≡◌ {A = Answer (Unit {0})} (refused f) (refused q)
-    → outcome (refused q) old ≡ y → outcome (refused f) old ≡ y
-refusal_of f q old y e h = ap (λ (x : Refusal). outcome (refused x) old) (same_refusal_lem f q e) ∙ h
+    -- a refusal of one of them is the call's, and leaves the clause buffer as it was
+    pub call_limits : (r : Refusal) → refused r ≡ ask 12 (limits_right n limit) → outcome (refused r) old ≡ synthesis_call w n limit old work marks
+    unfolding ask
+    call_limits r h =
+        let no = asked_no 12 0 (limits_right n limit) r h in
+        refusal_of r (refusal_at 12 0 0) old _ (h ∙ asked_refusal 12 0 (limits_right n limit) no) (limits_no no)
 
--- the answers of the code to them
-module _ (w : List ℕ) (n limit words work marks : ℕ) where
-  abbrev Checks : Verdict → Type 0
-  Checks r = Checked w n limit words work marks r
+    pub call_buffers :
+        limits_right n limit ≡ true → (r : Refusal) → refused r ≡ ask 13 (buffers_right (task_of w).atoms (length old) work marks)
+        → outcome (refused r) old ≡ synthesis_call w n limit old work marks
+    unfolding ask
+    call_buffers limits r h =
+        let right = buffers_right (task_of w).atoms (length old) work marks in
+        let no = asked_no 13 0 right r h in
+        refusal_of r (refusal_at 13 0 0) old _ (h ∙ asked_refusal 13 0 right no) (buffers_no limits no)
 
-  pub checked_read : (f : declared.Refusal) → refused (placed f) ≡ verdict (read_task w) → Checks (Refused f)
-  checked_read f h old long = call_read w n limit old work marks (placed f) h
-
-  module _ (reads : Reads w) where
-    pub checked_limits : (r : Verdict) → verdict_answer r ≡ refused (refusal_at 12 0 0) → limits_right n limit ≡ false → Checks r
-    checked_limits Fine e h = absurd (not_finding (sym e))
-    checked_limits (Refused f) e h = λ old long. refusal_of (placed f) _ old _ e (call_limits w n limit old work marks reads h)
-
-    pub checked_buffers :
-        (r : Verdict) → verdict_answer r ≡ refused (refusal_at 13 0 0) → limits_right n limit ≡ true
-        → buffers_right (task_of w).atoms words work marks ≡ false → Checks r
-    checked_buffers Fine e limits h = absurd (not_finding (sym e))
-    checked_buffers (Refused f) e limits h = λ old long.
-        refusal_of (placed f) _ old _ e (call_buffers w n limit old work marks reads limits (rw long h))
-
-pub checked_by :
-    (w : List ℕ) (n n' limit limit' words work marks : ℕ) (r r' : Verdict) → n ≡ n' → limit ≡ limit' → r ≡ r'
-    → Checked w n limit words work marks r → Checked w n' limit' words work marks r'
-checked_by w n n' limit limit' words work marks r r' e f g h = rw (← e, ← f, ← g) h
-
-pub call_by :
-    (w : List ℕ) (n n' limit limit' : ℕ) (old : List ℕ) (work marks : ℕ) → n ≡ n' → limit ≡ limit'
-    → synthesis_call w n limit old work marks ≡ synthesis_call w n' limit' old work marks
-call_by w n n' limit limit' old work marks e f = rw (e, f)
+-- the exit of a `?`
+pub left_call :
+    (r : Result made.Found code.Refusal) (f : code.Refusal) (old : List ℕ) (x : Outcome Made)
+    → IsErrAnd r (λ g. g ≡ f) → outcome (refused (placed f)) old ≡ x → outcome (synthesis_answer r) old ≡ x
+left_call r f old x left e = left_as (λ v. outcome (synthesis_answer v) old ≡ x) r f left e
 
 -- ---- the call after these questions
 module _ (w : List ℕ) (n limit : ℕ) (old : List ℕ) (work marks : ℕ) (asked : Asked w n limit (length old) work marks) where

@@ -27,8 +27,7 @@ use Rattle.clause.proofs.ReadLaws.{read_right}
 use Rattle.clause.proofs.WordLaws.{words_back, words_read, words_clauses}
 use Rattle.task.specs.Reads.{task_of, Reads}
 use Rattle.clause_set.specs.Held.{held, Holds}
-use Rattle.clause_set.specs.declared.Built.{Built}
-use Rattle.clause_set.specs.declared.Built.TheVariants.{Rows, Full}
+use Rattle.std.specs.Prelude as std
 use Rattle.clause_set.proofs.Insertion.{held_room, held_size, held_words}
 use Rattle.next_set.specs.Build.{fails_below, fitted}
 use Rattle.next_set.specs.Post.{Round}
@@ -68,10 +67,10 @@ fits_some rows D E e = go (fits rows D) e
 
 -- the step to the next set that was built
 pub step_built :
-    (t : Task) (n rows : ℕ) (last : Bool) (C : List (List ℕ)) (w : List ℕ) (b : Built) → Holds rows b w (fitted rows (next t n C))
+    (t : Task) (n rows : ℕ) (last : Bool) (C : List (List ℕ)) (w : List ℕ) (b : std.Option ℕ) → Holds rows b w (fitted rows (next t n C))
     → all passes (tested t C) ≡ false → last ≡ false → Stepped t n rows last C w (step_of b)
-step_built t n rows last C w Full h fails more = (fails, more, fits_none rows (next t n C) h)
-step_built t n rows last C w (Rows k) h fails more =
+step_built t n rows last C w std.None h fails more = (fails, more, fits_none rows (next t n C) h)
+step_built t n rows last C w (std.Some k) h fails more =
     let q = fits_some rows (next t n C) (held k w) h.1 in
     record { fails = fails; more = more; few = q.0; room = h.0; set = q.1 }
 
@@ -184,7 +183,7 @@ module _ (w : List ℕ) (atoms n limit rows : ℕ) (c : List ℕ) (count made : 
   abbrev C : List (List ℕ)
   C = clauses_of (take (width * count) c)
 
-  pub standing_words : width * count ≤ length c
+  standing_words : width * count ≤ length c
   standing_words =
       let h = mul-le-mul_left width s.inside in
       let r = s.room in
@@ -193,15 +192,15 @@ module _ (w : List ℕ) (atoms n limit rows : ℕ) (c : List ℕ) (count made : 
   below_limit : made ≤ limit → (made ≡ limit → ⊥) → made < limit
   below_limit h ne = omega arith
 
-  pub standing_below : eqb made limit ≡ false → made < limit
+  standing_below : eqb made limit ≡ false → made < limit
   standing_below e = below_limit s.allowed (eqb-false made limit e)
 
   -- a round that has a next set, of k rows, in the work buffer v
   module _ (k : ℕ) (v c' : List ℕ) (h : Advanced t n rows (eqb made limit) C v k) where
-    pub next_words : width * k ≤ length v
+    next_words : width * k ≤ length v
     next_words = held_room rows k v h.room
 
-    pub next_room : width * k ≤ length c
+    next_room : width * k ≤ length c
     next_room =
         let i = mul-le-mul_left width h.room.inside in
         let r = s.room in
@@ -276,15 +275,6 @@ module _ (w : List ℕ) (atoms n limit rows : ℕ) (c : List ℕ) (count made : 
       let below = standing_below h.1 in
       let f = s.left ∙ rounds_full t n rows made C h.0 (limit - made) (limit - (made + 1)) (omega arith) h.2 in
       rw (f, same)
-
--- ---- zeros
-pub cleared :
-    {A : Type 0} (x a : Answer A) (y old : List ℕ) → x ≡ a → y ≡ take 0 old ++ replicate (length old - 0) 0
-    → outcome x y ≡ outcome a (replicate (length old) 0)
-unfolding outcome
-cleared x a y old e q =
-    let z : length old - 0 ≡ length old = omega arith in
-    rw (e, q, z)
 
 -- the answer of a finding
 pub end_found :

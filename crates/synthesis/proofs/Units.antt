@@ -8,7 +8,7 @@ use native.Mathlib.Nat.{mul-suc, mul-zero}
 use native.Mathlib.Numerals.{add-one}
 use native.Mathlib.Omega.{arith}
 use lib.Dec.{eqb, ltb}
-use lib.ListN.{length, get_or, set, take, replicate, length-append, length-replicate, replicate-append-replicate}
+use lib.ListN.{length, get_or, set, replicate, length-append, length-replicate, replicate-append-replicate}
 use lib.Seq.{set_at}
 use borrow.Author.Tests.{eq-eqb, eqb-true, eqb-false, lt-ltb}
 use Rattle.definitions.specs.Lists.{each, range, below, member}
@@ -92,12 +92,6 @@ module _ (s : List ℕ) where
         ∙ rw (add-one, row, both)
         (sym (append_assoc (clause_words (units_from s 0 a)) (l ∷ replicate (width - 1) fill) (replicate (width * (atoms - suc a)) fill)))
 
-    pub units_end : atoms ≤ a → a ≤ atoms → w ≡ clause_words (units_from s 0 atoms)
-    units_end h k =
-        let e : a ≡ atoms = omega arith in
-        let z : atoms - atoms ≡ 0 = omega arith in
-        inv ∙ rw (e, z, mul-zero width) (append-nil (clause_words (units_from s 0 atoms)))
-
 -- ---- the first set
 pub units_size : (s : List ℕ) (atoms : ℕ) → length (map (λ a. (2 * a + (1 - get_or s a 0)) ∷ []) (below atoms)) ≡ atoms
 unfolding below range
@@ -133,11 +127,9 @@ initial_state_lem t =
     bit_low a = lt-ltb (state_of t.initial a) 2 (state_bit t.initial a)
 
 -- the words before the units are written are fill
-pub filled :
-    (w w' : List ℕ) (atoms k : ℕ) → length w ≡ width * atoms → k ≡ atoms → w' ≡ take 0 w ++ replicate (length w - 0) fill
-    → w' ≡ replicate (width * k) fill
+pub filled : (w w' : List ℕ) (atoms k : ℕ) → length w ≡ width * atoms → k ≡ atoms → w' ≡ replicate (length w) fill → w' ≡ replicate (width * k) fill
 filled w w' atoms k h e q =
-    let z : length w - 0 ≡ width * k = (let a : width * atoms ≡ width * k = ap (λ (m : ℕ). width * m) (sym e) in omega arith) in
+    let z : length w ≡ width * k = (let a : width * atoms ≡ width * k = ap (λ (m : ℕ). width * m) (sym e) in omega arith) in
     q ∙ rw z
 
 initial_length : (t : Task) → length (initial_state t) ≡ t.atoms

@@ -1,11 +1,7 @@
 -- The questions of a synthesis before its first set. Assumes nothing.
-use Rattle.std.specs.Prelude.{Bool, true, ◌&&◌, List, ◌≡◌, ℕ, leb, length}
-use Rattle.definitions.specs.Answer.{outcome, refused}
+use Rattle.std.specs.Prelude.{Bool, true, ◌&&◌, List, ◌≡◌, ℕ, leb}
 use Rattle.definitions.specs.Clauses.{width}
-use Rattle.definitions.specs.Synthesis.{synthesis_call}
 use Rattle.definitions.specs.Marks.{mark_bytes}
-use Rattle.answer.specs.Answer.{placed}
-use Rattle.answer.specs.declared.Verdict as verdicts
 use Rattle.task.specs.Reads.{task_of, Reads}
 
 -- question 12
@@ -21,9 +17,3 @@ pub record Asked (w : List ℕ) (n limit words work marks : ℕ) : Type 0 where
   pub task : Reads w
   pub limits : limits_right n limit ≡ true
   pub buffers : buffers_right (task_of w).atoms words work marks ≡ true
-
--- what the answer to these questions says; a refusal is the call's, and leaves the clause buffer as it was
-abbrev pub Checked : List ℕ → ℕ → ℕ → ℕ → ℕ → ℕ → verdicts.Verdict → Type 0
-Checked w n limit words work marks verdicts.TheVariants.Fine = Asked w n limit words work marks
-Checked w n limit words work marks (verdicts.TheVariants.Refused f) =
-    (old : List ℕ) → length old ≡ words → outcome (refused (placed f)) old ≡ synthesis_call w n limit old work marks

@@ -10,7 +10,7 @@ use Rattle.definitions.specs.Marks.{mark_bytes}
 use Rattle.answer.specs.Answer.{refusal_at}
 use Rattle.task.specs.Reads.{task_of, Reads}
 use Rattle.clause_set.specs.Held.{held, Room}
-use Rattle.clause_set.specs.declared.Built as builts
+use Rattle.std.specs.Prelude as std
 use Rattle.next_set.specs.Post.{Round}
 use Rattle.synthesis.specs.declared.End as ends
 use Rattle.synthesis.specs.declared.Step as steps
@@ -42,9 +42,9 @@ Stepped t n rows last C w (steps.TheVariants.Ended ends.TheVariants.OutOfRows) =
 Stepped t n rows last C w (steps.TheVariants.Next k) = Advanced t n rows last C w k
 
 -- the step to the next set that was built
-abbrev pub step_of : builts.Built → steps.Step
-step_of builts.TheVariants.Full = steps.TheVariants.Ended ends.TheVariants.OutOfRows
-step_of (builts.TheVariants.Rows k) = steps.TheVariants.Next k
+abbrev pub step_of : std.Option ℕ → steps.Step
+step_of std.None = steps.TheVariants.Ended ends.TheVariants.OutOfRows
+step_of (std.Some k) = steps.TheVariants.Next k
 
 -- the answer where the rounds end with a set of so many rows in clause buffer c, and the buffer then
 abbrev pub ended : List ℕ → ℕ → ℕ → ends.End → Outcome Made

@@ -7,7 +7,6 @@ ghost use Rattle.task.specs.Reads.{task_of, Reads};
 ghost use Rattle.synthesis.specs.Rounds.{units_from};
 
 use clause::WIDTH;
-use clause::place::RowPlace;
 use literal::Literal;
 
 // Writes the one-literal clauses true in a state into rows of fill.
@@ -15,13 +14,10 @@ fn write_units(state: &[u8], words: &mut [u16])
     requires { (length state.now ≤ most_atoms) × (is_state (length state.now) state.now ≡ true) × (words.old ≡ replicate (width * length state.now) fill) }
     ensures { words.new ≡ clause_words (units_from state.now 0 (length state.now)) }
 {
-    let mut place = RowPlace::first();
-    while place.number < state.len() {
-        let a = place.number;
-        let at = place.at;
-        let l = Literal::new(a as u16, state[a] == 1);
-        words[at] = l.code;
-        place = place.next();
+    let mut at: usize = 0;
+    for (a, truth) in state.iter().enumerate() {
+        words[at] = Literal::new(a as u16, *truth == 1).code;
+        at += WIDTH;
     }
 }
 
@@ -33,7 +29,7 @@ fn write_rows(image: &[u16], words: &mut [u16])
     let atoms = task::atoms(image);
     let mut state = literal::room::state();
     state::write_initial(image, &mut state[..atoms]);
-    clause_set::words::fill(words, 0, Literal::FILL);
+    words.fill(Literal::FILL);
     write_units(&state[..atoms], words);
 }
 
@@ -42,6 +38,5 @@ pub fn write_first(image: &[u16], clauses: &mut [u16])
     requires { Reads image.now × (width * (task_of image.now).atoms ≤ length clauses.old) }
     ensures { clauses.new ≡ clause_words (first_set (task_of image.now)) ++ drop (width * (task_of image.now).atoms) clauses.old }
 {
-    let end = WIDTH * task::atoms(image);
-    write_rows(image, &mut clauses[..end]);
+    write_rows(image, &mut clauses[..WIDTH * task::atoms(image)]);
 }

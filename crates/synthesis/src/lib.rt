@@ -4,27 +4,26 @@
 ghost use Rattle.std.specs.Prelude.{◌≡◌, ◌++◌, ◌-◌, ◌*◌, ◌≤◌, length, take, drop, replicate};
 ghost use Rattle.definitions.specs.Answer.{outcome, refused};
 ghost use Rattle.answer.specs.Answer.{refusal_at};
+ghost use Rattle.answer.specs.Question.{number_of};
 ghost use Rattle.definitions.specs.Literal.{most_atoms};
 ghost use Rattle.definitions.specs.Clauses.{width};
 ghost use Rattle.definitions.specs.Synthesis.{first_set, rounds, rows_in, buffer_after, made_of, synthesis_call};
 ghost use Rattle.clause.specs.Rows.{row_count, clauses_of};
 ghost use Rattle.task.specs.Reads.{task_of};
 ghost use Rattle.synthesis.specs.Answer.{synthesis_answer};
-ghost use Rattle.synthesis.specs.Asked.{limits_right, buffers_right, Asked, Checked};
+ghost use Rattle.synthesis.specs.Asked.{limits_right, buffers_right, Asked};
 ghost use Rattle.synthesis.specs.Rounds.{Ready, Stepped, step_of, Begun, ended};
 
-use answer::{Refusal, Verdict};
+use answer::{Question, Refusal, ask};
 use clause::{MOST_ROWS, WIDTH};
-use clause_set::Built;
 
 pub mod first; // first.rt: the first set
 
-// The answer of a synthesis.
-#[derive(Clone, Copy)]
-pub enum Synthesis {
-    // The numbers of rows and of rounds.
-    Found(usize, usize),
-    Refused(Refusal),
+// What a synthesis finds: the number of rows of its clauses, and the number of rounds.
+#[derive(Clone, Copy, Debug, PartialEq, Eq)]
+pub struct Found {
+    pub rows: usize,
+    pub rounds: usize,
 }
 
 // How the rounds end.
@@ -47,15 +46,12 @@ pub enum Step {
 }
 
 // The refusal of a question after which the clause buffer is zeros.
-fn clear(clauses: &mut [u16], number: u16) -> Synthesis
-    ensures { outcome (synthesis_answer result) clauses.new ≡ outcome (refused (refusal_at number 0 0)) (replicate (length clauses.old) 0) }
+fn clear(clauses: &mut [u16], question: Question) -> Result<Found, Refusal>
+    ensures { outcome (synthesis_answer result) clauses.new
+        ≡ outcome (refused (refusal_at (number_of question) 0 0)) (replicate (length clauses.old) 0) }
 {
-    clause_set::words::fill(clauses, 0, 0);
-    Synthesis::Refused(Refusal {
-        number: number,
-        first: 0,
-        second: 0,
-    })
+    clauses.fill(0);
+    Err(Refusal::from(question))
 }
 
 // Room for a flag for each operator and number of literals.
@@ -64,12 +60,12 @@ fn due_room() -> [u8; (task::MOST_OPERATORS + 1) * WIDTH] {
 }
 
 // The step to the next set that was built.
-fn step_to(built: Built) -> Step
+fn step_to(built: Option<usize>) -> Step
     ensures { result ≡ step_of built }
 {
     match built {
-        Built::Full => Step::Ended(End::OutOfRows),
-        Built::Rows(count) => Step::Next(count),
+        None => Step::Ended(End::OutOfRows),
+        Some(count) => Step::Next(count),
     }
 }
 
@@ -165,17 +161,20 @@ fn take_rows(work: &[u16], count: usize, clauses: &mut [u16])
 }
 
 // The answer where the rounds end, `made` of them, with a set of `count` rows.
-fn finish(clauses: &mut [u16], count: usize, made: usize, end: End) -> Synthesis
+fn finish(clauses: &mut [u16], count: usize, made: usize, end: End) -> Result<Found, Refusal>
     requires { width * count ≤ length clauses.old }
     ensures { outcome (synthesis_answer result) clauses.new ≡ ended clauses.old count made end }
 {
     match end {
         End::Finished => {
             clause_set::words::fill(clauses, WIDTH * count, 0);
-            Synthesis::Found(count, made)
+            Ok(Found {
+                rows: count,
+                rounds: made,
+            })
         }
-        End::OutOfRounds => clear(clauses, Refusal::OUT_OF_ROUNDS),
-        End::OutOfRows => clear(clauses, Refusal::OUT_OF_ROWS),
+        End::OutOfRounds => clear(clauses, Question::OutOfRounds),
+        End::OutOfRows => clear(clauses, Question::OutOfRows),
     }
 }
 
@@ -189,21 +188,18 @@ fn run(
     clauses: &mut [u16],
     work: &mut [u16],
     marks: &mut [u8],
-) -> Synthesis
+) -> Result<Found, Refusal>
     requires { Begun image.now clauses.old work.old atoms n limit rows (length marks.old) }
     ensures { outcome (synthesis_answer result) clauses.new
         ≡ outcome (made_of (rounds (task_of image.now) n rows 1 (limit - 1) (first_set (task_of image.now))))
         (buffer_after clauses.old (rounds (task_of image.now) n rows 1 (limit - 1) (first_set (task_of image.now)))) }
 {
     let mut count = atoms;
-    let mut made: usize = 1;
+    let mut made = 1;
     loop {
         let last = made == limit;
-        let step = round(image, clauses, count, atoms, n, rows, last, marks, work);
-        match step {
-            Step::Ended(end) => {
-                return finish(clauses, count, made, end);
-            }
+        match round(image, clauses, count, atoms, n, rows, last, marks, work) {
+            Step::Ended(end) => return finish(clauses, count, made, end),
             Step::Next(next) => {
                 take_rows(work, next, clauses);
                 count = next;
@@ -242,27 +238,7 @@ fn are_buffers(atoms: usize, words: usize, work: usize, marks: usize) -> bool
     requires { atoms ≤ most_atoms }
     ensures { result ≡ buffers_right atoms words work marks }
 {
-    if marks < propagation::marks::bytes(atoms) {
-        return false;
-    }
-    words <= work
-}
-
-// Questions 1 to 7, 12 and 13, of buffers of these lengths.
-fn check(image: &[u16], n: usize, limit: usize, words: usize, work: usize, marks: usize) -> Verdict
-    ensures { Checked image.now n limit words work marks result }
-{
-    let read = task::read(image);
-    if let Verdict::Refused(f) = read {
-        return Verdict::Refused(f);
-    }
-    if !are_limits(n, limit) {
-        return answer::refuse(Refusal::LIMITS);
-    }
-    if !are_buffers(task::atoms(image), words, work, marks) {
-        return answer::refuse(Refusal::BUFFERS);
-    }
-    Verdict::Fine
+    propagation::marks::bytes(atoms) <= marks && words <= work
 }
 
 // Question 14 of the first set, then the rounds.
@@ -273,14 +249,14 @@ fn start(
     clauses: &mut [u16],
     work: &mut [u16],
     marks: &mut [u8],
-) -> Synthesis
+) -> Result<Found, Refusal>
     requires { Asked image.now n limit (length clauses.old) (length work.old) (length marks.old) }
     ensures { outcome (synthesis_answer result) clauses.new ≡ synthesis_call image.now n limit clauses.old (length work.old) (length marks.old) }
 {
     let atoms = task::atoms(image);
     let rows = rows_in(clauses.len());
     if rows < atoms {
-        return clear(clauses, Refusal::OUT_OF_ROWS);
+        return clear(clauses, Question::OutOfRows);
     }
     first::write_first(image, clauses);
     run(image, atoms, n, limit, rows, clauses, work, marks)
@@ -294,21 +270,15 @@ pub fn synthesize(
     clauses: &mut [u16],
     work: &mut [u16],
     marks: &mut [u8],
-) -> Synthesis
+) -> Result<Found, Refusal>
     ensures { outcome (synthesis_answer result) clauses.new ≡ synthesis_call image.now n limit clauses.old (length work.old) (length marks.old) }
 {
     let literals = literal::wide(n);
     let most = literal::wide(limit);
-    let checked = check(
-        image,
-        literals,
-        most,
-        clauses.len(),
-        work.len(),
-        marks.len(),
-    );
-    if let Verdict::Refused(f) = checked {
-        return Synthesis::Refused(f);
-    }
+    task::read(image)?;
+    ask(Question::Limits, are_limits(literals, most))?;
+    let atoms = task::atoms(image);
+    let fit = are_buffers(atoms, clauses.len(), work.len(), marks.len());
+    ask(Question::Buffers, fit)?;
     start(image, literals, most, clauses, work, marks)
 }

@@ -1,49 +1,58 @@
--- Question 10 of each row that is left.
+-- Question 10 of each clause that is left.
 use Rattle.std.proofs.Common.{◌∙◌, [], refl}
 use Rattle.definitions.specs.Literal.{holds_in}
+use Rattle.definitions.specs.Clauses.{width}
 use Rattle.answer.proofs.Laws.{left_by, handed_on, goes_on}
 use Rattle.clause.specs.Rows.{clauses_of}
-use Rattle.clause.proofs.RowPlaces.{placed_first, is_row, no_clause, row_clause, has_clause_lem, has_next, placed_next}
+use Rattle.clause.proofs.RowWalks.{walk_start}
+use Rattle.clause.proofs.ClauseWalks.{clauses_passed, clause_there, clause_read, next_walked}
 use Rattle.checker.proofs.Checking.{first_asked, none_asked}
 use Rattle.checker.proofs.check_true.Goals as goal
 
-pub loop-place-init : goal.loop-place-init
-loop-place-init c = record { placed = placed_first c.first-place.ensures; rest = rw c.first-place.ensures.number refl }
+pub loop-number-init : goal.loop-number-init
+unfolding width
+loop-number-init c =
+    let it = c.enumerate-number-items.ensures in
+    let start = c.into_iter-number-iterator.ensures.into_iter_gives in
+    let chunks = c.chunks_exact.ensures in
+    record {
+      walked = rw (start, it.source, it.count) (walk_start chunks.size chunks.rest);
+      rest = rw (start, it.count) refl;
+    }
 
 pub returns-in_err-ask_at : goal.returns-in_err-ask_at
 returns-in_err-ask_at c =
-    let row = is_row c.loop-place.invariant.placed c.is_in.ensures c.loop-place-test.true in
+    let i = c.loop-number.invariant in
+    let s = c.in-Some.ensures.steps in
     left_by _ _ c.from_residual.ensures.1
     ∙ rw (
-      ← c.loop-place.invariant.rest,
-      first_asked (holds_in c.args.state.now) (clauses_of c.args.clauses.now) c.loop-place.place.number [] _ (row_clause row c.row.ensures refl)
-          (has_clause_lem row),
-      ← c.holds-holds.ensures,
+      ← i.rest,
+      first_asked (holds_in c.args.state.now) (clauses_of c.args.clauses.now) _ [] _ (clause_read i.walked c.in-Some.row c.next.new.self.iter s.0 refl)
+          (clause_there i.walked c.in-Some.row c.next.new.self.iter s.0),
+      ← c.holds.ensures,
+      ← s.1,
     )
     (handed_on _ _ _ c.in_err-ask_at.ensures)
 
-pub next-place-requires : goal.next-place-requires
-next-place-requires c =
-    has_next (is_row c.loop-place.invariant.placed c.is_in.ensures c.loop-place-test.true) c.well_formed.0.0
-
-pub loop-place-preserved : goal.loop-place-preserved
-loop-place-preserved c =
-    let row = is_row c.loop-place.invariant.placed c.is_in.ensures c.loop-place-test.true in
+pub loop-number-preserved : goal.loop-number-preserved
+loop-number-preserved c =
+    let i = c.loop-number.invariant in
+    let s = c.in-Some.ensures.steps in
     record {
-      placed = placed_next row c.next-place.ensures;
+      walked = next_walked i.walked c.in-Some.row c.next.new.self.iter s.0 s.2;
       rest =
           rw (
-            c.next-place.ensures.number,
-            ← c.loop-place.invariant.rest,
-            first_asked (holds_in c.args.state.now) (clauses_of c.args.clauses.now) c.loop-place.place.number [] _ (row_clause row c.row.ensures refl)
-                (has_clause_lem row),
-            ← c.holds-holds.ensures,
+            s.2,
+            ← i.rest,
+            first_asked (holds_in c.args.state.now) (clauses_of c.args.clauses.now) _ [] _ (clause_read i.walked c.in-Some.row c.next.new.self.iter s.0 refl)
+                (clause_there i.walked c.in-Some.row c.next.new.self.iter s.0),
+            ← c.holds.ensures,
+            ← s.1,
           )
           (goes_on _ _ _ c.in_ok-ask_at.ensures);
     }
 
 pub returns : goal.returns
 returns c =
-    none_asked (holds_in c.args.state.now) (clauses_of c.args.clauses.now) c.loop-place.place.number
-    (no_clause c.loop-place.invariant.placed c.is_in.ensures c.loop-place-test.false)
-    ∙ c.loop-place.invariant.rest
+    let i = c.loop-number.invariant in
+    none_asked (holds_in c.args.state.now) (clauses_of c.args.clauses.now) _ (clauses_passed i.walked _ c.in-None.ensures.steps.0) ∙ i.rest

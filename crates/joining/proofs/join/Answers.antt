@@ -1,5 +1,5 @@
 -- The first image is read, then the second, then they are joined.
-use Rattle.std.proofs.Common.{◌∙◌}
+use Rattle.std.proofs.Common.{◌∙◌, rules}
 use Rattle.answer.proofs.Laws.{left_by, outcome_of}
 use Rattle.task.proofs.Questions.{reads}
 use Rattle.joining.proofs.Calls.{first_refused, second_refused, both_read}
@@ -14,7 +14,10 @@ returns-in_err-read-2 c =
     (second_refused _ _ _ (reads _ c.in_ok-read.ensures) _ c.in_err-read-2.ensures)
 
 pub join_read-requires : goal.join_read-requires
-join_read-requires c = (reads _ c.in_ok-read.ensures, reads _ c.in_ok-read-2.ensures)
+join_read-requires c =
+    let first = reads _ c.in_ok-read.ensures in
+    let second = reads _ c.in_ok-read-2.ensures in
+    search rules
 
 pub returns : goal.returns
 returns c = c.join_read.ensures ∙ both_read _ _ _ (reads _ c.in_ok-read.ensures) (reads _ c.in_ok-read-2.ensures)

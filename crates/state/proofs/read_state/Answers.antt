@@ -2,7 +2,7 @@
 use Rattle.std.proofs.Common.{◌∙◌, ap, ℕ}
 use Rattle.definitions.specs.Literal.{is_state}
 use Rattle.answer.proofs.Laws.{left_by}
-use Rattle.answer.proofs.ReaderCalls.{first_refused, state_asked}
+use Rattle.answer.proofs.ReaderCalls.{first_refused, first_asked}
 use Rattle.task.proofs.Questions.{reads}
 use Rattle.state.specs.Post.{task_reader}
 use Rattle.state.proofs.read_state.Goals as goal
@@ -16,5 +16,5 @@ atoms-requires c = reads _ c.in_ok-read.ensures
 pub returns : goal.returns
 returns c =
     c.ask.ensures
-    ∙ state_asked task_reader _ _ _ (reads _ c.in_ok-read.ensures).found _
+    ∙ first_asked task_reader _ _ _ (reads _ c.in_ok-read.ensures).found _
     (c.is_state-is_state.ensures ∙ ap (λ (n : ℕ). is_state n c.args.state.now) c.atoms.ensures.0)

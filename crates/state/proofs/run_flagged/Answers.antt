@@ -1,7 +1,6 @@
 -- A step that is refused ends the run with the steps so far; after the last step the list has run.
 use Rattle.std.proofs.Common.{◌∙◌, ap, refl, sym, rules, Result}
 use Rattle.definitions.specs.Answer.{outcome}
-use Rattle.definitions.specs.StepLists.{refused_after}
 use Rattle.answer.specs.Answer.{verdict_answer}
 use Rattle.answer.specs.declared.Refusal.{Refusal}
 use Rattle.answer.proofs.Laws.{left_by, outcome_of, mapped_ok}
@@ -26,7 +25,6 @@ loop-steps-preserved c =
     }
 
 pub returns-in_err-map_err : goal.returns-in_err-map_err
-unfolding refused_after
 returns-in_err-map_err c =
     outcome_of _ _ _ _ (left_by _ _ c.from_residual.ensures.1)
     (running_left _ _ _ _ _ c.loop-steps.invariant.running _ _ c.loop-steps-test.true c.wide.ensures.0 _ _ _ c.map_err.ensures.cases _

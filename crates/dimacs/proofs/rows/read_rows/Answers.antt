@@ -1,5 +1,6 @@
--- `dimacs::rows::read_rows`: by what the clauses come to.
-use Rattle.std.proofs.Common.{arith}
+-- By what the clauses come to.
+use Rattle.std.proofs.Common.{ap, arith}
+use Rattle.definitions.specs.Answer.{refused}
 use Rattle.definitions.specs.Clauses.{width, most_rows}
 use Rattle.answer.proofs.Laws.{outcome_of}
 use Rattle.dimacs_rows.specs.Rows.{most_stored}
@@ -19,9 +20,10 @@ returns-in-Ok c = c.write_rows.ensures _ (record { fits = c.in-Ok.ensures.0; set
 
 pub returns-in-Err-Unfit : goal.returns-in-Err-Unfit
 returns-in-Err-Unfit c =
-    outcome_of _ _ _ _ c.refuse_count.ensures (rows_unfit _ c.args.clauses.now (rw c.in-Err-Unfit.field-0-is at c.in-Err-Unfit.ensures))
+    outcome_of _ _ _ _ (ap refused c.into.ensures)
+    (rows_unfit _ c.args.clauses.now (rw c.in-Err-Unfit.field-0-is at c.in-Err-Unfit.ensures))
 
 pub returns-in-Err-Full : goal.returns-in-Err-Full
 returns-in-Err-Full c =
     let full = rw c.in-Err-Full.field-0-is at c.in-Err-Full.ensures in
-    outcome_of _ _ _ _ c.refuse_count-in-Err-Full.ensures (rows_full _ c.args.clauses.now full.0 full.1)
+    outcome_of _ _ _ _ (ap refused c.into-in-Err-Full.ensures) (rows_full _ c.args.clauses.now full.0 full.1)

@@ -2,7 +2,8 @@
 use Rattle.fdr.proofs.Notes.{clear_late, clear_absent, clear_present}
 use Rattle.fdr.proofs.ByRows.{at_same, at_set}
 use Rattle.fdr.proofs.change.note_clear.Goals as goal
-use Rattle.fdr.proofs.change.note_clear.Goals.{else-changes-variable-eq-STAYS-via-then-changes-variable-eq-STAYS+else-value, else-changes-variable-eq-STAYS-via-else-changes-variable-eq-STAYS}
+use Rattle.fdr.proofs.change.note_clear.Goals.{else-changes-variable-eq-STAYS-via-then-changes-variable-eq-STAYS+else-value}
+use Rattle.fdr.proofs.change.note_clear.Goals.{else-changes-variable-eq-STAYS-via-else-changes-variable-eq-STAYS}
 
 pub returns-then-value : goal.returns-then-value
 returns-then-value c = (clear_present _ _ _ _ _ c.value.ensures.0 c.if-changes-variable-eq-STAYS.true c.if-value.true, at_set _ _ _)

@@ -1,5 +1,5 @@
 -- `next_set::test::judge_operator`: all clauses are judged under the operator of its block. Assumes nothing.
-use mathlib.Core.Path.{◌≡◌, sym, ◌∙◌, ap}
+use mathlib.Core.Path.{◌∙◌, ap}
 use Rattle.clause.specs.Rows.{clauses_of}
 use Rattle.judge.specs.Judging.{fail_flags}
 use Rattle.next_set.proofs.Testing.{read_bulk}

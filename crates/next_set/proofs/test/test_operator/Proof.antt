@@ -1,8 +1,8 @@
 -- `next_set::test::test_operator`: the clauses judged, and their flags added and noted. Assumes nothing.
-use Prim.Native.Nat.{ℕ, ◌<◌, ◌*◌}
+use Prim.Native.Nat.{ℕ, ◌<◌}
 use mathlib.Core.Bool.{not}
 use mathlib.Core.List.{List}
-use mathlib.Core.Path.{◌≡◌, sym, ◌∙◌, ap}
+use mathlib.Core.Path.{◌≡◌, sym, ◌∙◌}
 use native.Mathlib.Omega.{arith}
 use lib.ListN.{length}
 use Rattle.definitions.specs.Clauses.{width}

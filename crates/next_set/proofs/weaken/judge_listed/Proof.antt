@@ -1,12 +1,11 @@
 -- `next_set::weaken::judge_listed`: the clauses judged, and the flags of the guaranteed literals listed. Assumes nothing.
 use Prim.Native.Nat.{ℕ, ◌*◌, ◌≤◌}
 use mathlib.Core.Bool.{Bool, true, false}
-use mathlib.Core.Path.{◌≡◌, refl, sym, ◌∙◌, ap, subst}
+use mathlib.Core.Path.{◌≡◌, sym, ◌∙◌, subst}
 use mathlib.Core.List.{List}
 use native.Mathlib.Omega.{arith}
-use lib.ListN.{length, take}
+use lib.ListN.{length}
 use lib.Seq.{length-take-le}
-use borrow.Author.Tests.{not-true, not-false}
 use Rattle.definitions.specs.Image.{Operator}
 use Rattle.definitions.specs.Literal.{most_literals}
 use Rattle.definitions.proofs.ListLaws.{never}
@@ -14,7 +13,7 @@ use Rattle.clause.specs.Rows.{clauses_of}
 use Rattle.task.specs.Walk.{operator_in}
 use Rattle.judge.specs.Judging.{Guarantees}
 use Rattle.judge.proofs.Parts.{CameBack, came_back}
-use Rattle.next_set.specs.Post.{Listed, ListedGuarantees}
+use Rattle.next_set.specs.Post.{Listed}
 use Rattle.next_set.proofs.Adding.{listed_guarantees, listed_low, no_words}
 use borrow.Author.Rules.{rules}
 use Rattle.next_set.proofs.weaken.judge_listed.Statement.{statement}

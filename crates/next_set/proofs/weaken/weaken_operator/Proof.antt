@@ -1,9 +1,8 @@
 -- `next_set::weaken::weaken_operator`: nothing is added where no failure is noted, else what the operator's block adds. Assumes nothing.
-use Prim.Native.Nat.{ℕ, ◌+◌, ◌*◌, ◌<◌, ◌≤◌}
+use Prim.Native.Nat.{◌+◌, ◌*◌, ◌<◌}
 use mathlib.Core.Option.{some}
-use mathlib.Core.Path.{◌≡◌, refl, sym, ◌∙◌, ap, subst}
+use mathlib.Core.Path.{sym, subst}
 use native.Mathlib.Omega.{arith}
-use lib.ListN.{length}
 use Rattle.definitions.specs.Image.{most_operators, Operator, Task}
 use Rattle.definitions.specs.Clauses.{width}
 use Rattle.literal.proofs.Mark.{zero_place}

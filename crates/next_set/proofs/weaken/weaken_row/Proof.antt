@@ -10,7 +10,6 @@ use Rattle.clause.proofs.RowLaws.{clauses_at_lem}
 use Rattle.clause_set.specs.Held.{held, Holds}
 use Rattle.next_set.specs.Build.{is_due}
 use Rattle.next_set.proofs.Due.{row_none, row_some, row_extensible}
-use borrow.Author.Tests.{not-true, not-false}
 use borrow.Author.Rules.{rules}
 use Rattle.next_set.proofs.weaken.weaken_row.Statement.{statement}
 use Rattle.next_set.proofs.weaken.weaken_row.Tie as tie
