@@ -153,7 +153,8 @@ module _
       pub precondition_given : CountedGiven n p target at
       precondition_given =
           let o = precondition_over over in
-          let r = part_room (counted_literals (shifted (2 * n) (operator_in b).precondition)) (length (operator_in b).rows ∷ rows_behind n (operator_in b).rows) operator_start room in
+          let q = operator_in b in
+          let r = part_room (counted_literals (shifted (2 * n) q.precondition)) (length q.rows ∷ rows_behind n q.rows) operator_start room in
           let c = ap length (counted_words_lem n (operator_in b).precondition) in
           let l = shifted_length (2 * n) (operator_in b).precondition in
           rw ep (record { few = few; low = o.0; short = o.1; room = omega arith })

@@ -16,7 +16,7 @@ ghost use Rattle.task.specs.Walk.{row, operator_in};
 use super::under::{Closed, Under};
 use clause::place::RowPlace;
 use propagation::Closing;
-use task::block::{BlockHead, RowPart};
+use task::rows::{Row, Rows};
 
 // Whether some literal of a list has its flag.
 fn some_flagged(literals: &[u16], flags: &[u8]) -> bool
@@ -96,18 +96,12 @@ impl Closed<'_> {
         ensures { fails.new ≡ flag_by_rows self.now.under (operator_under self.now.under).rows fails.old }
     {
         let Under { judged, block, .. } = self.under;
-        let BlockHead { end, rows } = task::block::head(block);
-        let mut at = end + 1;
-        let mut left = rows;
-        while 0 < left {
-            let RowPart { effect, from, end } = task::block::row(block, at, left);
-            at = end;
-            left -= 1;
+        for Row { effect, conditions } in Rows::of(block) {
             let l = super::guarantee::complement(effect);
             if !some_holds(judged, l) {
                 continue;
             }
-            self.judge_row(&block[from..end], l, marks, fails);
+            self.judge_row(conditions, l, marks, fails);
         }
     }
 }
@@ -163,8 +157,8 @@ pub fn judge_guaranteed(
         × Guarantees atoms (clauses_of clauses.now) (operator_in block.now) flags.new result }
 {
     literal::flags::clear(fails);
-    let BlockHead { end, .. } = task::block::head(block);
-    match propagation::close(clauses, &block[1..end], marks, atoms) {
+    let precondition = task::rows::precondition(block);
+    match propagation::close(clauses, precondition, marks, atoms) {
         Closing::Contradictory => false,
         Closing::Consistent => {
             let under = Under {

@@ -12,18 +12,14 @@ ghost use Rattle.judge.specs.Under.{operator_under, IsClosure, guaranteed_under}
 use super::under::Under;
 use literal::Literal;
 use propagation::Closing;
-use task::block::{BlockHead, RowPart};
+use task::rows::{Row, Rows};
 
 // The complement of a row's effect.
-pub fn complement(effect: usize) -> u16
+pub fn complement(effect: u16) -> u16
     requires { effect < 65535 }
     ensures { result ≡ complement effect }
 {
-    Literal {
-        code: effect as u16,
-    }
-    .complement()
-    .code
+    Literal { code: effect }.complement().code
 }
 
 // Flags the marked literals.
@@ -43,23 +39,15 @@ fn flag_effects(block: &[u16], marks: &[u8], adds: bool, flags: &mut [u8])
         → Marked atoms marks.now K → flags.new
         ≡ flag_effects adds K (operator_in block.now).rows flags.old }
 {
-    let BlockHead { end, rows } = task::block::head(block);
-    let mut at = end + 1;
-    let mut left = rows;
-    while 0 < left {
-        let RowPart { effect, from, end } = task::block::row(block, at, left);
-        at = end;
-        left -= 1;
-        let l = Literal {
-            code: effect as u16,
-        };
+    for Row { effect, conditions } in Rows::of(block) {
+        let l = Literal { code: effect };
         if !l.has_sign(adds) {
             continue;
         }
-        if !propagation::marks::holds_all(marks, &block[from..end]) {
+        if !propagation::marks::holds_all(marks, conditions) {
             continue;
         }
-        literal::flags::put(flags, effect, 1);
+        literal::flags::put(flags, l.index(), 1);
     }
 }
 
@@ -85,18 +73,12 @@ impl Under<'_> {
         ensures { (ls : List ℕ) → IsClosure self.now ls marks.now → flags.new
             ≡ drop_changed self.now.atoms (clauses_of self.now.clauses.now) ls (operator_under self.now).rows flags.old }
     {
-        let BlockHead { end, rows } = task::block::head(self.block);
-        let mut at = end + 1;
-        let mut left = rows;
-        while 0 < left {
-            let RowPart { effect, from, end } = task::block::row(self.block, at, left);
-            at = end;
-            left -= 1;
+        for Row { effect, conditions } in Rows::of(self.block) {
             let l = literal::wide(complement(effect));
             if literal::flags::is_zero(flags, l) {
                 continue;
             }
-            if !self.can_fire(&self.block[from..end], marks, work) {
+            if !self.can_fire(conditions, marks, work) {
                 continue;
             }
             literal::flags::put(flags, l, 0);

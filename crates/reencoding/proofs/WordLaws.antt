@@ -5,7 +5,7 @@ use mathlib.Core.List.{List, [], ◌∷◌, ◌++◌}
 use Prim.Native.Nat.{ℕ, ◌+◌, ◌*◌, ◌%◌, ◌≤◌, ◌<◌}
 use native.Mathlib.Omega.{arith}
 use mir.Val.{bool_byte}
-use lib.ListN.{length, get_or, set, drop, length-append, drop_of_length-le}
+use lib.ListN.{length, get_or, set, drop, drop_of_length-le}
 use borrow.Author.Tests.{eqb-true, eqb-false}
 use Rattle.definitions.specs.Lists.{each}
 use Rattle.definitions.specs.Literal.{atom, positive, all_below}
@@ -16,7 +16,7 @@ use Rattle.definitions.proofs.Walks.{left_here}
 use Rattle.definitions.proofs.FdrBack.{pair_words_lem}
 use Rattle.task.specs.Walk.{row, operator_in}
 use Rattle.task.specs.Post.{RowsOver, OperatorOver}
-use Rattle.task.proofs.BlockSizes.{row_over, precondition_over, rows_over, rows_few}
+use Rattle.task.proofs.BlockSizes.{row_over, precondition_over, rows_over}
 use Rattle.writing.specs.Writing.{Wrote, Writing}
 use Rattle.writing.proofs.Writes.{write_start, write_same, write_word, write_part, write_last, write_end, part_room, word_room, write_room}
 use Rattle.reencoding.specs.Words.{atoms_of, literal_by, literals_by, counted_by, row_by, rows_by, operator_by, Ready}

@@ -3,14 +3,14 @@ use mathlib.Core.Path.{◌≡◌, refl, sym, ap, ◌∙◌}
 use mathlib.Core.List.{List, [], ◌∷◌}
 use mathlib.Core.Bool.{Bool, true, false, ◌&&◌, and_assoc, and-true, false≢true}
 use mathlib.Core.Option.{Option, none, some}
-use Prim.Native.Nat.{ℕ, suc, ◌+◌, ◌-◌, ◌*◌, ◌≤◌, ◌<◌}
+use Prim.Native.Nat.{ℕ, suc, ◌+◌, ◌-◌, ◌≤◌, ◌<◌}
 use native.Mathlib.Numerals.{add-one, add-two}
 use native.Mathlib.Nat.{add-sub_cancel_left}
 use native.Mathlib.Omega.{arith}
 use lib.ListN.{length, get_or, take, drop, length-drop, drop_of_length-le}
 use lib.Seq.{drop-cons, drop-drop}
 use lib.Dec.{leb}
-use borrow.Author.Tests.{lt-leb, le-leb, le-ltb, lt-ltb, leb-true, leb-false}
+use borrow.Author.Tests.{lt-leb, le-leb, leb-true, leb-false}
 use Rattle.definitions.specs.Lists.{all}
 use Rattle.definitions.specs.Answer.{Answer, finding, refused, refuse, verdict, ask_at, ◌>>=◌}
 use Rattle.definitions.specs.Literal.{literal_list}
@@ -299,12 +299,3 @@ operator_found atoms i b o e = go (operator_of b) refl
         at_7 : (t : Bool) → (ask_at 7 i t >>= λ _. finding p) ≡ finding o → p ≡ o
         at_7 true f = cc
         at_7 false f = absurd (let z : ◌≡◌ {A = ℕ} 0 1 = cc in omega arith)
-
--- a row's literals, by the code's tests
-pub row_high : (atoms e : ℕ) (cs : List ℕ) → 2 * atoms ≤ e → false ≡ row_right atoms (row e cs)
-unfolding row_right
-row_high atoms e cs h = rw (le-ltb e (2 * atoms) h)
-
-pub row_low : (atoms e : ℕ) (cs : List ℕ) → e < 2 * atoms → literal_list atoms cs ≡ row_right atoms (row e cs)
-unfolding row_right
-row_low atoms e cs h = rw (lt-ltb e (2 * atoms) h)
