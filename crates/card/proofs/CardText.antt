@@ -31,7 +31,7 @@ use Rattle.clause.proofs.ClauseLaws.{clause_good, clause_below}
 use Rattle.writing.specs.Writing.{Wrote}
 use Rattle.writing.proofs.Writes.{wrote_front}
 use Rattle.card.specs.Text.{finding_of, is_input, input_answer, words_text}
-use Rattle.card.specs.Room.{most_text, most_words}
+use Rattle.card.specs.Room.{most_text, most_words, Buffers}
 use Rattle.card.proofs.Size.{refusal_size, found_size}
 
 -- ---- room for the text of clauses that are read
@@ -198,43 +198,45 @@ pub record WordsFound (w : List ℕ) (n : ℕ) (buf : List ℕ) (k r : ℕ) : Ty
   pub room : width * k ≤ length buf
   pub few : n ≤ most_atoms
 
+same_image : (w : List ℕ) → take (length w - 2) (drop 2 w) ≡ drop 2 w
+same_image w = let d = length-drop 2 w in take_all (length w - 2) (drop 2 w) (omega arith)
+
+same_atoms : (w : List ℕ) {n : ℕ} → n ≡ get_or w 2 0 → get_or (take (length w - 2) (drop 2 w)) 0 0 ≡ n
+same_atoms w atoms = ap (λ (z : List ℕ). get_or z 0 0) (same_image w) ∙ get_or-drop 2 w 0 0 ∙ sym atoms
+
 -- the words of an input, the number of atoms in them, and the buffers that the synthesis is lent
-module _
-    (w old : List ℕ) (n work marks : ℕ) (atoms : n ≡ get_or w 2 0) (rows : length old ≡ width * most_rows) (worked : work ≡ width * most_rows)
-    (marked : marks ≡ mark_bytes most_atoms) where
-  same_image : take (length w - 2) (drop 2 w) ≡ drop 2 w
-  same_image = let d = length-drop 2 w in take_all (length w - 2) (drop 2 w) (omega arith)
-
-  same_call : input_answer w ≡ synthesis (take (length w - 2) (drop 2 w)) (get_or w 0 0) (get_or w 1 0) (length old) work marks
-  same_call = rw (same_image, rows, worked, marked)
-
-  same_atoms : get_or (take (length w - 2) (drop 2 w)) 0 0 ≡ n
-  same_atoms = ap (λ (z : List ℕ). get_or z 0 0) same_image ∙ get_or-drop 2 w 0 0 ∙ sym atoms
+module _ (w : List ℕ) {old ws ms out : List ℕ} {n : ℕ} (atoms : n ≡ get_or w 2 0) (buffers : Buffers old ws ms out) where
+  same_call : input_answer w ≡ synthesis (take (length w - 2) (drop 2 w)) (get_or w 0 0) (get_or w 1 0) (length old) (length ws) (length ms)
+  same_call = rw (same_image w, buffers.rows, buffers.work, buffers.marks)
 
   pub words_refused :
       (p : paper.Refusal) (buf : List ℕ)
-      → outcome (refused p) buf ≡ synthesis_call (take (length w - 2) (drop 2 w)) (get_or w 0 0) (get_or w 1 0) old work marks
+      → outcome (refused p) buf
+      ≡ synthesis_call (take (length w - 2) (drop 2 w)) (get_or w 0 0) (get_or w 1 0) old (length ws) (length ms)
       → words_text w ≡ refused_text p
-  words_refused p buf e = text_refused w p (same_call ∙ made_refused (take (length w - 2) (drop 2 w)) (get_or w 0 0) (get_or w 1 0) old work marks p buf e)
+  words_refused p buf e =
+      text_refused w p (same_call ∙ made_refused (take (length w - 2) (drop 2 w)) (get_or w 0 0) (get_or w 1 0) old (length ws) (length ms) p buf e)
 
   pub words_found :
-      (k r : ℕ) (buf : List ℕ) → outcome (finding (record { rows = k; rounds = r })) buf ≡ synthesis_call (take (length w - 2) (drop 2 w)) (get_or w 0 0)
-      (get_or w 1 0) old work marks → WordsFound w n buf k r
+      (k r : ℕ) (buf : List ℕ)
+      → outcome (finding (record { rows = k; rounds = r })) buf
+      ≡ synthesis_call (take (length w - 2) (drop 2 w)) (get_or w 0 0) (get_or w 1 0) old (length ws) (length ms)
+      → WordsFound w n buf k r
   words_found k r buf e =
-      let f = made_found (take (length w - 2) (drop 2 w)) (get_or w 0 0) (get_or w 1 0) old work marks k r buf e in
+      let f = made_found (take (length w - 2) (drop 2 w)) (get_or w 0 0) (get_or w 1 0) old (length ws) (length ms) k r buf e in
       let x = finding_of (clauses_of (take (width * k) buf)) r in
-      let s = same_atoms in
+      let s = same_atoms w atoms in
       let h = f.few in
       record {
         text = text_found w x (same_call ∙ f.answered) ∙ ap (λ (z : ℕ). found_text z x) (sym atoms);
-        read = subst (λ (z : ℕ). ClausesRead z (take (width * k) buf)) same_atoms f.read;
+        read = subst (λ (z : ℕ). ClausesRead z (take (width * k) buf)) s f.read;
         room = f.room;
         few = omega arith;
       }
 
 -- ---- the input's bytes
 module _ (bs : List ℕ) where
-  pub input_size : is_input bs ≡ true → (4 ≤ length bs) × (length bs ≤ most_input)
+  input_size : is_input bs ≡ true → (4 ≤ length bs) × (length bs ≤ most_input)
   input_size e =
       let l = and_left (leb 4 (length bs) && eqb (length bs % 2) 0) (leb (length bs) most_input) e in (
         leb-true 4 (length bs) (and_left (leb 4 (length bs)) (eqb (length bs % 2) 0) l),

@@ -3,19 +3,24 @@ use mathlib.Core.Path.{◌≡◌, refl, ◌∙◌, ap}
 use mathlib.Core.List.{List, [], ◌∷◌, ◌++◌, map, append_assoc}
 use Prim.Native.Nat.{ℕ, ◌+◌, ◌-◌, ◌*◌, ◌/◌, ◌≤◌, ◌<◌}
 use native.Mathlib.Omega.{arith}
-use lib.ListN.{length, get_or, take, drop}
-use lib.Seq.{get_or-take, length-take-le}
+use lib.ListN.{length, get_or, take, drop, length-append}
+use lib.Seq.{get_or-take, length-take-le, take_at, drop_at}
 use borrow.Author.Tests.{eq-eqb, ne_eqb}
 use Rattle.definitions.specs.Lists.{each, range}
+use Rattle.definitions.specs.Clauses.{width, clause_of}
 use Rattle.definitions.specs.Text.{decimal}
-use Rattle.definitions.specs.Card.{literal_text, clause_line, none_word}
+use Rattle.definitions.specs.Answer.{Refusal}
+use Rattle.definitions.specs.Card.{literal_text, clause_line, none_word, refused_word, refused_text}
 use Rattle.definitions.proofs.Walks.{below_left}
+use Rattle.clause.specs.Rows.{clauses_of}
+use Rattle.clause.proofs.RowLaws.{clauses_step, clauses_none}
 use Rattle.writing.specs.Writing.{Wrote, Writing}
 use Rattle.writing.proofs.Writes.{write_start, write_same, write_part, write_end, part_room}
 use Rattle.writing.proofs.Ranges.{range_each, range_each_end}
 use Rattle.text.specs.Fields.{separator, fields_from}
 use Rattle.text.proofs.Lines.{line_fields, fields_next, fields_end}
 use Rattle.card.specs.Text.{member_text, none_text, group_text, group_texts}
+use Rattle.card.proofs.TextLaws.{refusal_parts}
 
 -- ---- a clause
 pub clause_begun : (ls : List ℕ) {out : List ℕ} {at : ℕ} → Writing out at (clause_line ls) out at (fields_from 0 (map literal_text ls))
@@ -56,6 +61,41 @@ module _
     -- after the last field
     pub clause_end : length ls ≤ i → Writing old at (clause_line ls) now' to (10 ∷ [])
     clause_end h = write_same (fields_end literal_text ls i h) left
+
+-- ---- row after row: the rows left are v, of which `row` is the first, and its clause is f
+pub rows_next :
+    (row f : List ℕ) → length row ≡ width → f ≡ clause_of row → (v rest : List ℕ) → v ≡ row ++ rest
+    → each clause_line (clauses_of v) ≡ clause_line f ++ each clause_line (clauses_of rest)
+unfolding each
+rows_next row f wide is v rest parts =
+    let size = length-append row rest in
+    let first = clauses_step (row ++ rest) (omega arith) in
+    rw (parts, first, take_at row rest width wide, drop_at row rest width wide, is)
+
+pub rows_end : (v : List ℕ) → length v < width → each clause_line (clauses_of v) ≡ []
+unfolding each
+rows_end v h = rw (clauses_none v h)
+
+-- ---- the line of a refusal, of whose question q is the number
+module _ (f : Refusal) (q : ℕ) (is : q ≡ f.number) {old : List ℕ} {at : ℕ} where
+  pub refusal_begun :
+      Writing old at (refused_text f) old at
+      ((refused_word ++ (32 ∷ decimal q)) ++ ((32 ∷ decimal f.first) ++ ((32 ∷ decimal f.second) ++ (10 ∷ []))))
+  refusal_begun = write_same (refusal_parts f q is) write_start
+
+  -- after the word and the number
+  module _ {mid : List ℕ} {to : ℕ} (number : Wrote old at (refused_word ++ (32 ∷ decimal q)) mid to) where
+    pub first_left : Writing old at (refused_text f) mid to ((32 ∷ decimal f.first) ++ ((32 ∷ decimal f.second) ++ (10 ∷ [])))
+    first_left = write_part refusal_begun number
+
+    -- after the first place
+    module _ {now' : List ℕ} {next : ℕ} (first : Wrote mid to (32 ∷ decimal f.first) now' next) where
+      pub second_left : Writing old at (refused_text f) now' next ((32 ∷ decimal f.second) ++ (10 ∷ []))
+      second_left = write_part first_left first
+
+      pub refusal_end :
+          {new : List ℕ} {end : ℕ} → Wrote now' next (32 ∷ decimal f.second) new end → Writing old at (refused_text f) new end (10 ∷ [])
+      refusal_end second = write_part second_left second
 
 -- ---- groups
 pub none_omitted_lem : (n : ℕ) → n ≡ 0 → none_text n ≡ []

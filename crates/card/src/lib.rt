@@ -9,8 +9,8 @@ ghost use Rattle.writing.specs.Writing.{Wrote};
 ghost use Rattle.card.specs.Room.{most_text, most_words, Buffers};
 ghost use Rattle.card.specs.Text.{is_input, words_text};
 
-use answer::Refusal;
-use synthesis::Synthesis;
+use answer::{Question, Refusal};
+use synthesis::Found;
 
 pub mod found; // found.rt: the text of a finding
 pub mod group; // group.rt: the lines of groups
@@ -62,13 +62,12 @@ fn write_words(
     ensures { Wrote out.old 0 (words_text words.now) out.new result }
 {
     let count = atoms(words);
-    let made = synthesis::synthesize(&words[2..], words[0], words[1], clauses, work, marks);
-    match made {
-        Synthesis::Found(rows, rounds) => {
+    match synthesis::synthesize(&words[2..], words[0], words[1], clauses, work, marks) {
+        Ok(Found { rows, rounds }) => {
             let end = clause::WIDTH * rows;
             found::write_found(out, &clauses[..end], rounds, count)
         }
-        Synthesis::Refused(f) => write_refused(out, f),
+        Err(f) => write_refused(out, f),
     }
 }
 
@@ -103,12 +102,7 @@ fn write_input(input: &[u8], out: &mut [u8]) -> usize
     ensures { Wrote out.old 0 (card input.now) out.new result }
 {
     if !is_input(input) {
-        let f = Refusal {
-            number: Refusal::IMAGE_SIZE,
-            first: 0,
-            second: 0,
-        };
-        return write_refused(out, f);
+        return write_refused(out, Refusal::from(Question::ImageSize));
     }
     let mut words = word_room();
     let end = writing::words_of(input, &mut words);

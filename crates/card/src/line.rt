@@ -8,7 +8,7 @@ ghost use Rattle.writing.specs.Writing.{Wrote};
 ghost use Rattle.card.specs.Text.{sign_of, counts_line, set_text, groups_line};
 
 use answer::Refusal;
-use clause::place::RowPlace;
+use clause::WIDTH;
 use literal::Literal;
 
 // The sign of a literal.
@@ -46,11 +46,8 @@ fn write_clauses(out: &mut [u8], at: usize, clauses: &[u16]) -> usize
     ensures { Wrote out.old at (each clause_line (clauses_of clauses.now)) out.new result }
 {
     let mut to = at;
-    let mut place = RowPlace::first();
-    while place.is_in(clauses) {
-        let row = place.row(clauses);
+    for row in clauses.chunks_exact(WIDTH) {
         to = write_clause(out, to, clause::literals(row));
-        place = place.next();
     }
     to
 }
@@ -60,7 +57,7 @@ pub fn write_refusal(out: &mut [u8], at: usize, f: Refusal) -> usize
     requires { at + length (refused_text (placed f)) ≤ length out.old }
     ensures { Wrote out.old at (refused_text (placed f)) out.new result }
 {
-    let number = literal::wide(f.number);
+    let number = literal::wide(f.question.number());
     let first = text::write_named(out, at, b"refused", number);
     let second = text::write_number(out, first, f.first);
     let end = text::write_number(out, second, f.second);
