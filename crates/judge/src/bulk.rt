@@ -14,7 +14,7 @@ ghost use Rattle.propagation.specs.Marks.{Asked, ConsistentMarks};
 ghost use Rattle.task.specs.Walk.{row, operator_in};
 
 use super::under::{Closed, Under};
-use clause::place::RowPlace;
+use clause::WIDTH;
 use propagation::Closing;
 use task::rows::{Row, Rows};
 
@@ -38,12 +38,10 @@ fn lacks_flag(row: &[u16], l: u16, flags: &[u8]) -> bool
 fn some_holds(judged: &[u16], l: u16) -> bool
     ensures { result ≡ any (member l) (clauses_of judged.now) }
 {
-    let mut place = RowPlace::first();
-    while place.is_in(judged) {
-        if clause::has_literal(place.row(judged), l) {
+    for row in judged.chunks_exact(WIDTH) {
+        if clause::has_literal(row, l) {
             return true;
         }
-        place = place.next();
     }
     false
 }
@@ -53,15 +51,10 @@ fn flag_lacking(judged: &[u16], l: u16, flags: &[u8], fails: &mut [u8])
     requires { length fails.old ≡ row_count judged.now }
     ensures { fails.new ≡ flag_more (lacks_flag l flags.now) (clauses_of judged.now) fails.old }
 {
-    let mut place = RowPlace::first();
-    while place.is_in(judged) {
-        let here = place;
-        place = place.next();
-        if !lacks_flag(here.row(judged), l, flags) {
-            continue;
+    for (number, row) in judged.chunks_exact(WIDTH).enumerate() {
+        if lacks_flag(row, l, flags) {
+            fails[number] = 1;
         }
-        let number = here.number;
-        fails[number] = 1;
     }
 }
 
