@@ -151,6 +151,6 @@ pub fn set_initial(image: &[u16], state: &mut [u16]) -> Result<(), Refusal>
 {
     fdr_image::read(image)?;
     ask(Question::State, state.len() == fdr_image::variables(image))?;
-    state.copy_from_slice(fdr_image::initial(image));
+    writing::write(fdr_image::initial(image), state, 0);
     Ok(())
 }

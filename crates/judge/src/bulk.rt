@@ -62,12 +62,12 @@ impl Closed<'_> {
     // Flags the judged clauses that a row with these conditions violates, where `l` is the complement of its effect. Conditions that
     // are marked add nothing to the closure. Since the row can fire, `l` itself is guaranteed only if an add row of it surely fires.
     fn judge_row(&self, conditions: &[u16], l: u16, marks: &mut [u8], fails: &mut [u8])
-        requires { Asked self.now.under.atoms self.now.under.clauses.now conditions.now marks.old
-            × (length fails.old ≡ row_count self.now.under.judged.now) }
-        ensures { (e : ℕ) → l ≡ complement e → Memᴰ (row e conditions.now) (operator_under self.now.under).rows → fails.new
-            ≡ flag_by_row self.now.under (row e conditions.now) fails.old }
+        requires { Asked self.now.under.now.atoms self.now.under.now.clauses.now conditions.now marks.old
+            × (length fails.old ≡ row_count self.now.under.now.judged.now) }
+        ensures { (e : ℕ) → l ≡ complement e → Memᴰ (row e conditions.now) (operator_under self.now.under.now).rows → fails.new
+            ≡ flag_by_row self.now.under.now (row e conditions.now) fails.old }
     {
-        let under = &self.under;
+        let under = self.under;
         if propagation::marks::holds_all(self.base, conditions) {
             flag_lacking(under.judged, l, self.guaranteed, fails);
             return;
@@ -85,10 +85,10 @@ impl Closed<'_> {
 
     // Flags the judged clauses that some row violates.
     fn judge_rows(&self, marks: &mut [u8], fails: &mut [u8])
-        requires { (mark_bytes self.now.under.atoms ≤ length marks.old) × (length fails.old ≡ row_count self.now.under.judged.now) }
-        ensures { fails.new ≡ flag_by_rows self.now.under (operator_under self.now.under).rows fails.old }
+        requires { (mark_bytes self.now.under.now.atoms ≤ length marks.old) × (length fails.old ≡ row_count self.now.under.now.judged.now) }
+        ensures { fails.new ≡ flag_by_rows self.now.under.now (operator_under self.now.under.now).rows fails.old }
     {
-        let Under { judged, block, .. } = self.under;
+        let Under { judged, block, .. } = *self.under;
         for Row { effect, conditions } in Rows::of(block) {
             let l = super::guarantee::complement(effect);
             if !some_holds(judged, l) {
@@ -124,7 +124,7 @@ impl Under<'_> {
         propagation::marks::copy(marks, &mut base, self.atoms);
         self.flag_guaranteed(&base, flags);
         let closed = Closed {
-            under: *self,
+            under: self,
             base: &base,
             guaranteed: flags,
         };

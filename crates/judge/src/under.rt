@@ -16,9 +16,9 @@ pub struct Under<'a> {
 // The same, with the marks of the closure of the clauses and the precondition, and the flags of the literals guaranteed by it.
 #[derive(Clone, Copy)]
 pub struct Closed<'a> {
-    pub under: Under<'a>,
+    pub under: &'a Under<'a>,
     pub base: &'a [u8],
     pub guaranteed: &'a [u8],
-    pub ghost closed: { ConsistentClosure under.atoms under.clauses.now (operator_in under.block.now).precondition base.now },
-    pub ghost flagged: { FlagsGuaranteed under.atoms under.clauses.now under.block.now base.now guaranteed.now },
+    pub ghost closed: { ConsistentClosure under.now.atoms under.now.clauses.now (operator_in under.now.block.now).precondition base.now },
+    pub ghost flagged: { FlagsGuaranteed under.now.atoms under.now.clauses.now under.now.block.now base.now guaranteed.now },
 }

@@ -81,7 +81,8 @@ fn write_task(
     Ok(words)
 }
 
-// The re-encoding of a task by clauses that are read.
+// The re-encoding of a task by clauses that are read. Not inlined, so that its buffers are not on the stack while the checker runs.
+#[inline(never)]
 pub fn reencode_read(image: &[u16], clauses: &[u16], target: &mut [u16]) -> Result<usize, Refusal>
     requires { (Reads image.now) × (ClausesRead (task_of image.now).atoms clauses.now) }
     ensures { outcome (count_answer result) target.new ≡ written target.old (encode_answer (task_of image.now) (clauses_of clauses.now) (length target.old)) }

@@ -1,13 +1,11 @@
 -- Laws of writing word after word, and part after part. Assumes nothing.
-use borrow.Rule.Slice.PartMut.{put_mid}
-use Rattle.std.proofs.lemmas.Slice.{put_mid-paste}
 use mathlib.Core.Path.{◌≡◌, refl, sym, ◌∙◌, ap}
 use mathlib.Core.List.{List, [], ◌∷◌, ◌++◌, append-nil}
-use Prim.Native.Nat.{ℕ, suc, ◌+◌, ◌-◌, ◌≤◌, ◌<◌}
+use Prim.Native.Nat.{ℕ, suc, ◌+◌, ◌≤◌, ◌<◌}
 use native.Mathlib.Numerals.{add-one}
 use native.Mathlib.Omega.{arith}
 use lib.ListN.{length, set, take, drop, length-append, length-set, drop_of_length-le}
-use lib.Seq.{sets, length-sets, sets-eq, take_all, take-append_seam}
+use lib.Seq.{sets, length-sets, sets-eq, paste, take_all, take-append_seam}
 use Rattle.writing.specs.Writing.{Wrote, Writing}
 
 -- words after words
@@ -18,15 +16,13 @@ sets_append t at (x ∷ xs) ys =
     rw e (sets_append (set t at x) (suc at) xs ys)
 
 -- ---- what is written, and its place
--- a part of the target holds the items
-pub part_wrote :
-    {A : Type 0} (t items part : List A) (at : ℕ) → part ≡ items → at + length items ≤ length t
-    → Wrote t at items (put_mid at (at + length items - at) t part) (at + length items)
-part_wrote t items part at e room =
+-- the items are copied one by one, from their first to their last
+pub copied_wrote :
+    {A : Type 0} (t items : List A) (at n : ℕ) → n ≡ length items → at + length items ≤ length t
+    → Wrote t at items (paste t at items n) (at + length items)
+copied_wrote t items at n e room =
     record {
-      target =
-          put_mid-paste at (at + length items - at) t part items (length items) e (omega arith) refl
-          ∙ rw (take_all (length items) items (omega arith)) (sym (sets-eq items t at room));
+      target = rw (e, take_all (length items) items (omega arith)) (sym (sets-eq items t at room));
       next = refl;
     }
 

@@ -7,14 +7,15 @@ ghost use Rattle.writing.specs.Writing.{Wrote};
 
 pub mod directory; // directory.rt: pairs and directories of images
 
-// Writes items of any kind.
+// Writes items of any kind, one by one: `copy_from_slice` calls memmove, which the library for C doesn't need otherwise.
 pub fn write<T: Copy>(items: &[T], target: &mut [T], at: usize) -> usize
     requires { at + length items.now ≤ length target.old }
     ensures { Wrote target.old at items.now target.new result }
 {
-    let end = at + items.len();
-    target[at..end].copy_from_slice(items);
-    end
+    for (i, item) in items.iter().enumerate() {
+        target[at + i] = *item;
+    }
+    at + items.len()
 }
 
 pub fn words(words: &[u16], target: &mut [u16], at: usize) -> usize

@@ -1,10 +1,11 @@
 -- Question 17, then the length of the state.
-use Rattle.std.proofs.Common.{◌∙◌, ap, sym}
+use Rattle.std.proofs.Common.{◌∙◌, ap, sym, arith}
 use borrow.Author.Tests.{eqb-true}
 use Rattle.definitions.specs.Answer.{ask, finding}
 use Rattle.definitions.specs.FdrStep.{start_fdr}
 use Rattle.answer.proofs.Laws.{left_by, outcome_of, handed_on, goes_on, asked_yes}
 use Rattle.answer.proofs.ReaderCalls.{start_refused, stays, done}
+use Rattle.writing.proofs.Writes.{wrote_all}
 use Rattle.fdr_image.proofs.Reading.{reads}
 use Rattle.fdr.specs.Post.{fdr_reader}
 use Rattle.fdr.proofs.Calls.{initial_fits}
@@ -28,16 +29,19 @@ returns-in_err-ask c =
 pub initial-requires : goal.initial-requires
 initial-requires c = reads _ c.in_ok-read.ensures
 
-pub copy_from_slice-requires : goal.copy_from_slice-requires
+pub write-requires : goal.write-requires
 unfolding ask
-copy_from_slice-requires c =
+write-requires c =
     let same = eqb-true _ _ (asked_yes _ _ _ _ c.in_ok-ask.ensures) in
-    sym (initial_fits _ (reads _ c.in_ok-read.ensures) _ _ _ c.variables.ensures.0 same c.initial.ensures)
+    let e = initial_fits _ (reads _ c.in_ok-read.ensures) _ _ _ c.variables.ensures.0 same c.initial.ensures in
+    omega (arith, e)
 
 pub returns : goal.returns
-unfolding start_fdr
+unfolding start_fdr ask
 returns c =
     let rd = reads _ c.in_ok-read.ensures in
+    let same = eqb-true _ _ (asked_yes _ _ _ _ c.in_ok-ask.ensures) in
+    let fits = initial_fits _ rd _ _ _ c.variables.ensures.0 same c.initial.ensures in
     done _ _ _
-    (ap finding (c.copy_from_slice.ensures.after ∙ c.initial.ensures)
+    (ap finding (wrote_all fits c.write.ensures ∙ c.initial.ensures)
     ∙ (rw (← c.variables.ensures.0) (goes_on _ _ _ c.in_ok-ask.ensures) ∙ goes_on _ _ _ (sym rd.found)))

@@ -9,7 +9,7 @@ use Rattle.judge.proofs.under.Closed.judge_row.Goals as goal
 pub returns-then-holds_all : goal.returns-then-holds_all
 returns-then-holds_all c = λ e el there.
     let s = c.args.self.now in
-    let u = s.under in
+    let u = s.under.now in
     let below = c.requires.0.below in
     let closed = closure_with _ _ _ _ u.given.rows _ (sym (c.if-holds_all.ensures _ _ s.closed.marked below)) s.closed in
     row_judged _ _ _ _ e _ _ (within_rows u.given.rows) below (judged_low _ _ u.right) closed.consistent _ _ el there
@@ -30,7 +30,7 @@ flag_violated-requires c =
 pub returns-in-Consistent : goal.returns-in-Consistent
 returns-in-Consistent c = λ e el there.
     let s = c.args.self.now in
-    let u = s.under in
+    let u = s.under.now in
     let closed = closure_says _ _ _ _ (c.in-Consistent.ensures _ (c.copy.ensures _ s.closed.marked)) in
     row_judged _ _ _ _ e _ _ (within_rows u.given.rows) c.requires.0.below (judged_low _ _ u.right) closed.consistent _ _ el there
     (c.flag_violated.ensures _ closed)

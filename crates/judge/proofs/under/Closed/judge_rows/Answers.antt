@@ -8,10 +8,10 @@ use Rattle.judge.proofs.under.Closed.judge_rows.Goals as goal
 pub loop-effect-init : goal.loop-effect-init
 loop-effect-init c =
     let rows = ap rows_left c.into_iter-effect-iterator.ensures.into_iter_gives ∙ c.of-effect-items.ensures in
-    (left_start _ _ _ c.args.self.now.under.given.right rows, walk_start _ _ _ _ _ _ _ rows)
+    (left_start _ _ _ c.args.self.now.under.now.given.right rows, walk_start _ _ _ _ _ _ _ rows)
 
 pub complement-l-requires : goal.complement-l-requires
-complement-l-requires c = omega (arith, effect_low _ _ _ _ _ c.in-Some.ensures.steps c.loop-effect.invariant.0, c.args.self.now.under.given.few)
+complement-l-requires c = omega (arith, effect_low _ _ _ _ _ c.in-Some.ensures.steps c.loop-effect.invariant.0, c.args.self.now.under.now.given.few)
 
 pub loop-effect-preserved-then-not-some_holds : goal.loop-effect-preserved-then-not-some_holds
 loop-effect-preserved-then-not-some_holds c =
@@ -23,7 +23,7 @@ loop-effect-preserved-then-not-some_holds c =
 
 pub judge_row-requires : goal.judge_row-requires
 judge_row-requires c =
-    let g = c.args.self.now.under.given in (
+    let g = c.args.self.now.under.now.given in (
       record {
         few = g.few;
         room = omega (arith, c.requires.0);

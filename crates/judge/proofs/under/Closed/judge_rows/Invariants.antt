@@ -7,6 +7,6 @@ use Rattle.judge.proofs.under.Closed.judge_rows.Given as goal
 
 abbrev pub invariant-loop-effect : goal.invariant-loop-effect
 invariant-loop-effect l =
-    let u = l.self.under in
+    let u = l.self.under.now in
     Left u.atoms (operator_under u) (rows_left l.effect-iterator)
     × (flag_by_rows u (operator_under u).rows l.fn.fails ≡ flag_by_rows u (rows_left l.effect-iterator) l.fails)
