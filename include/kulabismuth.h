@@ -23,7 +23,7 @@
  *
  * STACK. 'stack: N bytes' at a prototype is an upper bound of what the call needs, below the caller's stack pointer at its call
  * instruction. It is computed from the machine code, with 4096 bytes for memcpy or memset and rounded up to a multiple of 1024
- * (tests/stack). It holds for the library that the kit rattle-kit-5b-plain makes. A signal handler on the same stack needs its
+ * (tests/stack). It holds for the library that the kit rattle-kit-13f makes. A signal handler on the same stack needs its
  * own room. Where the stack is too short, a signal ends the process at the guard page below the stack, if there is one: frames
  * of more than a page are probed page by page.
  *
@@ -222,7 +222,7 @@ uint32_t kb_groups(const uint16_t *image, size_t image_length, const uint16_t *c
  * marks: KB_MARK_BYTES(N) bytes or more; then anything.
  * target: as long as the image or longer, KB_MOST_FDR_IMAGE_WORDS always suffice; then the image, words behind it stay.
  * first: the number of words written.
- * stack: 29696 bytes
+ * stack: 19456 bytes
  */
 uint32_t kb_reencode(const uint16_t *image, size_t image_length, const uint16_t *clauses, size_t clauses_length,
                      uint8_t *marks, size_t marks_length, uint16_t *target, size_t target_length,
@@ -291,7 +291,7 @@ uint32_t kb_decode(const uint16_t *image, size_t image_length, const uint16_t *s
  * list: any length, any numbers.
  * marks: KB_MARK_BYTES(N) bytes or more; then anything.
  * first: 1 if they agree, as they do for every accepted set and every list (proved), else 0.
- * stack: 110592 bytes
+ * stack: 100352 bytes
  */
 uint32_t kb_agree(const uint16_t *image, size_t image_length, const uint16_t *clauses, size_t clauses_length,
                   const uint16_t *list, size_t list_length, uint8_t *marks, size_t marks_length,

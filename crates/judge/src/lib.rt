@@ -13,7 +13,8 @@ pub mod bulk; // bulk.rt: all judged clauses under one operator
 pub mod guarantee; // guarantee.rt: the literals that an operator guarantees
 mod under; // under.rt: what judging under one operator is given
 
-// Whether the clauses keep a clause under an operator.
+// Whether the clauses keep a clause under an operator. Inlined, so that the stack of `kb_kept` stays within what its header states.
+#[inline(always)]
 fn test(image: &[u16], clauses: &[u16], clause: &[u16], operator: usize, marks: &mut [u8]) -> bool
     requires { Asks image.now clauses.now clause.now operator (length marks.old) }
     ensures { finding result ≡ keeps image.now clauses.now clause.now operator (length marks.old) }
