@@ -2,9 +2,9 @@
 #![tactic(auto)]
 
 ghost use Rattle.std.specs.Prelude.{◌≡◌};
-ghost use Rattle.definitions.specs.Answer.{ask, ask_at};
+ghost use Rattle.definitions.specs.Answer.{finding, ask, ask_at};
 ghost use Rattle.definitions.specs.StepLists.{refused_after};
-ghost use Rattle.answer.specs.Answer.{placed, refusal_at, verdict_answer};
+ghost use Rattle.answer.specs.Answer.{placed, refusal_at, verdict_answer, test_answer};
 ghost use Rattle.answer.specs.Question.{number_of};
 
 // A question of documents 01 and 02.
@@ -116,6 +116,13 @@ impl From<Question> for Refusal {
     fn from(question: Question) -> Refusal {
         Refusal::at(question, 0)
     }
+}
+
+// The answer of a test that was not refused.
+pub fn whether(holds: bool) -> Result<bool, Refusal>
+    ensures { test_answer result ≡ finding holds }
+{
+    Ok(holds)
 }
 
 // Asks a question that is answered by `holds`.

@@ -2,7 +2,7 @@
 ghost use Rattle.std.specs.Prelude.{◌≡◌, ◌+◌, ◌≤◌, length};
 ghost use Rattle.definitions.specs.Lists.{each};
 ghost use Rattle.definitions.specs.Card.{literal_text, clause_line, refused_text};
-ghost use Rattle.answer.specs.Answer.{placed};
+ghost use Rattle.answer.specs.Answer.{placed, refusal_at};
 ghost use Rattle.clause.specs.Rows.{clauses_of};
 ghost use Rattle.writing.specs.Writing.{Wrote};
 ghost use Rattle.card.specs.Text.{sign_of, counts_line, set_text, groups_line};
@@ -52,16 +52,23 @@ fn write_clauses(out: &mut [u8], at: usize, clauses: &[u16]) -> usize
     to
 }
 
+// Writes the line of a refusal, by its number and places.
+pub fn write_refused(out: &mut [u8], at: usize, number: u16, i: usize, j: usize) -> usize
+    requires { at + length (refused_text (refusal_at number i j)) ≤ length out.old }
+    ensures { Wrote out.old at (refused_text (refusal_at number i j)) out.new result }
+{
+    let first = text::write_named(out, at, b"refused", literal::wide(number));
+    let second = text::write_number(out, first, i);
+    let end = text::write_number(out, second, j);
+    writing::byte(b'\n', out, end)
+}
+
 // Writes the line of a refusal.
 pub fn write_refusal(out: &mut [u8], at: usize, f: Refusal) -> usize
     requires { at + length (refused_text (placed f)) ≤ length out.old }
     ensures { Wrote out.old at (refused_text (placed f)) out.new result }
 {
-    let number = literal::wide(f.question.number());
-    let first = text::write_named(out, at, b"refused", number);
-    let second = text::write_number(out, first, f.first);
-    let end = text::write_number(out, second, f.second);
-    writing::byte(b'\n', out, end)
+    write_refused(out, at, f.question.number(), f.first, f.second)
 }
 
 // Writes the line of the numbers of clauses and rounds.

@@ -90,7 +90,7 @@ impl Closed<'_> {
     {
         let Under { judged, block, .. } = *self.under;
         for Row { effect, conditions } in Rows::of(block) {
-            let l = super::guarantee::complement(effect);
+            let l = super::guarantee::complement(literal::wide(effect));
             if !some_holds(judged, l) {
                 continue;
             }

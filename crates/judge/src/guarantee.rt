@@ -6,6 +6,7 @@ ghost use Rattle.definitions.specs.Marks.{mark_bytes};
 ghost use Rattle.clause.specs.Rows.{clauses_of};
 ghost use Rattle.task.specs.Walk.{block_parses, operator_in};
 ghost use Rattle.propagation.specs.Marks.{Marked, ConsistentMarks, Asked};
+ghost use Rattle.judge.specs.Promise.{Given, FlagsGuaranteed};
 ghost use Rattle.judge.specs.Judging.{flags_of, can_fire, flag_effects, drop_changed};
 ghost use Rattle.judge.specs.Under.{operator_under, IsClosure, guaranteed_under};
 
@@ -15,11 +16,12 @@ use propagation::Closing;
 use task::rows::{Row, Rows};
 
 // The complement of a row's effect.
-pub fn complement(effect: u16) -> u16
+pub fn complement(effect: usize) -> u16
     requires { effect < 65535 }
     ensures { result ≡ complement effect }
 {
-    Literal { code: effect }.complement().code
+    let code = effect as u16;
+    Literal { code }.complement().code
 }
 
 // Flags the marked literals.
@@ -74,7 +76,7 @@ impl Under<'_> {
             ≡ drop_changed self.now.atoms (clauses_of self.now.clauses.now) ls (operator_under self.now).rows flags.old }
     {
         for Row { effect, conditions } in Rows::of(self.block) {
-            let l = literal::wide(complement(effect));
+            let l = literal::wide(complement(literal::wide(effect)));
             if literal::flags::is_zero(flags, l) {
                 continue;
             }
@@ -98,4 +100,18 @@ impl Under<'_> {
         self.drop_changed(marks, &mut work, flags);
         flag_effects(self.block, marks, task::block::ADDS, flags);
     }
+}
+
+// The same for the block of an operator alone, where no clause is judged.
+pub fn flag_guaranteed(clauses: &[u16], block: &[u16], marks: &[u8], atoms: usize, flags: &mut [u8])
+    requires { Given atoms clauses.now block.now × ConsistentMarks atoms marks.now × (length flags.old ≡ 2 * atoms) }
+    ensures { FlagsGuaranteed atoms clauses.now block.now marks.now flags.new }
+{
+    let under = Under {
+        clauses,
+        judged: &clauses[..0],
+        block,
+        atoms,
+    };
+    under.flag_guaranteed(marks, flags);
 }

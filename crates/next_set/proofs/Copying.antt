@@ -18,9 +18,8 @@ use Rattle.next_set.specs.Build.{rows_without, words_without}
 use Rattle.next_set.specs.Post.{Copied}
 use Rattle.next_set.proofs.Flags.{has_one, has_not}
 
--- the rows before row n that have no flag stand before word `to`, and the others are left
-pub record Copying (c flags w₀ w : List ℕ) (to n : ℕ) : Type 0 where
-  pub count : ℕ
+-- the rows before row n that have no flag, `count` of them, stand before word `to`, and the others are left
+pub record Copying (c flags w₀ w : List ℕ) (to count n : ℕ) : Type 0 where
   pub position : to ≡ width * count
   pub few : count ≤ n
   pub inside : n ≤ row_count c
@@ -36,23 +35,22 @@ module _ (c flags : List ℕ) where
   unfolding rows_without
   row_unflagged i h = rw (has_not flags i h)
 
-  pub copying_start : (w : List ℕ) → Copying c flags w w 0 0
+  pub copying_start : (w : List ℕ) → Copying c flags w w 0 0 0
   unfolding words_without
   copying_start w =
       let q : row_count c - 0 ≡ row_count c = omega arith in
-      record { count = 0; position = sym (mul-zero width); few = omega arith; inside = omega arith; same_length = refl; words = rw q refl }
+      record { position = sym (mul-zero width); few = omega arith; inside = omega arith; same_length = refl; words = rw q refl }
 
-  module _ {w₀ w : List ℕ} {to n : ℕ} (inv : Copying c flags w₀ w to n) where
+  module _ {w₀ w : List ℕ} {to count n : ℕ} (inv : Copying c flags w₀ w to count n) where
     module _ (more : n < row_count c) where
       split :
           each (rows_without c flags) (range n (row_count c - n))
           ≡ rows_without c flags n ++ each (rows_without c flags) (range (n + 1) (row_count c - (n + 1)))
       split = range_left (rows_without c flags) n (row_count c - n) (row_count c - (n + 1)) (omega arith)
 
-      pub copying_skip : get_or flags n 0 ≡ 1 → Copying c flags w₀ w to (n + 1)
+      pub copying_skip : get_or flags n 0 ≡ 1 → Copying c flags w₀ w to count (n + 1)
       copying_skip h =
           record {
-            count = inv.count;
             position = inv.position;
             few = omega (arith, inv.few);
             inside = omega arith;
@@ -67,7 +65,7 @@ module _ (c flags : List ℕ) where
 
       pub copying_row :
           length c ≤ length w₀ → (get_or flags n 0 ≡ 1 → ⊥) → (r w' : List ℕ) (end : ℕ) → r ≡ row_at c n → length w' ≡ length w
-          → Wrote w to r w' end → Copying c flags w₀ w' end (n + 1)
+          → Wrote w to r w' end → Copying c flags w₀ w' end (count + 1) (n + 1)
       copying_row fits unflagged r w' end read same wrote =
           let left = each (rows_without c flags) (range (n + 1) (row_count c - (n + 1))) in
           let long : length r ≡ width = ap length read ∙ row_length c n more in
@@ -77,22 +75,21 @@ module _ (c flags : List ℕ) where
           let both : length (take to w ++ r) ≡ end = rw length-append (omega (arith, wrote.next)) in
           let front : take end w' ≡ take to w ++ r = ap (take end) stands ∙ take_at (take to w ++ r) (drop (to + length r) w) end both in
           record {
-            count = inv.count + 1;
-            position = rw add-one (omega (arith, mul-suc width inv.count, inv.position, wrote.next));
+            position = rw add-one (omega (arith, mul-suc width count, inv.position, wrote.next));
             few = omega (arith, inv.few);
             inside = omega arith;
             same_length = same ∙ inv.same_length;
             words = inv.words ∙ rw (split, row_unflagged n unflagged, front, ← read) (sym (append_assoc (take to w) r left));
           }
 
-    pub copying_end : length c ≤ length w₀ → row_count c ≤ n → Copied c flags w (to / width)
+    pub copying_end : length c ≤ length w₀ → row_count c ≤ n → Copied c flags w count
     unfolding width row_count
     copying_end fits done =
         let none = range_done (rows_without c flags) n (row_count c - n) (omega arith) in
         let e : take to w ≡ words_without c flags = sym (inv.words ∙ rw none (append-nil (take to w))) in
-        let q : width * (to / width) ≡ to = omega (arith, inv.position) in
+        let q : width * count ≡ to = sym inv.position in
         record {
           few = omega (arith, inv.few, inv.inside, inv.position);
           words = rw q e;
-          size = ap length (sym e) ∙ length-take-le to w (omega (arith, inv.few, inv.inside, inv.position, inv.same_length)) ∙ sym q;
+          size = ap length (sym e) ∙ length-take-le to w (omega (arith, inv.few, inv.inside, inv.position, inv.same_length)) ∙ inv.position;
         }

@@ -20,12 +20,14 @@ fn copy_unflagged(clauses: &[u16], flags: &[u8], work: &mut [u16]) -> usize
     ensures { Copied clauses.now flags.now work.new result }
 {
     let mut to: usize = 0;
+    let mut count: usize = 0;
     for (i, row) in clauses.chunks_exact(WIDTH).enumerate() {
         if flags[i] != 1 {
             to = writing::words(row, work, to);
+            count += 1;
         }
     }
-    to / WIDTH
+    count
 }
 
 // Builds the next set in `work`, where the clauses that fail have their flag and `due` says which operators fail clauses of how many literals.

@@ -2,10 +2,10 @@
 use mathlib.Core.Path.{◌≡◌, refl, sym, ◌∙◌, ap}
 use mathlib.Core.Bool.{false}
 use mathlib.Core.List.{List, ◌++◌}
-use Prim.Native.Nat.{ℕ, ◌-◌, ◌*◌, ◌/◌, ◌%◌, ◌^◌, ◌≤◌, ◌<◌}
+use Prim.Native.Nat.{ℕ, ◌+◌, ◌-◌, ◌*◌, ◌/◌, ◌%◌, ◌^◌, ◌≤◌, ◌<◌}
 use native.Mathlib.Omega.{arith}
 use native.Mathlib.Decide.{ℕ_discrete}
-use lib.ListN.{length, get_or, set, take, drop, replicate, length-set}
+use lib.ListN.{length, get_or, set, take, drop, replicate, length-set, length-append, length-replicate, take-append-drop}
 use lib.Seq.{length-take-le, ext_get_or, get_or-set_same, get_or-set_other}
 use Rattle.definitions.specs.Closure.{has, bit}
 use Rattle.definitions.specs.Marks.{mark_bytes, marked}
@@ -87,10 +87,16 @@ module _ (N : ℕ) (ms front : List ℕ) (room : mark_bytes N ≤ length ms) (ze
       let size : length (take (N / 4) ms) ≡ N / 4 = length-take-le (N / 4) ms (omega arith) in
       rw (zeros, size)
 
-  -- where bits are left over, their byte is behind them
-  pub next_byte : (2 * (N % 4) ≡ 0 → ⊥) → N / 4 < length (front ++ drop (N / 4) ms)
+-- where bits are left over, their byte is behind the first k bytes, whatever those were filled with
+module _ (N k x : ℕ) (ms front : List ℕ) (room : mark_bytes N ≤ length ms) (filled : front ≡ replicate (length (take k ms)) x) where
+  pub next_byte : (2 * (N % 4) ≡ 0 → ⊥) → N / 4 < length (front ++ drop k ms)
   unfolding mark_bytes
-  next_byte some = rw (zeros_front, whole_length N ms (omega arith)) (omega arith)
+  next_byte some = rw (sym kept) (omega arith)
+    where
+      kept : length ms ≡ length (front ++ drop k ms)
+      kept =
+          ap length (sym (take-append-drop k ms)) ∙ length-append (take k ms) (drop k ms)
+          ∙ sym (length-append front (drop k ms) ∙ ap (λ n. n + length (drop k ms)) (ap length filled ∙ length-replicate _ x))
 
 -- the marks of N atoms cleared
 module _ (N : ℕ) (ms ms₁ : List ℕ) (room : mark_bytes N ≤ length ms) (whole : ms₁ ≡ whole_cleared N ms) where

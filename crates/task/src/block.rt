@@ -75,12 +75,12 @@ pub fn check(block: &[u16], atoms: usize, i: usize) -> Result<(), Refusal>
 
 // Where the precondition of a block ends, and its number of rows, which begin after the word at that end.
 #[derive(Clone, Copy)]
-pub(crate) struct BlockHead {
+pub struct BlockHead {
     pub end: usize,
     pub rows: usize,
 }
 
-pub(crate) fn head(block: &[u16]) -> BlockHead
+pub fn head(block: &[u16]) -> BlockHead
     requires { block_parses block.now ≡ true }
     ensures { BlockRead block.now (operator_in block.now) result.end result.rows }
 {
@@ -93,14 +93,14 @@ pub(crate) fn head(block: &[u16]) -> BlockHead
 
 // A row of a block: its effect, and where its conditions begin and end. The next row begins at their end.
 #[derive(Clone, Copy)]
-pub(crate) struct RowPart {
+pub struct RowPart {
     pub effect: usize,
     pub from: usize,
     pub end: usize,
 }
 
 // The row at `at`, where `left` rows are left.
-pub(crate) fn row(block: &[u16], at: usize, left: usize) -> RowPart
+pub fn row(block: &[u16], at: usize, left: usize) -> RowPart
     requires { (parses_at block.now at left ≡ true) × (0 < left) }
     ensures { RowRead block.now at left result.effect result.from result.end }
 {

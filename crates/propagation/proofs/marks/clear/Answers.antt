@@ -16,13 +16,13 @@ unfolding mark_bytes
 slice_bounds-fill-end-2 c = sym (length-take-le _ _ (omega arith))
 
 pub bounds-marks-whole : goal.bounds-marks-whole
-bounds-marks-whole c = next_byte _ _ _ c.requires (c.fill.ensures.after (search rules)) c.if-left-ne0.true
+bounds-marks-whole c = next_byte _ _ _ _ _ c.requires (c.fill.ensures.after (search rules)) c.if-left-ne0.true
 
 pub bounds-marks-whole-then-left-ne0 : goal.bounds-marks-whole-then-left-ne0
-bounds-marks-whole-then-left-ne0 c = next_byte _ _ _ c.requires (c.fill.ensures.after (search rules)) c.if-left-ne0.true
+bounds-marks-whole-then-left-ne0 c = next_byte _ _ _ _ _ c.requires (c.fill.ensures.after (search rules)) c.if-left-ne0.true
 
 pub bounds-marks-whole-then-left-ne0-2 : goal.bounds-marks-whole-then-left-ne0-2
-bounds-marks-whole-then-left-ne0-2 c = next_byte _ _ _ c.requires (c.fill.ensures.after (search rules)) c.if-left-ne0.true
+bounds-marks-whole-then-left-ne0-2 c = next_byte _ _ _ _ _ c.requires (c.fill.ensures.after (search rules)) c.if-left-ne0.true
 
 pub returns-then-left-ne0 : goal.returns-then-left-ne0
 unfolding mark_bytes

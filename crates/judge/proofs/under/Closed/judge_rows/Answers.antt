@@ -1,5 +1,6 @@
 -- `Closed::judge_rows`: a row is judged, or no judged clause holds the complement of its effect.
 use Rattle.std.proofs.Common.{sym, ap, ◌∙◌, arith}
+use Rattle.definitions.specs.Literal.{complement}
 use Rattle.task.specs.Rows.{rows_left}
 use Rattle.judge.proofs.BlockRows.{left_start, left_next, row_among, effect_low, conditions_low}
 use Rattle.judge.proofs.RowWalk.{walk_start, walk_on, walk_passed, walk_end}
@@ -16,9 +17,10 @@ complement-l-requires c = omega (arith, effect_low _ _ _ _ _ c.in-Some.ensures.s
 pub loop-effect-preserved-then-not-some_holds : goal.loop-effect-preserved-then-not-some_holds
 loop-effect-preserved-then-not-some_holds c =
     let i = c.loop-effect.invariant in
-    let r = c.in-Some.ensures.steps in (
+    let r = c.in-Some.ensures.steps in
+    let is = c.complement-l.ensures ∙ ap complement c.wide.ensures.0 in (
       left_next _ _ _ _ _ r i.0,
-      i.1 ∙ walk_passed _ _ _ _ _ _ _ _ _ r _ c.complement-l.ensures (sym c.some_holds.ensures ∙ c.if-not-some_holds.true),
+      i.1 ∙ walk_passed _ _ _ _ _ _ _ _ _ r _ is (sym c.some_holds.ensures ∙ c.if-not-some_holds.true),
     )
 
 pub judge_row-requires : goal.judge_row-requires
@@ -36,9 +38,10 @@ judge_row-requires c =
 pub loop-effect-preserved : goal.loop-effect-preserved
 loop-effect-preserved c =
     let i = c.loop-effect.invariant in
-    let r = c.in-Some.ensures.steps in (
+    let r = c.in-Some.ensures.steps in
+    let is = c.complement-l.ensures ∙ ap complement c.wide.ensures.0 in (
       left_next _ _ _ _ _ r i.0,
-      i.1 ∙ walk_on _ _ _ _ _ _ _ _ _ r _ (c.judge_row.ensures _ c.complement-l.ensures (row_among _ _ _ _ _ r i.0)),
+      i.1 ∙ walk_on _ _ _ _ _ _ _ _ _ r _ (c.judge_row.ensures _ is (row_among _ _ _ _ _ r i.0)),
     )
 
 pub returns : goal.returns

@@ -1,5 +1,6 @@
 -- `Under::drop_changed`: a row takes its flag away, or there is none, or it cannot fire.
 use Rattle.std.proofs.Common.{sym, ap, ◌∙◌, arith}
+use Rattle.definitions.specs.Literal.{complement}
 use Rattle.literal.proofs.Mark.{zero_place}
 use Rattle.task.specs.Rows.{rows_left}
 use Rattle.judge.proofs.BlockRows.{left_start, left_next, effect_low, conditions_low}
@@ -20,7 +21,7 @@ loop-effect-preserved-then-is_zero c =
     let r = c.in-Some.ensures.steps in
     let zero = zero_place c.loop-effect.flags c.wide-l.result c.is_zero.result c.is_zero.ensures c.if-is_zero.true in (
       left_next _ _ _ _ _ r i.0,
-      λ ls closed. i.1 ls closed ∙ drop_zero _ _ ls _ _ _ _ _ r _ (c.wide-l.ensures.0 ∙ c.complement.ensures) zero.0,
+      λ ls closed. i.1 ls closed ∙ drop_zero _ _ ls _ _ _ _ _ r _ (c.wide-l.ensures.0 ∙ c.complement.ensures ∙ ap complement c.wide.ensures.0) zero.0,
     )
 
 pub can_fire-requires : goal.can_fire-requires
@@ -49,7 +50,7 @@ loop-effect-preserved c =
     let r = c.in-Some.ensures.steps in (
       left_next _ _ _ _ _ r i.0,
       λ ls closed. i.1 ls closed
-          ∙ drop_fires _ _ ls _ _ _ _ _ r _ _ (c.wide-l.ensures.0 ∙ c.complement.ensures) c.put.ensures
+          ∙ drop_fires _ _ ls _ _ _ _ _ r _ _ (c.wide-l.ensures.0 ∙ c.complement.ensures ∙ ap complement c.wide.ensures.0) c.put.ensures
           (sym (c.can_fire.ensures ls closed) ∙ c.if-not-can_fire.false),
     )
 
