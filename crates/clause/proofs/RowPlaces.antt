@@ -56,6 +56,11 @@ module _ {w : List ℕ} {p : RowPlace} (placed : Placed w p) where
       go true e = e ∙ sym (lt-ltb p.number (row_count w) (omega (arith, placed.position, leb-true width (length w - p.at) e)))
       go false e = e ∙ sym (le-ltb p.number (row_count w) (omega (arith, placed.position, leb-false width (length w - p.at) e)))
 
+-- words of the same length have the same places
+pub placed_in : {v w : List ℕ} {p : RowPlace} → length v ≡ length w → Placed w p → Placed v p
+unfolding row_count
+placed_in e placed = record { position = placed.position; inside = rw e placed.inside }
+
 module _ {w : List ℕ} {p : RowPlace} (row : AtRow w p) where
   pub row_ends : p.at + width ≤ length w
   row_ends = omega (arith, row.position, row_inside w p.number row.inside)
