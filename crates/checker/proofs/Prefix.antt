@@ -1,9 +1,9 @@
 -- The first rows of clause words. Assumes nothing.
 use mathlib.Core.Path.{◌≡◌, sym, ◌∙◌, ap, subst}
-use mathlib.Core.List.{List, []}
+use mathlib.Core.List.{List, [], ◌++◌}
 use Prim.Native.Nat.{ℕ, ◌+◌, ◌*◌, ◌≤◌, ◌<◌}
 use native.Mathlib.Omega.{arith}
-use lib.ListN.{length, take, drop, take-append-drop, length-drop}
+use lib.ListN.{length, take, drop, take-append-drop, length-append, length-drop}
 use lib.Seq.{length-take-le, take-append-le, drop-append-le, get_or-take, ext_get_or}
 use Rattle.definitions.specs.Clauses.{width, clause_of, clause_right, row_at}
 use Rattle.clause.specs.Rows.{row_count, clauses_of, ClausesRead}
@@ -69,3 +69,8 @@ module _ (w : List ℕ) (low : ℕ) (inside : low ≤ row_count w) where
       (atoms i : ℕ) (C : List (List ℕ)) (o o' : Operator) (s : List ℕ) → FirstFlag s i
       → s ≡ fail_flags atoms C o (clauses_of (take (width * low) w)) → o ≡ o' → FirstFlag (fail_flags atoms C o' (take low (clauses_of w))) i
   prefix_first atoms i C o o' s first f eo = subst (λ (l : List ℕ). FirstFlag l i) (f ∙ rw (prefix_clauses, eo)) first
+
+-- a buffer whose first part was lent and came back
+pub part_kept :
+    (e : ℕ) (a x : List ℕ) → e ≤ length a → length x ≡ length (take e a) → length (x ++ drop e a) ≡ length a
+part_kept e a x room kept = omega (arith, length-append x (drop e a), length-drop e a, length-take-le e a room)

@@ -10,7 +10,7 @@ use lib.ListN.{length, get_or, take, drop}
 use borrow.Author.Tests.{ltb-true, ltb-false, lt-ltb, le-ltb, leb-true, leb-false}
 use Rattle.definitions.specs.Clauses.{width, clause_of, row_at}
 use Rattle.clause.specs.Rows.{row_count, clauses_of}
-use Rattle.clause.specs.Place.{At, Placed, AtRow, HasNext}
+use Rattle.clause.specs.Place.{At, Placed, AtRow, HasNext, HasPrevious}
 use Rattle.clause.specs.declared.place.RowPlace.{RowPlace}
 use Rattle.clause.proofs.RowLaws.{row_inside, clauses_length, clauses_at_lem}
 
@@ -56,6 +56,11 @@ module _ {w : List ℕ} {p : RowPlace} (placed : Placed w p) where
       go true e = e ∙ sym (lt-ltb p.number (row_count w) (omega (arith, placed.position, leb-true width (length w - p.at) e)))
       go false e = e ∙ sym (le-ltb p.number (row_count w) (omega (arith, placed.position, leb-false width (length w - p.at) e)))
 
+-- words of the same length have the same places
+pub placed_in : {v w : List ℕ} {p : RowPlace} → length v ≡ length w → Placed w p → Placed v p
+unfolding row_count
+placed_in e placed = record { position = placed.position; inside = rw e placed.inside }
+
 module _ {w : List ℕ} {p : RowPlace} (row : AtRow w p) where
   pub row_ends : p.at + width ≤ length w
   row_ends = omega (arith, row.position, row_inside w p.number row.inside)
@@ -85,5 +90,8 @@ module _ {w : List ℕ} {p : RowPlace} (row : AtRow w p) where
   fewer_left a = omega (arith, row.inside, a.number)
 
   -- the row before
+  pub has_previous : (p.number ≡ 0 → ⊥) → HasPrevious p
+  has_previous h = record { position = row.position; some_row = omega arith }
+
   pub row_before : {q : RowPlace} → At (p.number - 1) q → AtRow w q
   row_before a = record { position = at_position (p.number - 1) a; inside = omega (arith, row.inside, a.number) }

@@ -16,6 +16,10 @@ pub record Pending (rows : ℕ) (W : List (List ℕ)) (goal : Option (List (List
 pub pending_start : (rows : ℕ) (W : List (List ℕ)) (k : ℕ) (w : List ℕ) → Room rows k w → Pending rows W (put_all rows W (some (held k w))) k w
 pending_start rows W k w r = record { room = r; rest = refl }
 
+-- where what is left at the start is written otherwise
+pub pending_same : (rows : ℕ) (W W' : List (List ℕ)) (k : ℕ) (w : List ℕ) → Room rows k w → W ≡ W' → Pending rows W' (put_all rows W (some (held k w))) k w
+pending_same rows W W' k w r e = record { room = r; rest = ap (λ (z : List (List ℕ)). put_all rows z (some (held k w))) e }
+
 module _ (rows : ℕ) (W : List (List ℕ)) (goal : Option (List (List ℕ))) (k : ℕ) (w : List ℕ) (p : Pending rows W goal k w) where
   module _ (A B : List (List ℕ)) (split : W ≡ A ++ B) (w' : List ℕ) (r : std.Option ℕ) (built : Holds rows r w' (put_all rows A (some (held k w)))) where
     after : goal ≡ put_all rows B (put_all rows A (some (held k w)))

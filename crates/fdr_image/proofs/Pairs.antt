@@ -1,12 +1,13 @@
--- Words in pairs: domains and places of atoms, by their index. Assumes nothing.
+-- Words in pairs: domains, places of atoms and literals, by their index. Assumes nothing.
 use mathlib.Core.Path.{◌≡◌, refl}
 use mathlib.Core.List.{List, [], ◌∷◌}
 use Prim.Native.Nat.{ℕ, zero, suc, ◌+◌, ◌*◌, ◌/◌, ◌<◌}
 use native.Mathlib.Omega.{arith}
 use lib.ListN.{length, get_or}
 use Rattle.definitions.specs.Groups.{Domain, Place}
-use Rattle.definitions.specs.FdrImage.{domains_in, places_in}
-use Rattle.fdr_image.specs.Walk.{domain, place}
+use Rattle.definitions.specs.Fdr.{FdrLiteral}
+use Rattle.definitions.specs.FdrImage.{domains_in, places_in, literals_in}
+use Rattle.fdr_image.specs.Walk.{domain, place, literal}
 
 -- f makes an element of each pair of words
 module _ {A : Type 0} (f : List ℕ → List A) (make : ℕ → ℕ → A)
@@ -40,6 +41,14 @@ places_length = pairs_length places_in place refl (λ x. refl) (λ x y xs. refl)
 pub places_at : (w : List ℕ) (i : ℕ) (d : Place) → i < length w / 2 → get_or (places_in w) i d ≡ place (get_or w (2 * i) 0) (get_or w (2 * i + 1) 0)
 unfolding places_in
 places_at = pairs_at places_in place refl (λ x. refl) (λ x y xs. refl)
+
+pub literals_length : (w : List ℕ) → length (literals_in w) ≡ length w / 2
+unfolding literals_in
+literals_length = pairs_length literals_in literal refl (λ x. refl) (λ x y xs. refl)
+
+pub literals_at : (w : List ℕ) (i : ℕ) (d : FdrLiteral) → i < length w / 2 → get_or (literals_in w) i d ≡ literal (get_or w (2 * i) 0) (get_or w (2 * i + 1) 0)
+unfolding literals_in
+literals_at = pairs_at literals_in literal refl (λ x. refl) (λ x y xs. refl)
 
 -- the words of an atom
 module _ (w : List ℕ) (i : ℕ) (inside : i < length (places_in w)) where

@@ -3,7 +3,7 @@ use mathlib.Core.Path.{◌≡◌, refl, sym, ap, ◌∙◌, subst}
 use mathlib.Core.List.{List, [], ◌∷◌}
 use mathlib.Core.Bool.{Bool, true, false, ◌&&◌, and-false}
 use mathlib.Core.Option.{Option, none, some}
-use Prim.Native.Nat.{ℕ, suc, ◌+◌, ◌-◌, ◌*◌, ◌≤◌, ◌<◌}
+use Prim.Native.Nat.{ℕ, zero, suc, ◌+◌, ◌-◌, ◌*◌, ◌≤◌, ◌<◌}
 use native.Mathlib.Numerals.{add-one, add-two, add-three, add-four}
 use native.Mathlib.Nat.{add-sub_cancel_left}
 use native.Mathlib.Omega.{arith}
@@ -17,9 +17,32 @@ use Rattle.definitions.specs.Fdr.{FdrLiteral, FdrRow, FdrOperator}
 use Rattle.definitions.specs.FdrImage.{literals_in, is_atom_value, fdr_literal_right, fdr_row_right, fdr_operator_right, fdr_rows_of}
 use Rattle.definitions.specs.FdrImage.{fdr_rest_of, fdr_operator_of}
 use Rattle.definitions.proofs.ListLaws.{never}
-use Rattle.fdr_image.specs.Walk.{whole_row, row, rows_right, block_right, some_rows, rows_or, parses_at, rows_at, some_operator}
+use Rattle.fdr_image.specs.Walk.{whole_row, kind_of, row, rows_right, block_right, some_rows, rows_or, parses_at, rows_at, some_operator}
 use Rattle.fdr_image.specs.Walk.{operator_or, block_parses, operator_in}
 use Rattle.fdr_image.specs.Post.{RowAt, RowRead, BlockRead}
+use Rattle.fdr_image.specs.declared.block.Kind.TheVariants.{Set, Clear}
+use Rattle.std.specs.Prelude as std
+
+-- ---- kinds
+pub kind_other : (k : ℕ) → (k ≡ 0 → ⊥) → (k ≡ 1 → ⊥) → std.None ≡ kind_of k
+kind_other zero p q = absurd (p refl)
+kind_other (suc zero) p q = absurd (q refl)
+kind_other (suc (suc k)) p q = refl
+
+pub kind_set : (k : ℕ) → kind_of k ≡ std.Some Set → k ≡ 0
+kind_set zero e = refl
+kind_set (suc zero) e = absurd (let z : ◌≡◌ {A = ℕ} 0 1 = cc in omega arith)
+kind_set (suc (suc k)) e = absurd (let z : ◌≡◌ {A = ℕ} 0 1 = cc in omega arith)
+
+pub kind_clear : (k : ℕ) → kind_of k ≡ std.Some Clear → k ≡ 1
+kind_clear zero e = absurd (let z : ◌≡◌ {A = ℕ} 0 1 = cc in omega arith)
+kind_clear (suc zero) e = refl
+kind_clear (suc (suc k)) e = absurd (let z : ◌≡◌ {A = ℕ} 0 1 = cc in omega arith)
+
+pub kind_none : (k : ℕ) → kind_of k ≡ std.None → 1 < k
+kind_none zero e = absurd (let z : ◌≡◌ {A = ℕ} 0 1 = cc in omega arith)
+kind_none (suc zero) e = absurd (let z : ◌≡◌ {A = ℕ} 0 1 = cc in omega arith)
+kind_none (suc (suc k)) e = omega arith
 
 -- ---- one row
 module _ (D : List Domain) (k v x : ℕ) (cs : List FdrLiteral) where

@@ -4,7 +4,7 @@ use mathlib.Core.Path.{◌≡◌, refl, ◌∙◌, ap, ap₂, subst}
 use mathlib.Core.List.{List, [], ◌∷◌, ◌++◌, map}
 use Prim.Native.Nat.{ℕ, ◌+◌, ◌-◌, ◌*◌, ◌≤◌, ◌<◌}
 use native.Mathlib.Omega.{arith}
-use lib.ListN.{length, get_or, set, drop, length-append, length-map, drop_of_length-le}
+use lib.ListN.{length, get_or, set, take, drop, length-append, length-map, drop_of_length-le}
 use Rattle.definitions.specs.Lists.{each}
 use Rattle.definitions.specs.Literal.{most_atoms, most_literals, all_below}
 use Rattle.definitions.specs.Image.{Row, Operator, operator_right}
@@ -17,9 +17,9 @@ use Rattle.definitions.proofs.ReadLaws.{row_effect, row_conditions}
 use Rattle.definitions.proofs.Walks.{left_here}
 use Rattle.definitions.proofs.JoinLaws.{shifted_length}
 use Rattle.definitions.proofs.JoinRead.{operator_first}
-use Rattle.task.specs.Walk.{row, operator_in}
+use Rattle.task.specs.Walk.{row, operator_in, rows_at}
 use Rattle.task.specs.Reads.{task_of, Reads}
-use Rattle.task.specs.Post.{BlockGiven, RowsOver, OperatorOver}
+use Rattle.task.specs.Post.{BlockGiven, BlockRead, RowsOver, OperatorOver}
 use Rattle.task.proofs.BlockSizes.{block_over, row_over, precondition_over, rows_over}
 use Rattle.task.proofs.BlockSizes.{each_next, each_end}
 use Rattle.writing.specs.Writing.{Wrote, Writing}
@@ -139,6 +139,22 @@ operator_words_lem :
 unfolding operator_behind operator_words shifted_operator
 operator_words_lem n o =
     ap₂ (λ c l. counted_literals (shifted (2 * n) o.precondition) ++ (c ∷ l)) (length-map o.rows (shifted_row n)) (rows_are n o.rows)
+
+-- its words, as its block gives it
+module _ (n : ℕ) (b : List ℕ) (o : Operator) (end k : ℕ) (read : BlockRead b o end k) where
+  abbrev pre : List ℕ
+  pre = take (end - 1) (drop 1 b)
+
+  abbrev rows : List Row
+  rows = rows_at b (end + 1) k
+
+  pub operator_length : length (operator_behind n o) ≡ 2 + length pre + length (rows_behind n rows)
+  operator_length =
+      let a = ap length (operator_words_lem n o) in
+      let c = length-append (counted_literals (shifted (2 * n) o.precondition)) (length o.rows ∷ rows_behind n o.rows) in
+      let d = ap length (counted_words_lem n o.precondition) in
+      let s = shifted_length (2 * n) o.precondition in
+      rw (read.precondition, read.rows) (omega (arith, a, c, d, s))
 
 module _
     {n : ℕ} {b target : List ℕ} {at : ℕ} (few : n ≤ most_atoms) (over : OperatorOver (most_atoms - n) b)

@@ -52,6 +52,12 @@ unfolding flag_more bit
 flag_zeros t [] = refl
 flag_zeros t (f ∷ D) = ap (λ r. cond (t f) 1 0 ∷ r) (flag_zeros t D)
 
+pub flag_length : (t : List ℕ → Bool) (D : List (List ℕ)) (s : List ℕ) → length (flag_more t D s) ≡ length s
+unfolding flag_more
+flag_length t [] s = refl
+flag_length t (f ∷ D) [] = refl
+flag_length t (f ∷ D) (x ∷ s) = ap suc (flag_length t D s)
+
 -- ---- in place: what is left at clause i
 module _
     (t : List ℕ → Bool) (D : List (List ℕ)) (s : List ℕ) (i : ℕ) (f : List ℕ) (at : f ≡ get_or D i []) (more : i < length D)

@@ -156,6 +156,9 @@ module _ (t : Task) (C : List (List ℕ)) where
         left = λ i k h a b room. rw (get_or-replicate {A = ℕ} m (width * i + k) 0 0 (rw (length-replicate {A = ℕ} m 0) at room));
       }
 
+  pub tested_end : (failing due : List ℕ) → TestedBelow failing due (length t.operators) → FailuresNoted t C due
+  tested_end failing due b = record { flag = λ i k h. b.done i k h }
+
   module _
       (sizes : (f : List ℕ) → Memᴰ f C → (1 ≤ length f) × (length f ≤ width)) (atoms j : ℕ) (counted : atoms ≡ t.atoms)
       (failing failing' due due' : List ℕ) where

@@ -26,7 +26,7 @@ use Rattle.judge.specs.Promise.{Judged, BulkGiven, Read}
 use Rattle.judge.proofs.Keeping.{given_operator}
 use Rattle.propagation.proofs.MarkedSets.{bit_back}
 use Rattle.next_set.specs.Build.{fails_below}
-use Rattle.next_set.specs.Post.{ReadWithRoom}
+use Rattle.next_set.specs.Post.{ReadWithRoom, TestedWithRoom, WeakensAt}
 use Rattle.next_set.proofs.Flags.{flag_map}
 use Rattle.next_set.proofs.NextSet.{all_pass}
 
@@ -55,6 +55,24 @@ pub read_sizes : (w c : List ℕ) (atoms : ℕ) → Read w c atoms → (f : List
 read_sizes w c atoms r f m =
     let g = clause_good atoms c (read_right atoms c r.clauses) f m in
     (g.some_literal, g.most)
+
+-- room of the same length serves as well
+module _ (w c : List ℕ) (atoms : ℕ) where
+  pub tested_on :
+      (due marks fails marks' fails' : List ℕ) → length marks' ≡ length marks → length fails' ≡ length fails
+      → TestedWithRoom w c atoms due marks fails → TestedWithRoom w c atoms due marks' fails'
+  tested_on due marks fails marks' fails' m f r =
+      let g = r.given in
+      record {
+        given = record { read = g.read; room = (let h = g.room in omega arith); flagged = f ∙ g.flagged };
+        noted = r.noted;
+      }
+
+  pub weakens_on :
+      (k : ℕ) (due marks fails marks' fails' : List ℕ) → length marks' ≡ length marks → length fails' ≡ length fails
+      → WeakensAt w c atoms k due marks fails → WeakensAt w c atoms k due marks' fails'
+  weakens_on k due marks fails marks' fails' m f r =
+      record { tested = tested_on due marks fails marks' fails' m f r.tested; some_literal = r.some_literal; short = r.short }
 
 -- ---- all operators
 module _ (t : Task) (C : List (List ℕ)) where

@@ -159,3 +159,9 @@ module _ (w : List ℕ) (n limit : ℕ) (old : List ℕ) (work marks : ℕ) (ask
                 omega (arith, ap mark_bytes counted));
             words = ap (take (width * atoms)) e ∙ take_at (clause_words (first_set t)) (drop (width * t.atoms) old) (width * atoms) words;
           }
+
+-- equal numbers, the same call
+pub call_by :
+    (w : List ℕ) (n n' limit limit' : ℕ) (old : List ℕ) (work marks : ℕ) → n ≡ n' → limit ≡ limit'
+    → synthesis_call w n limit old work marks ≡ synthesis_call w n' limit' old work marks
+call_by w n n' limit limit' old work marks e f = rw (e, f)

@@ -7,7 +7,8 @@ use lib.Dec.{leb}
 use borrow.Author.Tests.{le-leb, lt-leb}
 use Rattle.definitions.specs.Clauses.{width, most_rows}
 use Rattle.definitions.specs.Synthesis.{rows_in}
-use Rattle.synthesis.specs.Asked.{limits_right}
+use Rattle.definitions.specs.Marks.{mark_bytes}
+use Rattle.synthesis.specs.Asked.{limits_right, buffers_right}
 
 module _ (n limit : ℕ) where
   pub limits_none : n < 1 → false ≡ limits_right n limit
@@ -23,6 +24,13 @@ module _ (n limit : ℕ) where
 
       pub limits_rest : 1 ≤ limit → leb limit 65535 ≡ limits_right n limit
       limits_rest h = rw (le-leb 1 n some_literal, le-leb n width narrow, le-leb 1 limit h)
+
+module _ (atoms words work marks : ℕ) where
+  pub buffers_marks : marks < mark_bytes atoms → false ≡ buffers_right atoms words work marks
+  buffers_marks h = rw (lt-leb (mark_bytes atoms) marks h)
+
+  pub buffers_work : mark_bytes atoms ≤ marks → leb words work ≡ buffers_right atoms words work marks
+  buffers_work h = rw (le-leb (mark_bytes atoms) marks h)
 
 pub rows_few : (words : ℕ) → words / width < most_rows → words / width ≡ rows_in words
 unfolding rows_in

@@ -281,3 +281,12 @@ pub end_found :
     (c x : List ℕ) (count made : ℕ) (e : End) → e ≡ Finished → x ≡ take (width * count) c ++ replicate (length c - width * count) 0
     → outcome (finding (record { rows = count; rounds = made })) x ≡ ended c count made e
 end_found c x count made e h q = rw (h, q)
+
+-- ---- zeros
+pub cleared :
+    {A : Type 0} (x a : Answer A) (y old : List ℕ) → x ≡ a → y ≡ take 0 old ++ replicate (length old - 0) 0
+    → outcome x y ≡ outcome a (replicate (length old) 0)
+unfolding outcome
+cleared x a y old e q =
+    let z : length old - 0 ≡ length old = omega arith in
+    rw (e, q, z)

@@ -3,9 +3,9 @@ use mathlib.Core.Bool.{true, false≢true}
 use mathlib.Core.Option.{Option, none, some}
 use mathlib.Core.Path.{◌≡◌, refl, sym, ◌∙◌, ap}
 use mathlib.Core.List.{List, [], ◌∷◌, ◌++◌, map}
-use Prim.Native.Nat.{ℕ, zero, suc, ◌+◌, ◌*◌, ◌≤◌, ◌<◌}
+use Prim.Native.Nat.{ℕ, zero, suc, ◌+◌, ◌-◌, ◌*◌, ◌≤◌, ◌<◌}
 use native.Mathlib.Omega.{arith}
-use lib.ListN.{length, get_or, drop, drop_of_length-le}
+use lib.ListN.{length, get_or, take, drop, length-take, length-drop, drop_of_length-le}
 use Rattle.definitions.specs.Lists.{all, each}
 use Rattle.definitions.specs.Literal.{all_below}
 use Rattle.definitions.specs.Image.{most_image, Row, Operator, rows_size, operator_size, operators_size, rows_of, operator_of, row_right}
@@ -14,10 +14,10 @@ use Rattle.definitions.proofs.ListLaws.{and_left, and_right}
 use Rattle.definitions.proofs.ReadLaws.{pre_low, rows_right_lem}
 use Rattle.definitions.proofs.Walks.{left_here}
 use Rattle.definitions.proofs.TaskBack.{rows_words, operator_words_lem}
-use Rattle.definitions.proofs.ImageSize.{block_size, Sizes, read_sizes}
+use Rattle.definitions.proofs.ImageSize.{rows_size_lem, block_size, Sizes, read_sizes}
 use Rattle.task.specs.Reads.{task_of, Reads}
 use Rattle.task.specs.Walk.{some_operator, operator_or, block_parses, operator_in, some_rows, rows_or, parses_at, rows_at}
-use Rattle.task.specs.Post.{BlockGiven, RowsOver, OperatorOver}
+use Rattle.task.specs.Post.{BlockGiven, BlockRead, RowsOver, OperatorOver}
 use Rattle.task.proofs.Questions.{operator_right_lem}
 
 -- ---- the rows of a block
@@ -29,8 +29,13 @@ parsed b p k h = go (rows_of k (drop p b)) h
     go none e = absurd (false≢true e)
     go (some rs) e = refl
 
-pub rows_counted : (b : List ℕ) (p k : ℕ) → parses_at b p k ≡ true → length (rows_at b p k) ≡ k
-rows_counted b p k ok = (rows_words k (drop p b) (rows_at b p k) (parsed b p k ok)).0
+module _ (b : List ℕ) (p k : ℕ) (ok : parses_at b p k ≡ true) where
+  pub rows_counted : length (rows_at b p k) ≡ k
+  rows_counted = (rows_words k (drop p b) (rows_at b p k) (parsed b p k ok)).0
+
+  pub rows_sized : rows_size (rows_at b p k) ≡ length b - p
+  rows_sized =
+      sym (rows_size_lem (rows_at b p k)) ∙ ap length (rows_words k (drop p b) (rows_at b p k) (parsed b p k ok)).1 ∙ length-drop p b
 
 -- as the rows that are left are right, so are the first and the others
 module _ (N : ℕ) (xs : List Row) (r : Row) (rs : List Row) (e : xs ≡ r ∷ rs) (right : all (row_right N) xs ≡ true) where
@@ -46,6 +51,18 @@ rows_many : (rs : List Row) → length rs ≤ rows_size rs
 unfolding rows_size
 rows_many [] = omega arith
 rows_many (r ∷ rs) = let h = rows_many rs in omega arith
+
+-- ---- a block that holds operator o, as its accessors give it: it has no fewer words than rows, or than its precondition
+module _ (b : List ℕ) (o : Operator) (end k : ℕ) (read : BlockRead b o end k) where
+  pub block_few : k ≤ length b
+  block_few =
+      let a = rows_counted b (end + 1) k read.parses in
+      let c = rows_sized b (end + 1) k read.parses in
+      let d = rows_many (rows_at b (end + 1) k) in
+      omega arith
+
+  pub precondition_few : length (take (end - 1) (drop 1 b)) ≤ length b
+  precondition_few = let a = length-take (end - 1) (drop 1 b) in let c = length-drop 1 b in omega arith
 
 -- the words of its operator
 block_of : (b : List ℕ) → block_parses b ≡ true → operator_of b ≡ some (operator_in b)
