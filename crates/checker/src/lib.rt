@@ -15,7 +15,7 @@ ghost use Rattle.judge.specs.Judging.{fail_flags};
 ghost use Rattle.judge.specs.Promise.{Read};
 ghost use Rattle.checker.specs.Search.{false_answer, FirstFlag, Judging};
 
-use answer::{Question, Refusal, ask, ask_at};
+use answer::{Question, Refusal, ask};
 use clause::WIDTH;
 
 // Whether all clauses hold in a state, or a refusal that names the lowest one that is false there.
@@ -23,7 +23,9 @@ pub fn check_true(clauses: &[u16], state: &[u8]) -> Result<(), Refusal>
     ensures { verdict_answer result ≡ false_answer (first_fail (holds_in state.now) 0 (clauses_of clauses.now)) }
 {
     for (number, row) in clauses.chunks_exact(WIDTH).enumerate() {
-        ask_at(Question::ClauseFalse, number, clause::holds(row, state))?;
+        if !clause::holds(row, state) {
+            return Err(Refusal::at(Question::ClauseFalse, number));
+        }
     }
     Ok(())
 }

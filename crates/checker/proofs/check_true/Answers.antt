@@ -1,8 +1,8 @@
 -- Question 10 of each clause that is left.
-use Rattle.std.proofs.Common.{◌∙◌, [], refl}
+use Rattle.std.proofs.Common.{◌∙◌, [], refl, ap}
+use Rattle.definitions.specs.Answer.{refused, ask_at, ◌>>=◌}
 use Rattle.definitions.specs.Literal.{holds_in}
 use Rattle.definitions.specs.Clauses.{width}
-use Rattle.answer.proofs.Laws.{left_by, handed_on, goes_on}
 use Rattle.clause.specs.Rows.{clauses_of}
 use Rattle.clause.proofs.RowWalks.{walk_start}
 use Rattle.clause.proofs.ClauseWalks.{clauses_passed, clause_there, clause_read, next_walked}
@@ -20,21 +20,23 @@ loop-number-init c =
       rest = rw (start, it.count) refl;
     }
 
-pub returns-in_err-ask_at : goal.returns-in_err-ask_at
-returns-in_err-ask_at c =
+pub returns-then-not-holds : goal.returns-then-not-holds
+unfolding ask_at ◌>>=◌
+returns-then-not-holds c =
     let i = c.loop-number.invariant in
     let s = c.in-Some.ensures.steps in
-    left_by _ _ c.from_residual.ensures.1
-    ∙ rw (
+    rw (
       ← i.rest,
       first_asked (holds_in c.args.state.now) (clauses_of c.args.clauses.now) _ [] _ (clause_read i.walked c.in-Some.row c.next.new.self.iter s.0 refl)
           (clause_there i.walked c.in-Some.row c.next.new.self.iter s.0),
       ← c.holds.ensures,
+      c.if-not-holds.true,
       ← s.1,
     )
-    (handed_on _ _ _ c.in_err-ask_at.ensures)
+    (ap refused c.at.ensures)
 
 pub loop-number-preserved : goal.loop-number-preserved
+unfolding ask_at ◌>>=◌
 loop-number-preserved c =
     let i = c.loop-number.invariant in
     let s = c.in-Some.ensures.steps in
@@ -47,9 +49,9 @@ loop-number-preserved c =
             first_asked (holds_in c.args.state.now) (clauses_of c.args.clauses.now) _ [] _ (clause_read i.walked c.in-Some.row c.next.new.self.iter s.0 refl)
                 (clause_there i.walked c.in-Some.row c.next.new.self.iter s.0),
             ← c.holds.ensures,
-            ← s.1,
+            c.if-not-holds.false,
           )
-          (goes_on _ _ _ c.in_ok-ask_at.ensures);
+          refl;
     }
 
 pub returns : goal.returns
